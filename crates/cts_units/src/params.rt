@@ -1,0 +1,101 @@
+//! What a clock instance says of sinks, wires and buffers.
+
+use std::marker::Model;
+
+/// A sink: a clock pin that the tree must reach.
+#[derive(Clone, Copy)]
+pub struct Sink {
+    /// Its number in the instance, at most 999,999,999.
+    pub id: u32,
+    /// Its place in nm, from 0 to 10^8.
+    pub x: i64,
+    /// Its place in nm, from 0 to 10^8.
+    pub y: i64,
+    /// Its input capacitance in zF, at most 10^12.
+    pub cap: u64,
+}
+
+/// The wire of every edge of the tree.
+#[derive(Clone, Copy)]
+pub struct Wire {
+    /// Resistance in µΩ per nm, from 1 to 10^6.
+    pub r: u64,
+    /// Capacitance in zF per nm, from 1 to 10^6.
+    pub c: u64,
+}
+
+/// A buffer of the library, linear in its load.
+#[derive(Clone, Copy)]
+pub struct Buffer {
+    /// Input capacitance in zF, at most 10^12.
+    pub cin: u64,
+    /// Output resistance in µΩ, below 10^18.
+    pub rout: u64,
+    /// Intrinsic delay in 10^-27 s, not doubled, below 10^18.
+    pub intrinsic: u64,
+}
+
+/// The buffers that a tree may use, named by their index from 0.
+#[derive(Drop)]
+pub struct Library {
+    buffers: Vec<Buffer>,
+}
+
+impl Model for Library {
+    ghost use Rattle.std.specs.Prelude.{List};
+    ghost use Rattle.cts_units.specs.declared.params.Buffer.{Buffer};
+
+    ghost Value = { List Buffer };
+
+    ghost view = { λ library. library.buffers.items };
+}
+
+impl Library {
+    ghost use Rattle.std.specs.Prelude.{◌≡◌};
+
+    /// A library of these buffers, in this order.
+    pub fn of(items: Vec<Buffer>) -> Library
+        ensures { result ≡ items.items }
+    {
+        Library { buffers: items }
+    }
+
+    /// The buffers in order.
+    pub fn items(&self) -> &[Buffer]
+        ensures { result.now ≡ self.now }
+    {
+        self.buffers.as_slice()
+    }
+}
+
+/// The electrical parameters of an instance.
+#[derive(Drop)]
+pub struct Params {
+    /// The wire of every edge.
+    pub wire: Wire,
+    /// The buffers that may be placed.
+    pub library: Library,
+    /// The insertion threshold in zF, below 10^18: a pair whose load is above it takes a buffer.
+    pub insert_at: u64,
+}
+
+#[cfg(test)]
+mod tests {
+    use super::{Buffer, Library};
+    use std::test::Fail;
+
+    #[test]
+    fn library_lends_its_buffers(rt: HostRuntime) -> Result<(), Fail> {
+        let mut buffers = Vec::new(rt.alloc());
+        buffers.push(Buffer {
+            cin: 35,
+            rout: 61,
+            intrinsic: 24,
+        })?;
+        let library = Library::of(buffers);
+        let lent = library.items();
+        assert_eq!(rt; lent.len(), 1);
+        assert_eq!(rt; lent[0].rout, 61);
+        Ok(())
+    }
+}
