@@ -35,7 +35,7 @@ fn wide_delay(r: u128, c: u128, length: u128, load: u128) -> u128
 /// The slew in 10^-28 s of a stage whose doubled delay is `stage`, in 10^-27 s: eleven tenths
 /// of the doubled delay.
 pub fn slew_tenths(stage: u128) -> u128
-    requires { stage ≤ 2 ^ 104 }
+    requires { stage ≤ 2 ^ 120 }
     ensures { result ≡ slew_of stage }
 {
     11 * stage
