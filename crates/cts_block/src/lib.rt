@@ -1,0 +1,11 @@
+//! Blocks, and the points that they leave free.
+//!
+//! The layers above may use the types and functions named here and the words of `specs/` that their
+//! contracts cite: whether a point is in the die, strictly inside a block, or free.
+#![tactic(auto)]
+
+mod blocks;
+mod free;
+
+pub use blocks::{Block, Kind};
+pub use free::free_for_wire;

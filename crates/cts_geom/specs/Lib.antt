@@ -1,0 +1,3 @@
+pub mod Coordinate
+pub mod Points
+pub mod PointLaws
