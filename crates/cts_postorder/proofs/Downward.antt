@@ -1,0 +1,157 @@
+-- A downward pass: each node hands values to its two parts, from the root on.
+use Rattle.std.proofs.Common.{◌≡◌, ◌≢◌, ℕ, ◌+◌, ◌<◌, ◌≤◌, ◌⊎◌, inl, inr, ⊎_elim, List, [], ◌∷◌, map, set, length, get_or, Option, Some, None, sym, ap, subst, ◌∙◌, arith, get_or-set_same, get_or-set_other, length-set, zero-add, ◌-◌}
+use Rattle.std.proofs.lemmas.List.{get_or-map, length-map, same_lists}
+use Rattle.std.proofs.lemmas.Bool.{cases_lt}
+use Rattle.cts_postorder.specs.BinaryTree.{BinaryTree, tip, fork, root_number}
+use Rattle.cts_postorder.specs.PostOrder.{IsPostOrder, root_of}
+use Rattle.cts_postorder.specs.Occurrence.{Occurrence, occurrence, occurrences, occurrences_of}
+use Rattle.cts_postorder.specs.Pass.{IsDue, root, part, IsSettled}
+use Rattle.cts_postorder.proofs.Sizes.{size_pos, root_number-next}
+use Rattle.cts_postorder.proofs.Places.{get_or-occurrences-root}
+use Rattle.cts_postorder.proofs.Parents.{ParentOf, parent_of}
+use Rattle.cts_postorder.proofs.Lists.{Whole, whole_of, IsPair, length-occurrences_of}
+
+module _ {N : Type 0} (kids : N → Option (ℕ × ℕ)) where
+  -- what is due at the counter itself: every node is the root, or a part of a later pair
+  pub due_next : (nodes : List N) → IsPostOrder (map kids nodes) → (e : N) (k : ℕ) → k < length nodes
+      → IsDue kids nodes e (k + 1) k
+  due_next nodes ok e k h =
+      let w : Whole kids nodes = whole_of kids nodes ok in
+      elim (cases_lt (k + 1) (length nodes)) [
+        | inl u ↦
+            let v : ParentOf kids 0 w.tree k e = parent_of kids w.tree 0 k e w.numbered (omega (arith, w.size_is)) in
+            part v.pair v.children (omega (arith, v.later)) (omega (arith, v.within, w.size_is))
+            (ap (λ ns. kids (get_or ns v.pair e)) (sym w.labels_are) ∙ v.names)
+            (subst (λ j. (j ≡ v.children.0) ⊎ (j ≡ v.children.1)) (zero-add k) v.child)
+        | inr u ↦ root (omega arith)
+      ]
+
+  -- before the first step only the root is due
+  pub due_at_start : (nodes : List N) (e : N) (k number : ℕ) → length nodes ≤ k → IsDue kids nodes e k number
+      → number + 1 ≡ length nodes
+  due_at_start nodes e k number h (root is) = is
+  due_at_start nodes e k number h (part i p from within names child) = absurd (omega arith)
+
+  -- at a leaf nothing more comes due
+  pub due_at_leaf : (nodes : List N) (e : N) (k number : ℕ) → kids (get_or nodes k e) ≡ None
+      → IsDue kids nodes e k number → IsDue kids nodes e (k + 1) number
+  due_at_leaf nodes e k number leaf (root is) = root is
+  due_at_leaf nodes e k number leaf (part i p from within names child) =
+      elim (cases_lt k i) [
+        | inl w ↦ part i p (omega arith) within names child
+        | inr w ↦
+            let here : i ≡ k = omega arith in
+            let clash : kids (get_or nodes i e) ≡ None = ap (λ j. kids (get_or nodes j e)) here ∙ leaf in cc
+      ]
+
+  -- at a pair its two parts come due
+  pub due_at_pair : (nodes : List N) (e : N) (k number : ℕ) (p : ℕ × ℕ) → kids (get_or nodes k e) ≡ Some p
+      → IsDue kids nodes e k number → IsDue kids nodes e (k + 1) number ⊎ ((number ≡ p.0) ⊎ (number ≡ p.1))
+  due_at_pair nodes e k number p pair (root is) = inl (root is)
+  due_at_pair nodes e k number p pair (part i q from within names child) =
+      elim (cases_lt k i) [
+        | inl w ↦ inl (part i q (omega arith) within names child)
+        | inr w ↦
+            let here : i ≡ k = omega arith in
+            let pair_here : kids (get_or nodes i e) ≡ Some p = ap (λ j. kids (get_or nodes j e)) here ∙ pair in
+            let same : q ≡ p = cc in
+            inr (subst (λ (c : ℕ × ℕ). (number ≡ c.0) ⊎ (number ≡ c.1)) same child)
+      ]
+
+same_or_not : (i j : ℕ) → (i ≡ j) ⊎ (i ≢ j)
+same_or_not i j =
+    elim (cases_lt i j) [
+      | inl h ↦ inr (omega arith)
+      | inr h ↦ elim (cases_lt j i) [ inl w ↦ inr (omega arith) | inr w ↦ inl (omega arith) ]
+    ]
+
+module _ {N V : Type 0} (kids : N → Option (ℕ × ℕ)) (value : Occurrence N → V) where
+  -- the pass begins with the root's value at the end of the list
+  pub settled_at_start : (nodes : List N) → IsPostOrder (map kids nodes) → (e : N) (k : ℕ) (out : List V) (t : BinaryTree N)
+      → root_of kids nodes ≡ Some t → length nodes ≤ k → length out ≡ length nodes
+      → ((v : V) → get_or out (length nodes - 1) v ≡ value (occurrence [] t)) → IsSettled kids nodes e value k out
+  settled_at_start nodes ok e k out t root_is h long top =
+      let w : Whole kids nodes = whole_of kids nodes ok in
+      let names : Some w.tree ≡ Some t = sym w.root_is ∙ root_is in
+      let whole : w.tree ≡ t = cc in
+      record {
+        long = long;
+        right = λ number v o due.
+            let last : number + 1 ≡ length nodes = due_at_start kids nodes e k number h due in
+            let place : number ≡ length nodes - 1 = omega arith in
+            let own : number ≡ root_number 0 w.tree = omega (arith, root_number-next 0 w.tree, w.size_is) in
+            ap (λ i. get_or out i v) place ∙ top v
+            ∙ ap value (ap (occurrence []) (sym whole) ∙ sym (get_or-occurrences-root [] w.tree o)
+            ∙ ap (λ i. get_or (occurrences [] w.tree) i o) (sym own) ∙ ap (λ os. get_or os number o) (sym w.occurrences_are));
+      }
+
+  -- the value at the counter is right
+  pub settled_here : (nodes : List N) → IsPostOrder (map kids nodes) → (e : N) (k : ℕ) (out : List V) → k < length nodes
+      → IsSettled kids nodes e value (k + 1) out
+      → (v : V) (o : Occurrence N) → get_or out k v ≡ value (get_or (occurrences_of kids nodes) k o)
+  settled_here nodes ok e k out h s v o = s.right k v o (due_next kids nodes ok e k h)
+
+  -- at a leaf nothing is written
+  pub settled_at_leaf : (nodes : List N) (e : N) (k : ℕ) (out : List V) → kids (get_or nodes k e) ≡ None
+      → IsSettled kids nodes e value (k + 1) out → IsSettled kids nodes e value k out
+  settled_at_leaf nodes e k out leaf s = record {
+    long = s.long;
+    right = λ number v o due. s.right number v o (due_at_leaf kids nodes e k number leaf due);
+  }
+
+  -- at a pair the values of its two parts are written
+  pub settled_at_pair : (nodes : List N) (e : N) (k : ℕ) (p : ℕ × ℕ) (out : List V) (a b : V)
+      → kids (get_or nodes k e) ≡ Some p → (pair : IsPair kids nodes k p (get_or nodes k e)) → k < length nodes
+      → a ≡ value (occurrence (fork pair.left pair.right (get_or nodes k e) ∷ pair.above) pair.left)
+      → b ≡ value (occurrence (fork pair.left pair.right (get_or nodes k e) ∷ pair.above) pair.right)
+      → IsSettled kids nodes e value (k + 1) out
+      → IsSettled kids nodes e value k (set (set out (p.0) a) (p.1) b)
+  settled_at_pair nodes e k p out a b names pair h a_is b_is s =
+      let left_below : p.0 < k = pair.left_below in
+      let right_below : p.1 < k = pair.right_below in
+      let apart : p.0 < p.1 = omega (arith, pair.left_number, pair.right_number, size_pos pair.right) in
+      let out_long : length out ≡ length nodes = s.long in
+      let first : List V = set out (p.0) a in
+      let first_long : length first ≡ length out = length-set out (p.0) a in
+      let at_left : (v : V) → get_or (set first (p.1) b) (p.0) v ≡ a =
+      λ v. get_or-set_other first (p.1) (p.0) b v (omega arith) ∙ get_or-set_same out (p.0) a v (omega arith) in
+      let at_right : (v : V) → get_or (set first (p.1) b) (p.1) v ≡ b =
+      λ v. get_or-set_same first (p.1) b v (omega arith) in
+      record {
+        long = length-set first (p.1) b ∙ first_long ∙ out_long;
+        right = λ number v o due.
+            let occurrences : List (Occurrence N) = occurrences_of kids nodes in
+            let left_case : number ≡ p.0 → get_or (set first (p.1) b) number v ≡ value (get_or occurrences number o) =
+            λ is. ap (λ i. get_or (set first (p.1) b) i v) is ∙ at_left v ∙ a_is ∙ ap value (sym (pair.at_left o))
+            ∙ ap (λ i. value (get_or occurrences i o)) (sym is) in
+            let right_case : number ≡ p.1 → get_or (set first (p.1) b) number v ≡ value (get_or occurrences number o) =
+            λ is. ap (λ i. get_or (set first (p.1) b) i v) is ∙ at_right v ∙ b_is ∙ ap value (sym (pair.at_right o))
+            ∙ ap (λ i. value (get_or occurrences i o)) (sym is) in
+            elim (same_or_not number (p.0)) [
+              | inl is ↦ left_case is
+              | inr not_left ↦ elim (same_or_not number (p.1)) [
+                | inl is ↦ right_case is
+                | inr not_right ↦
+                    get_or-set_other first (p.1) number b v not_right ∙ get_or-set_other out (p.0) number a v not_left
+                    ∙ s.right number v o (⊎_elim (λ d. d) (λ c. absurd (⊎_elim not_left not_right c))
+                    (due_at_pair kids nodes e k number p names due))
+              ]
+            ];
+      }
+
+  -- at the end every value is right
+  pub settled_all : (nodes : List N) → IsPostOrder (map kids nodes) → (e : N) (out : List V)
+      → IsSettled kids nodes e value 0 out → out ≡ map value (occurrences_of kids nodes)
+  settled_all nodes ok e out s =
+      let count : length (occurrences_of kids nodes) ≡ length nodes = length-occurrences_of kids nodes ok in
+      let out_long : length out ≡ length nodes = s.long in
+      same_lists out (map value (occurrences_of kids nodes))
+      (s.long ∙ sym count ∙ sym (length-map (occurrences_of kids nodes) value))
+      (λ k v h.
+      let o : Occurrence N = occurrence [] (tip e) in
+      s.right k v o (due_later nodes e k (due_next kids nodes ok e k (omega arith)))
+      ∙ sym (get_or-map value (occurrences_of kids nodes) k o v (omega arith)))
+    where
+      due_later : (nodes : List N) (e : N) (k : ℕ) → IsDue kids nodes e (k + 1) k → IsDue kids nodes e 0 k
+      due_later nodes e k (root is) = root is
+      due_later nodes e k (part i p from within names child) = part i p (omega arith) within names child

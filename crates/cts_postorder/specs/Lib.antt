@@ -1,0 +1,5 @@
+pub mod BinaryTree
+pub mod PostOrder
+pub mod Occurrence
+pub mod Pass
+pub mod Laws

@@ -1,0 +1,28 @@
+-- Passes over the nodes of a tree by number: upward, each node after its parts, and downward, each node before them.
+use Rattle.std.specs.Prelude.{◌≡◌, ℕ, ◌+◌, ◌<◌, ◌≤◌, ◌⊎◌, List, map, length, slice_index_or, Option, Some, None, IsSome}
+use Rattle.cts_postorder.specs.BinaryTree.{BinaryTree}
+use Rattle.cts_postorder.specs.PostOrder.{trees_of}
+use Rattle.cts_postorder.specs.Occurrence.{Occurrence, occurrences_of}
+
+-- The least number at which an upward pass fails. `tried` has the value of a tree, or nothing where the tree, or a
+-- part of it, fails.
+pub record IsLeastFailure {N V : Type 0} (kids : N → Option (ℕ × ℕ)) (nodes : List N) (tried : BinaryTree N → Option V)
+    (k : ℕ) : Type 0 where
+  pub within : k < length nodes
+  pub fails : slice_index_or (map tried (trees_of kids nodes)) k None ≡ None
+  pub none_before : (j : ℕ) → j < k → IsSome (slice_index_or (map tried (trees_of kids nodes)) j None)
+
+-- In a downward pass that has come down to the number k, the value at a number is due where it is the root's, or that
+-- of a part of a pair from k on. `e` stands for a node past the end.
+pub data IsDue {N : Type 0} (kids : N → Option (ℕ × ℕ)) (nodes : List N) (e : N) (k number : ℕ) : Type 0 where
+  root : number + 1 ≡ length nodes → IsDue kids nodes e k number
+  part : (i : ℕ) (p : ℕ × ℕ) → k ≤ i → i < length nodes → kids (slice_index_or nodes i e) ≡ Some p
+      → (number ≡ p.0) ⊎ (number ≡ p.1) → IsDue kids nodes e k number
+
+-- The state of a downward pass: there is a place for each node, and each value that is due is right, that is, what
+-- `value` says of the subtree and the pairs above it.
+pub record IsSettled {N V : Type 0} (kids : N → Option (ℕ × ℕ)) (nodes : List N) (e : N) (value : Occurrence N → V)
+    (k : ℕ) (out : List V) : Type 0 where
+  pub long : length out ≡ length nodes
+  pub right : (number : ℕ) (v : V) (o : Occurrence N) → IsDue kids nodes e k number
+      → slice_index_or out number v ≡ value (slice_index_or (occurrences_of kids nodes) number o)

@@ -1,0 +1,36 @@
+//! Binary trees beside their lists of nodes in post-order: the model of a tree that every layer
+//! over shapes and trees shares.
+//!
+//! A tree is kept as a list of its nodes in post-order: all of the left part, all of the right
+//! part, then the node above them. A pair names its children by their numbers, a leaf names none.
+//! `specs/BinaryTree.antt` has the tree itself, `specs/PostOrder.antt` what it is for a list to be
+//! in post-order and the tree at each number, `specs/Occurrence.antt` the pairs above each node,
+//! and `specs/Pass.antt` the states of upward and downward passes; all of them whatever the nodes
+//! are, given what children a node names. A layer above cites these definitions, the laws below,
+//! and the lemmas of `proofs/`: `Lists` for what stands at a number, `Upward` and `Downward` for
+//! the steps of passes, `Decorated` for trees of the same form with other nodes.
+#![tactic(auto)]
+
+ghost use Rattle.cts_postorder.specs.Laws.{PostOrderIsTree, TreesAreSubtrees, FrontsKeepTrees, ChildrenComeBefore};
+
+/// A law: a list of nodes is in post-order exactly where it has the nodes of a tree that is
+/// numbered from 0.
+pub fn post_order_is_a_tree<N>()
+    ensures { PostOrderIsTree N }
+{}
+
+/// A law: of such a tree, the trees at its nodes are its subtrees, and the last is the whole.
+pub fn trees_are_subtrees<N>()
+    ensures { TreesAreSubtrees N }
+{}
+
+/// A law: the trees of a front of the list are the front of the list's trees.
+pub fn fronts_keep_trees<N>()
+    ensures { FrontsKeepTrees N }
+{}
+
+/// A law: the right child of a pair is the node before it, and the left child comes before all
+/// of the right part.
+pub fn children_come_before<N>()
+    ensures { ChildrenComeBefore N }
+{}
