@@ -1,0 +1,4 @@
+pub mod Fronts
+pub mod Given
+pub mod Rises
+pub mod Told

@@ -1,0 +1,6 @@
+pub mod Faults
+pub mod Memory
+pub mod Pending
+pub mod Taken
+pub mod Text
+pub mod Written

@@ -1,0 +1,142 @@
+// A buffer between a text that is made of many small pieces and its sink.
+ghost use Rattle.std.specs.Prelude.{◌≡◌, ℕ, ◌+◌, ◌≤◌, [], ◌++◌, length, take};
+ghost use Rattle.cts_io.specs.Pending.{Pending, fresh};
+ghost use Rattle.cts_io.specs.Text.{Finishes, Puts};
+
+use crate::device::ByteSink;
+use crate::write::{WriteEnd, write_all};
+use std::marker::Model;
+
+/// The bytes that a buffer holds: 8 KiB.
+const ROOM: usize = 8_192;
+
+/// A buffer before a sink, for a text that comes in many pieces. The sink gets some KiB at a time,
+/// and no memory is taken.
+///
+/// A failure of the sink is kept until `finish` tells it. After it nothing goes to the sink any
+/// more, so that `put` has no answer to look at. One buffer serves one text and one sink.
+#[derive(Drop)]
+pub struct SinkBuffer {
+    bytes: [u8; ROOM],
+    len: usize,
+    written: usize,
+    failed: bool,
+}
+
+impl Model for SinkBuffer {
+    ghost use Rattle.std.specs.Prelude.{◌≤◌, take};
+    ghost use Rattle.cts_io.specs.Pending.{Pending};
+
+    ghost Value = { Pending };
+
+    ghost view = { λ s. record { waiting = take s.len s.bytes; written = s.written; failed = s.failed } };
+
+    ghost invariant = { λ s. s.len ≤ 8192 };
+}
+
+impl SinkBuffer {
+    pub fn new() -> SinkBuffer
+        ensures { result ≡ fresh }
+    {
+        SinkBuffer {
+            bytes: [0; ROOM],
+            len: 0,
+            written: 0,
+            failed: false,
+        }
+    }
+
+    /// Gives `piece` to the sink, now or later.
+    pub fn put<K: ByteSink>(&mut self, sink: &mut K, piece: &[u8])
+        ensures { Puts K.held K.faults sink.old self.old sink.new self.new piece.now }
+    {
+        if piece.len() <= ROOM - self.len {
+            self.keep(piece);
+        } else {
+            self.put_over(sink, piece);
+        }
+    }
+
+    /// Gives what waits to the sink, and tells how the writing of the whole text ended.
+    pub fn finish<K: ByteSink>(mut self, sink: &mut K) -> Result<(), WriteEnd>
+        ensures { Finishes K.held K.faults sink.old self sink.new result }
+    {
+        self.send(sink);
+        if self.failed {
+            Err(WriteEnd::WriteFault {
+                written: self.written,
+            })
+        } else {
+            Ok(())
+        }
+    }
+
+    /// Makes room by a write, and then gives `piece`, which may be longer than the buffer.
+    fn put_over<K: ByteSink>(&mut self, sink: &mut K, piece: &[u8])
+        ensures { Puts K.held K.faults sink.old self.old sink.new self.new piece.now }
+    {
+        self.send(sink);
+        if piece.len() <= ROOM {
+            self.keep(piece);
+        } else {
+            self.pass(sink, piece);
+        }
+    }
+
+    /// Copies `piece` behind what waits.
+    fn keep(&mut self, piece: &[u8])
+        requires { length self.old.waiting + length piece.now ≤ 8192 }
+        ensures { self.new ≡ record self.old { waiting = self.old.waiting ++ piece.now } }
+    {
+        store(&mut self.bytes, self.len, piece);
+        self.len += piece.len();
+    }
+
+    /// Gives a long piece to the sink at once.
+    fn pass<K: ByteSink>(&mut self, sink: &mut K, piece: &[u8])
+        requires { self.old.waiting ≡ [] }
+        ensures { Puts K.held K.faults sink.old self.old sink.new self.new piece.now }
+    {
+        hand_over(sink, piece, &mut self.written, &mut self.failed);
+    }
+
+    /// Gives all that waits to the sink.
+    fn send<K: ByteSink>(&mut self, sink: &mut K)
+        ensures given { Puts K.held K.faults sink.old self.old sink.new self.new [] }
+        ensures none { self.new.waiting ≡ [] }
+    {
+        hand_over(
+            sink,
+            &self.bytes[..self.len],
+            &mut self.written,
+            &mut self.failed,
+        );
+        self.len = 0;
+    }
+}
+
+/// Writes bytes that waited, unless the sink has failed before.
+fn hand_over<K: ByteSink>(sink: &mut K, bytes: &[u8], written: &mut usize, failed: &mut bool)
+    ensures { Puts K.held K.faults
+        sink.old (record { waiting = bytes.now; written = written.old; failed = failed.old })
+        sink.new (record { waiting = []; written = written.new; failed = failed.new }) [] }
+{
+    if *failed {
+        return;
+    }
+    match write_all(sink, bytes) {
+        Ok(()) => *written = written.saturating_add(bytes.len()),
+        Err(end) => {
+            *written = written.saturating_add(end.written());
+            *failed = true;
+        }
+    }
+}
+
+/// Copies `piece` to the place `at` of `bytes`.
+fn store(bytes: &mut [u8], at: usize, piece: &[u8])
+    requires { at + length piece.now ≤ length bytes.old }
+    ensures { take (at + length piece.now) bytes.new ≡ take at bytes.old ++ piece.now }
+{
+    bytes[at..at + piece.len()].copy_from_slice(piece);
+}
