@@ -1,0 +1,8 @@
+use Rattle.std.proofs.Common.{◌*◌, ◌^◌, ◌≤◌, arith}
+use Rattle.std.proofs.Math.Nat.{mul-le-mul}
+use Rattle.cts_top.proofs.synthesis.one_wire_delay.Goals as goal
+
+pub returns-clause-bound : goal.returns-clause-bound
+returns-clause-bound c =
+    let driven : c.args.resistance * c.args.load ≤ 10 ^ 11 * 10 ^ 15 = mul-le-mul c.requires.resistance c.requires.load in
+    omega arith

@@ -1,0 +1,138 @@
+//! The top call: words, an input and an output to a status.
+
+ghost use Rattle.std.specs.Prelude.{◌≡◌, ◌≢◌, ◌≤◌, ◌↔◌, ◌⊎◌, List, ℕ, IfSome, OnOk, IsErrOf, IfErr, length, ◌<◌};
+ghost use Rattle.std.specs.Io.KnownBytes.{Appends, IsAtEnd};
+ghost use Rattle.cts_io.specs.Faults.{Rose};
+ghost use Rattle.cts_top.specs.Form.{IsServed, IsRefused};
+ghost use Rattle.cts_top.specs.Outcome.{IsNote, Reports, ReportsInPart, input_limit};
+ghost use Rattle.cts_top.specs.Words.{IsSynth};
+ghost use Rattle.cts_top.specs.declared.form.Instance.{Instance};
+
+use crate::outcome::{Outcome, Status};
+use crate::read::read_instance;
+use crate::report::write_report;
+use crate::stop::{Stop, note_of, status_of};
+use crate::synthesis::synthesise;
+use crate::words::is_synth;
+use cts_io::{ByteSink, ByteSource, read_all, write_all};
+use std::alloc::Global;
+use std::thread::Threads;
+
+/// The most bytes of an input that are accepted: 64 MiB.
+const INPUT_LIMIT: usize = 67_108_864;
+
+/// Reads an instance, and writes the report of its tree.
+#[tactic(auto, using(crate::proofs::Lengths::refused_too_long))]
+fn serve<S: ByteSource, K: ByteSink>(
+    alloc: Global,
+    source: &mut S,
+    sink: &mut K,
+) -> Result<(), Stop>
+    ensures done { OnOk result (IsAtEnd (S.left source.new)
+        × IfSome (S.left source.old) (Reports (K.held sink.old) (K.held sink.new))) }
+    ensures write_fault { IsErrOf result Stop.WriteFault → IsAtEnd (S.left source.new)
+        × Rose (K.faults sink.old) (K.faults sink.new)
+        × IfSome (S.left source.old) (ReportsInPart (K.held sink.old) (K.held sink.new)) }
+    ensures read_fault { IsErrOf result Stop.ReadFault → Rose (S.faults source.old) (S.faults source.new) }
+    ensures too_long { IsErrOf result Stop.TooLong → IfSome (S.left source.old) (λ bytes. (input_limit < length bytes) × IsRefused bytes) }
+    ensures not_built { IsErrOf result Stop.NotBuilt → IfSome (S.left source.old)
+        (λ bytes. (length bytes ≤ input_limit) × IsRefused bytes) }
+    ensures words { IsErrOf result Stop.Words → ⊥ }
+    ensures kept { IfErr result (λ stop. stop ≢ Stop.WriteFault → sink.new ≡ sink.old) }
+    ensures source_counted { S.faults source.old ≤ S.faults source.new }
+    ensures sink_counted { K.faults sink.old ≤ K.faults sink.new }
+{
+    let bytes = read_all(alloc, source, INPUT_LIMIT)?;
+    let instance = read_instance(&bytes).ok_or(Stop::NotBuilt)?;
+    write_report(sink, &synthesise(&instance))?;
+    Ok(())
+}
+
+/// Does what the words ask for.
+fn answer<S: ByteSource, K: ByteSink>(
+    alloc: Global,
+    words: &[String],
+    source: &mut S,
+    sink: &mut K,
+) -> Result<(), Stop>
+    ensures served { IsErrOf result Stop.Words ↔ (IsSynth words.now → ⊥) }
+    ensures untouched { IsErrOf result Stop.Words → source.new ≡ source.old }
+    ensures done { OnOk result (IsAtEnd (S.left source.new)
+        × IfSome (S.left source.old) (Reports (K.held sink.old) (K.held sink.new))) }
+    ensures write_fault { IsErrOf result Stop.WriteFault → IsAtEnd (S.left source.new)
+        × Rose (K.faults sink.old) (K.faults sink.new)
+        × IfSome (S.left source.old) (ReportsInPart (K.held sink.old) (K.held sink.new)) }
+    ensures read_fault { IsErrOf result Stop.ReadFault → Rose (S.faults source.old) (S.faults source.new) }
+    ensures too_long { IsErrOf result Stop.TooLong → IfSome (S.left source.old) (λ bytes. (input_limit < length bytes) × IsRefused bytes) }
+    ensures not_built { IsErrOf result Stop.NotBuilt → IfSome (S.left source.old)
+        (λ bytes. (length bytes ≤ input_limit) × IsRefused bytes) }
+    ensures kept { IfErr result (λ stop. stop ≢ Stop.WriteFault → sink.new ≡ sink.old) }
+    ensures source_counted { S.faults source.old ≤ S.faults source.new }
+    ensures sink_counted { K.faults sink.old ≤ K.faults sink.new }
+{
+    if is_synth(words) {
+        serve(alloc, source, sink)
+    } else {
+        Err(Stop::Words)
+    }
+}
+
+/// Runs the program on its words, its input and its output, and tells the notes why nothing came
+/// out where nothing did.
+///
+/// - `Done`: the report of the instance that the input spells was written, and nothing else.
+/// - `Words`: exactly where the words are not `synth` and `1`; source and sink are as they were.
+/// - `Refused`: exactly where the input is no instance that is served, one that is longer than
+///   64 MiB among them; the sink is as it was.
+/// - `ReadFault`, `WriteFault`: only where the count of faults of source or sink rose in this call.
+///   After a write fault the sink holds its old bytes and a front of the report.
+/// - `NoMemory`: after the words and before the first write; the sink is as it was.
+///
+/// The notes get at most one line. Where they fail, nothing else changes.
+pub fn run_alone<R: Threads + Sync, S: ByteSource, K: ByteSink, N: ByteSink>(
+    _rt: &R,
+    alloc: Global,
+    words: &[String],
+    source: &mut S,
+    sink: &mut K,
+    notes: &mut N,
+) -> Outcome
+    // The report of the one-sink synthesis of the instance that was read to its end, and nothing else.
+    ensures done { result.status ≡ Status.Done → IsAtEnd (S.left source.new)
+        × IfSome (S.left source.old) (Reports (K.held sink.old) (K.held sink.new)) }
+
+    ensures words { (result.status ≡ Status.Words) ↔ (IsSynth words.now → ⊥) }
+    ensures untouched { result.status ≡ Status.Words → source.new ≡ source.old }
+
+    ensures refused { result.status ≡ Status.Refused → IfSome (S.left source.old) IsRefused }
+    ensures read_fault { result.status ≡ Status.ReadFault → Rose (S.faults source.old) (S.faults source.new) }
+    ensures write_fault { result.status ≡ Status.WriteFault → Rose (K.faults sink.old) (K.faults sink.new) }
+    ensures in_part { result.status ≡ Status.WriteFault → IsAtEnd (S.left source.new)
+        × IfSome (S.left source.old) (ReportsInPart (K.held sink.old) (K.held sink.new)) }
+    ensures sink_kept { result.status ≢ Status.Done → result.status ≢ Status.WriteFault → sink.new ≡ sink.old }
+
+    ensures source_counted { S.faults source.old ≤ S.faults source.new }
+    ensures sink_counted { K.faults sink.old ≤ K.faults sink.new }
+    ensures notes_counted { N.faults notes.old ≤ N.faults notes.new }
+
+    // Where nothing failed, an instance that is served is answered with its report, unless memory ran out ..
+    ensures complete { IsSynth words.now → (Rose (S.faults source.old) (S.faults source.new) → ⊥)
+        → (Rose (K.faults sink.old) (K.faults sink.new) → ⊥)
+        → IfSome (S.left source.old) (λ bytes. (i : Instance) → IsServed bytes i
+            → (result.status ≡ Status.Done) ⊎ (result.status ≡ Status.NoMemory)) }
+
+    // .. and any other input is refused.
+    ensures refuses { IsSynth words.now → (Rose (S.faults source.old) (S.faults source.new) → ⊥)
+        → IfSome (S.left source.old) (λ bytes. IsRefused bytes
+            → (result.status ≡ Status.Refused) ⊎ (result.status ≡ Status.NoMemory)) }
+
+    ensures note { (Rose (N.faults notes.old) (N.faults notes.new) → ⊥)
+        → (text : List ℕ) × IsNote (S.left source.old) result.status text × Appends (N.held notes.old) (N.held notes.new) text }
+{
+    let ending = answer(alloc, words, source, sink);
+    // A note that can't be written changes nothing.
+    let _ = write_all(notes, note_of(&ending));
+    Outcome {
+        status: status_of(&ending),
+    }
+}
