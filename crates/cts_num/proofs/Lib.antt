@@ -1,2 +1,6 @@
-pub mod Pairs
+pub mod Fronts
+pub mod Readings
+pub mod Spelling
+pub mod Steps
+pub mod Tables
 pub mod Texts

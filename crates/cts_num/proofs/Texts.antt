@@ -12,7 +12,7 @@ pub digits_text_step : (n : ℕ) → 0 < n → digits_text n ≡ digits_text (n 
 unfolding digits_text
 digits_text_step n h = ap (map glyph) (digits_of_step 10 n (omega arith) h) ∙ map_push glyph (digits_of 10 (n / 10)) (n % 10)
 
-digits_text_zero : digits_text 0 ≡ []
+pub digits_text_zero : digits_text 0 ≡ []
 unfolding digits_text
 digits_text_zero = refl
 

@@ -2,6 +2,7 @@
 ghost use Rattle.std.specs.Prelude.{◌≡◌, ℕ, ◌+◌, ◌-◌, ◌/◌, ◌%◌, ◌^◌, ◌<◌, ◌≤◌, List, ◌++◌, length, drop};
 ghost use Rattle.cts_num.specs.Decimal.{decimal_text, padded_text, pair_text, whole_text};
 
+use crate::powers::POWERS_OF_TEN;
 use std::marker::Model;
 
 // The longest text has 38 digits and a point.
@@ -11,26 +12,6 @@ const CAPACITY: usize = 39;
 const CHUNK: usize = 18;
 
 const CHUNK_SCALE: u128 = 1_000_000_000_000_000_000;
-
-static POWERS_OF_TEN: [u64; 17] = [
-    1,
-    10,
-    100,
-    1_000,
-    10_000,
-    100_000,
-    1_000_000,
-    10_000_000,
-    100_000_000,
-    1_000_000_000,
-    10_000_000_000,
-    100_000_000_000,
-    1_000_000_000_000,
-    10_000_000_000_000,
-    100_000_000_000_000,
-    1_000_000_000_000_000,
-    10_000_000_000_000_000,
-];
 
 // The numbers from 00 to 99.
 static PAIRS: [u8; 200] =

@@ -1,6 +1,6 @@
 use Rattle.std.proofs.Common.{◌≡◌, ◌+◌, ◌%◌, set, arith, length-set}
 use Rattle.std.proofs.lemmas.List.{set_comm, drop-set}
-use Rattle.cts_num.proofs.Pairs.{PAIRS_at}
+use Rattle.cts_num.proofs.Tables.{PAIRS_at}
 use Rattle.cts_num.proofs.write.write_pair.Goals as goal
 
 pub returns : goal.returns

@@ -1,0 +1,16 @@
+use Rattle.std.proofs.Common.{◌≡◌, ℕ, ◌-◌, ◌<◌, ◌≤◌, min, take, slice_index}
+use Rattle.std.specs.Char.{IsAsciiDigit}
+use Rattle.cts_num.specs.Number.{digit_number}
+use Rattle.cts_num.specs.declared.read.TheConstants.{LIMIT}
+use Rattle.cts_num.proofs.read.read_digits.Given as goal
+
+abbrev pub invariant-loop-at : goal.invariant-loop-at
+invariant-loop-at l = record {
+  from : l.from ≤ l.at;
+  to : l.at ≤ l.to;
+  digits : (k : ℕ) → l.from ≤ k → k < l.at → IsAsciiDigit (slice_index l.text k);
+  number : l.number ≡ min (digit_number (take l.at l.text)) LIMIT;
+}
+
+abbrev pub decreases-loop-at : goal.decreases-loop-at
+decreases-loop-at l = l.to - l.at

@@ -1,0 +1,17 @@
+-- Laws on decimal texts.
+use Rattle.std.specs.Prelude.{◌≡◌, ℕ, List, Result}
+use Rattle.cts_num.specs.declared.read.DecimalFault.{DecimalFault}
+use Rattle.cts_num.specs.Decimal.{decimal_text}
+use Rattle.cts_num.specs.Reading.{IsDecimal, IsReading}
+
+-- a text writes one value at most
+abbrev pub ValueIsUnique : Type 0
+ValueIsUnique = (text : List ℕ) (places v w : ℕ) → IsDecimal text places v → IsDecimal text places w → v ≡ w
+
+-- a text has one reading at most
+abbrev pub ReadingIsUnique : Type 0
+ReadingIsUnique = (text : List ℕ) (places : ℕ) (r s : Result ℕ DecimalFault) → IsReading text places r → IsReading text places s → r ≡ s
+
+-- the canonical text of a value writes that value
+abbrev pub DecimalIsReadBack : Type 0
+DecimalIsReadBack = (places value : ℕ) → IsDecimal (decimal_text places value) places value

@@ -1,0 +1,17 @@
+// What holds of every decimal text, as laws that proofs cite.
+ghost use Rattle.cts_num.specs.Laws.{DecimalIsReadBack, ReadingIsUnique, ValueIsUnique};
+
+/// A text writes at most one value at each number of places.
+pub fn value_is_unique()
+    ensures { ValueIsUnique }
+{}
+
+/// A text has at most one reading at each number of places, a value or a fault.
+pub fn reading_is_unique()
+    ensures { ReadingIsUnique }
+{}
+
+/// The canonical text of a value is read as that value.
+pub fn decimal_is_read_back()
+    ensures { DecimalIsReadBack }
+{}

@@ -1,0 +1,200 @@
+// Decimal text read as a number.
+ghost use Rattle.std.specs.Prelude.{◌≡◌, ◌≢◌, ◌↔◌, ℕ, ◌+◌, ◌-◌, ◌*◌, ◌^◌, ◌<◌, ◌≤◌, min, length, take, slice_index, OnOk, IfErr, MatchResult};
+ghost use Rattle.std.specs.Char.{IsAsciiDigit};
+ghost use Rattle.cts_num.specs.Number.{digit_number};
+ghost use Rattle.cts_num.specs.Reading.{IsDecimal, IsEmptyDecimal, IsFirstBadByte, IsFirstTooFine, IsReading, IsTailFault};
+
+use crate::powers::POWERS_OF_TEN;
+
+/// Why a text is not read as a number. A place counts the bytes of the text from 0, the point
+/// included.
+#[derive(Clone, Copy, Debug, PartialEq)]
+pub enum DecimalFault {
+    /// The text has no byte, or is one point.
+    Empty,
+    /// The first byte that is neither a digit nor the first point.
+    BadByte { at: usize },
+    /// The first digit past the places that is not 0.
+    TooFine { at: usize },
+    /// The value is 10^18 units or more.
+    TooGreat,
+}
+
+// The least number that is too great.
+const LIMIT: u64 = 1_000_000_000_000_000_000;
+
+/// The value of a decimal text in units of 10^-`places`, below 10^18.
+///
+/// A decimal text has digits, at most one point and at least one digit, and may be of any length.
+/// Leading zeros are accepted, and so are zeros past the places, `.5` and `5.`. The faults are
+/// those of [`DecimalFault`], the first of them in its order.
+pub fn read_decimal(text: &[u8], places: u32) -> Result<u64, DecimalFault>
+    requires { places ≤ 16 }
+    ensures reading { IsReading text.now places result }
+    ensures ok { (value : ℕ)
+        → (result ≡ Ok value) ↔ (IsDecimal text.now places value × (value < 10 ^ 18)) }
+    ensures empty { (result ≡ Err DecimalFault.Empty) ↔ IsEmptyDecimal text.now }
+    ensures bad_byte { (at : ℕ)
+        → (result ≡ Err (DecimalFault.BadByte at)) ↔ IsFirstBadByte text.now at }
+    ensures too_fine { (at : ℕ)
+        → (result ≡ Err (DecimalFault.TooFine at)) ↔ IsFirstTooFine text.now places at }
+    ensures too_great { (result ≡ Err DecimalFault.TooGreat)
+        ↔ ((value : ℕ) × IsDecimal text.now places value × (10 ^ 18 ≤ value)) }
+{
+    read_any(text, places as usize)
+}
+
+fn read_any(text: &[u8], places: usize) -> Result<u64, DecimalFault>
+    requires { places ≤ 16 }
+    ensures { IsReading text.now places result }
+{
+    match text {
+        [] | [b'.'] => Err(DecimalFault::Empty),
+        _ => read_some(text, places),
+    }
+}
+
+fn read_some(text: &[u8], places: usize) -> Result<u64, DecimalFault>
+    requires places { places ≤ 16 }
+    requires some { 0 < length text.now }
+    requires not_point { length text.now ≡ 1 → slice_index text.now 0 ≢ 46 }
+    ensures { IsReading text.now places result }
+{
+    let (whole, point) = read_digits(text, 0, text.len(), 0);
+    if point == text.len() {
+        return scaled(whole, places);
+    }
+    if text[point] != b'.' {
+        return Err(DecimalFault::BadByte { at: point });
+    }
+    let end = text.len().min(point + 1 + places);
+    let (number, kept) = read_digits(text, point + 1, end, whole);
+    if kept < end {
+        return Err(DecimalFault::BadByte { at: kept });
+    }
+    check_tail(text, kept)?;
+    scaled(number, places - (kept - point - 1))
+}
+
+// Reads digits from `from` to before `to` after those of the number `front`, and returns where they
+// end. A number of `LIMIT` or more stays at `LIMIT`, since a text may be long.
+fn read_digits(text: &[u8], from: usize, to: usize, front: u64) -> (u64, usize)
+    requires from { from ≤ to }
+    requires to { to ≤ length text.now }
+    requires front { front ≡ min (digit_number (take from text.now)) LIMIT }
+    ensures from { from ≤ result.1 }
+    ensures to { result.1 ≤ to }
+    ensures digits { (k : ℕ) → from ≤ k → k < result.1 → IsAsciiDigit (slice_index text.now k) }
+    ensures stop { result.1 < to → ¬ IsAsciiDigit (slice_index text.now result.1) }
+    ensures number { result.0 ≡ min (digit_number (take result.1 text.now)) LIMIT }
+{
+    let mut number = front;
+    let mut at = from;
+    while at < to && text[at].is_ascii_digit() {
+        let next = number * 10 + u64::from(text[at] - b'0');
+        number = if next < LIMIT { next } else { LIMIT };
+        at += 1;
+    }
+    (number, at)
+}
+
+// Past the places only zeros may follow.
+fn check_tail(text: &[u8], from: usize) -> Result<(), DecimalFault>
+    requires { from ≤ length text.now }
+    ensures zeros { OnOk result
+        ((k : ℕ) → from ≤ k → k < length text.now → slice_index text.now k ≡ 48) }
+    ensures fault { IfErr result (IsTailFault text.now from) }
+{
+    let mut fine = from;
+    while fine < text.len() && text[fine] == b'0' {
+        fine += 1;
+    }
+    let mut bad = fine;
+    while bad < text.len() && text[bad].is_ascii_digit() {
+        bad += 1;
+    }
+    if bad < text.len() {
+        Err(DecimalFault::BadByte { at: bad })
+    } else if fine < text.len() {
+        Err(DecimalFault::TooFine { at: fine })
+    } else {
+        Ok(())
+    }
+}
+
+// `number` with `zeros` more places.
+fn scaled(number: u64, zeros: usize) -> Result<u64, DecimalFault>
+    requires number { number ≤ LIMIT }
+    requires zeros { zeros ≤ 16 }
+    ensures { MatchResult result
+        (λ value. (value ≡ number * 10 ^ zeros) × (value < LIMIT))
+        (λ fault. (fault ≡ DecimalFault.TooGreat) × (LIMIT ≤ number * 10 ^ zeros)) }
+{
+    let value = u128::from(number) * u128::from(POWERS_OF_TEN[zeros]);
+    if value < u128::from(LIMIT) {
+        Ok(value as u64)
+    } else {
+        Err(DecimalFault::TooGreat)
+    }
+}
+
+#[cfg(test)]
+mod tests {
+    use super::*;
+
+    #[test]
+    fn reads_or_names_the_first_fault(rt: HostRuntime) {
+        let rows: [(&[u8], u32, Result<u64, DecimalFault>); 30] = [
+            (b"0", 0, Ok(0)),
+            (b"7", 3, Ok(7_000)),
+            (b".5", 1, Ok(5)),
+            (b"5.", 0, Ok(5)),
+            (b"00012", 0, Ok(12)),
+            (b"2.0", 0, Ok(2)),
+            (b"0.0050", 3, Ok(5)),
+            (b"61.2", 6, Ok(61_200_000)),
+            (
+                b"0000000000000000000000001.50000000000000000000000000",
+                2,
+                Ok(150),
+            ),
+            (b"999.999", 15, Ok(999_999_000_000_000_000)),
+            (b"999999999999999999", 0, Ok(999_999_999_999_999_999)),
+            (b"99.9999999999999999", 16, Ok(999_999_999_999_999_999)),
+            (b"", 3, Err(DecimalFault::Empty)),
+            (b".", 3, Err(DecimalFault::Empty)),
+            (b"..", 3, Err(DecimalFault::BadByte { at: 1 })),
+            (b".5.", 3, Err(DecimalFault::BadByte { at: 2 })),
+            (b"+1", 0, Err(DecimalFault::BadByte { at: 0 })),
+            (b"1e3", 0, Err(DecimalFault::BadByte { at: 1 })),
+            (b"1/", 0, Err(DecimalFault::BadByte { at: 1 })),
+            (b"1.:", 0, Err(DecimalFault::BadByte { at: 2 })),
+            (b"0.0005x", 3, Err(DecimalFault::BadByte { at: 6 })),
+            (
+                b"9999999999999999999999x",
+                0,
+                Err(DecimalFault::BadByte { at: 22 }),
+            ),
+            (b"0.0005", 3, Err(DecimalFault::TooFine { at: 5 })),
+            (b"0.00005", 3, Err(DecimalFault::TooFine { at: 6 })),
+            (b"1.1", 0, Err(DecimalFault::TooFine { at: 2 })),
+            (
+                b"9999999999999999999999.1",
+                0,
+                Err(DecimalFault::TooFine { at: 23 }),
+            ),
+            (b"1000", 15, Err(DecimalFault::TooGreat)),
+            (b"1000000000000000000", 0, Err(DecimalFault::TooGreat)),
+            (b"100", 16, Err(DecimalFault::TooGreat)),
+            (
+                b"99999999999999999999999999999999999999999",
+                0,
+                Err(DecimalFault::TooGreat),
+            ),
+        ];
+        for (row, (text, places, reading)) in rows.into_iter().enumerate() {
+            assert!(rt; places <= 16);
+            assert_eq!(rt; read_decimal(text, places), reading, "row {row}");
+        }
+    }
+}
