@@ -1,1 +1,3 @@
+pub mod IntervalLemmas
 pub mod PointLemmas
+pub mod RegionLemmas

@@ -1,0 +1,14 @@
+ghost use Rattle.std.specs.Prelude.{◌≤ℤ◌};
+
+/// A region of the plane: all spots (u, v) with u from `u1` to `u2` and v from `v1` to `v2`.
+///
+/// It is never empty. Contracts see it as a set of spots; the four numbers are how it is kept.
+#[derive(Clone, Copy)]
+pub struct Region {
+    pub u1: i64,
+    pub u2: i64,
+    pub v1: i64,
+    pub v2: i64,
+    pub ghost u_ordered: { u1 ≤ℤ u2 },
+    pub ghost v_ordered: { v1 ≤ℤ v2 },
+}
