@@ -1,0 +1,10 @@
+pub mod Shuffles
+pub mod Orders
+pub mod Ranks
+pub mod Extents
+pub mod Parts
+pub mod Sorted
+pub mod Divisions
+pub mod PinsFrom
+pub mod Divided
+pub mod Whole

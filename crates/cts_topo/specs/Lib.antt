@@ -1,0 +1,4 @@
+pub mod Shape
+pub mod Sinks
+pub mod Pins
+pub mod Topology
