@@ -1,5 +1,5 @@
 // What holds of every decimal text, as laws that proofs cite.
-ghost use Rattle.cts_num.specs.Laws.{DecimalIsReadBack, ReadingIsUnique, ValueIsUnique};
+ghost use Rattle.cts_num.specs.Laws.{DecimalIsReadBack, ReadingIsComputed, ReadingIsUnique, ValueIsUnique};
 
 /// A text writes at most one value at each number of places.
 pub fn value_is_unique()
@@ -10,6 +10,12 @@ pub fn value_is_unique()
 pub fn reading_is_unique()
     ensures { ReadingIsUnique }
 {}
+
+/// Every text has a reading at each number of places.
+pub fn reading_is_computed()
+    ensures { ReadingIsComputed }
+{
+}
 
 /// The canonical text of a value is read as that value.
 pub fn decimal_is_read_back()
