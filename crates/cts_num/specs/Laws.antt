@@ -1,5 +1,5 @@
 -- Laws on decimal texts.
-use Rattle.std.specs.Prelude.{◌≡◌, ℕ, List, Result}
+use Rattle.std.specs.Prelude.{◌≡◌, ℕ, ◌^◌, ◌<◌, List, Result, Ok}
 use Rattle.cts_num.specs.declared.read.DecimalFault.{DecimalFault}
 use Rattle.cts_num.specs.Decimal.{decimal_text}
 use Rattle.cts_num.specs.Reading.{IsDecimal, IsReading, reading_of}
@@ -19,3 +19,8 @@ ReadingIsComputed = (text : List ℕ) (places : ℕ) → IsReading text places (
 -- the canonical text of a value writes that value
 abbrev pub DecimalIsReadBack : Type 0
 DecimalIsReadBack = (places value : ℕ) → IsDecimal (decimal_text places value) places value
+
+-- read at the places at which it was written, the canonical text of a value below the limit gives
+-- that value
+abbrev pub WrittenIsRead : Type 0
+WrittenIsRead = (places value : ℕ) → value < 10 ^ 18 → reading_of (decimal_text places value) places ≡ Ok value
