@@ -14,8 +14,7 @@ pub fn reading_is_unique()
 /// Every text has a reading at each number of places.
 pub fn reading_is_computed()
     ensures { ReadingIsComputed }
-{
-}
+{}
 
 /// The canonical text of a value is read as that value.
 pub fn decimal_is_read_back()
