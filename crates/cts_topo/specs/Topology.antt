@@ -1,5 +1,6 @@
--- The shape of the tree over a list of sinks, after the method of means and medians: the sinks are divided in halves
--- along the axis in which they run further, and each half again.
+-- The shape of the tree over a list of sinks, after the method of means and medians (Jackson, Srinivasan and Kuh, 1990):
+-- the sinks are divided in halves along the axis in which they run further, and each half again. Who goes to the left
+-- is told by counting, for each sink, those before it. Axis, halves and ties are this project's own rules.
 use Rattle.std.specs.Prelude.{ℕ, zero, suc, ◌+◌, ◌-◌, max, Bool, true, false, not, nat_le, nat_lt, nat_abs, List, [], ◌∷◌, length, filter, count_by}
 use Rattle.std.specs.declared.cmp.Ordering.{Ordering}
 use Rattle.std.specs.Ordering.{is_lt, nat_cmp, ordering_then}

@@ -21,7 +21,7 @@ use std::alloc::Global;
 /// and else along y: the half of them, rounded up, that comes first by that coordinate, then the
 /// other one, then the id, is the left part. Each part is divided in the same way. A leaf names
 /// its sink by its place in the list. Takes 1 to 65,536 sinks with distinct ids and coordinates
-/// from 0 to 10^8 nm.
+/// from 0 to 10^8 nm. Answers `NoMemory` where an allocation fails.
 pub fn topology(alloc: Global, sinks: &[Sink]) -> Result<Shape, NoMemory>
     requires { AreSinks sinks.now }
     ensures definition { IfOk result (λ shape. shape ≡ shape_of sinks.now) }

@@ -50,56 +50,55 @@ fn pair(left: u32, right: u32) -> ShapeNode
 }
 
 #[test]
-fn sinks_at_one_place_go_by_id(rt: HostRuntime) -> Result<(), Fail> {
-    let sinks = [sink(4, 0, 0), sink(3, 0, 0), sink(2, 0, 0), sink(1, 0, 0)];
-    assert!(rt; are_fit(&sinks));
-    let shape = topology(rt.alloc(), &sinks)?;
-    let expected = [
-        leaf(3),
-        leaf(2),
-        pair(0, 1),
-        leaf(1),
-        leaf(0),
-        pair(3, 4),
-        pair(2, 5),
-    ];
-    assert_eq!(rt; shape.nodes(), expected.as_slice());
-    Ok(())
-}
-
-#[test]
-fn the_odd_sink_goes_to_the_left(rt: HostRuntime) -> Result<(), Fail> {
-    let sinks = [
+fn sinks_are_divided(rt: HostRuntime) -> Result<(), Fail> {
+    // At one place the ids decide; of five sinks on a line three go to the left; two sinks that
+    // run further in y than in x are divided along y.
+    let at_one_place = [sink(4, 0, 0), sink(3, 0, 0), sink(2, 0, 0), sink(1, 0, 0)];
+    let on_a_line = [
         sink(1, 0, 0),
         sink(2, 1, 0),
         sink(3, 2, 0),
         sink(4, 3, 0),
         sink(5, 4, 0),
     ];
-    assert!(rt; are_fit(&sinks));
-    let shape = topology(rt.alloc(), &sinks)?;
-    let expected = [
-        leaf(0),
-        leaf(1),
-        pair(0, 1),
-        leaf(2),
-        pair(2, 3),
-        leaf(3),
-        leaf(4),
-        pair(5, 6),
-        pair(4, 7),
-    ];
-    assert_eq!(rt; shape.nodes(), expected.as_slice());
-    Ok(())
-}
-
-#[test]
-fn the_further_axis_divides(rt: HostRuntime) -> Result<(), Fail> {
-    let sinks = [sink(1, 3, 9), sink(2, 5, 4)];
-    assert!(rt; are_fit(&sinks));
-    let shape = topology(rt.alloc(), &sinks)?;
-    let expected = [leaf(1), leaf(0), pair(0, 1)];
-    assert_eq!(rt; shape.nodes(), expected.as_slice());
+    let upright = [sink(1, 3, 9), sink(2, 5, 4)];
+    for (sinks, expected) in [
+        (
+            at_one_place.as_slice(),
+            [
+                leaf(3),
+                leaf(2),
+                pair(0, 1),
+                leaf(1),
+                leaf(0),
+                pair(3, 4),
+                pair(2, 5),
+            ]
+            .as_slice(),
+        ),
+        (
+            on_a_line.as_slice(),
+            [
+                leaf(0),
+                leaf(1),
+                pair(0, 1),
+                leaf(2),
+                pair(2, 3),
+                leaf(3),
+                leaf(4),
+                pair(5, 6),
+                pair(4, 7),
+            ]
+            .as_slice(),
+        ),
+        (
+            upright.as_slice(),
+            [leaf(1), leaf(0), pair(0, 1)].as_slice(),
+        ),
+    ] {
+        assert!(rt; are_fit(sinks));
+        assert_eq!(rt; topology(rt.alloc(), sinks)?.nodes(), expected);
+    }
     Ok(())
 }
 
