@@ -24,7 +24,7 @@ abbrev pub unless : Bool → Fault → Option Fault → Option Fault
 unless holds fault later = if holds then later else Some fault
 
 -- the first fault of a list of lines, each line asked with the lines before it
-pub first_of : {A : Type 0} → (List A → A → Option Fault) → List A → List A → Option Fault
+unfoldable pub first_of : {A : Type 0} → (List A → A → Option Fault) → List A → List A → Option Fault
 first_of ask before [] = None
 first_of ask before (line ∷ later) = option_or (ask before line) (first_of ask (before ++ line ∷ []) later)
 
@@ -83,15 +83,24 @@ unfoldable pub counts_with : BlockCounts → Kind → BlockCounts
 counts_with counts of_buffers = record counts { buffer = counts.buffer + 1 }
 counts_with counts of_all = record counts { all = counts.all + 1 }
 
+-- the fault of a line among those of its list, given the lines before it
+unfoldable pub buffer_line : List Buffer → Buffer → Option Fault
+buffer_line before buffer = buffer_fault (length before) buffer
+
+unfoldable pub sink_line : Die → List Sink → Sink → Option Fault
+sink_line die before sink = sink_fault die (map (λ s. s.id) before) sink
+
+unfoldable pub block_line : Die → ℤ → ℤ → List Sink → List Block → Block → Option Fault
+block_line die x y sinks before block = block_fault die x y sinks (counts_of before) block
+
 unfoldable pub buffers_fault : List Buffer → Option Fault
-buffers_fault buffers = first_of (λ before buffer. buffer_fault (length before) buffer) [] buffers
+buffers_fault buffers = first_of buffer_line [] buffers
 
 unfoldable pub sinks_fault : Die → List Sink → Option Fault
-sinks_fault die sinks = first_of (λ before sink. sink_fault die (map (λ s. s.id) before) sink) [] sinks
+sinks_fault die sinks = first_of (sink_line die) [] sinks
 
 unfoldable pub blocks_fault : Die → ℤ → ℤ → List Sink → List Block → Option Fault
-blocks_fault die x y sinks blocks =
-    first_of (λ before block. block_fault die x y sinks (counts_of before) block) [] blocks
+blocks_fault die x y sinks blocks = first_of (block_line die x y sinks) [] blocks
 
 unfoldable pub first_fault : Parts → Option Fault
 first_fault parts =

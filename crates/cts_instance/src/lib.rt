@@ -1,5 +1,6 @@
 #![tactic(auto)]
 
+mod check;
 mod counts;
 mod fault;
 mod ids;

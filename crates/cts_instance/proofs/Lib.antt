@@ -1,0 +1,3 @@
+pub mod FirstFaultLemmas
+pub mod CountLemmas
+pub mod LineLemmas
