@@ -64,6 +64,7 @@ pub record IsValid (parts : Parts) : Type 0 where
   pub sinks : All (IsSink parts.die) parts.sinks
   pub ids : AllPairs (λ a b. a.id ≢ b.id) parts.sinks
   pub blocks : All (IsBlock parts.die) parts.blocks
+  pub block_count : length parts.blocks ≤ 4160
   pub buffer_blocks : count_by (λ block. stops_buffers block.kind) parts.blocks ≤ 4096
   pub all_blocks : count_by (λ block. stops_wires block.kind) parts.blocks ≤ 64
   pub clear : All (IsClear parts.source_x parts.source_y parts.sinks) parts.blocks
