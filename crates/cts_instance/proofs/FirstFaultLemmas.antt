@@ -5,7 +5,8 @@ use Rattle.std.specs.Option.{option_or}
 use Rattle.cts_instance.specs.declared.fault.Fault.{Fault}
 use Rattle.cts_instance.specs.FirstFault.{first_of}
 
-or_assoc : (a b c : Option Fault) → option_or a (option_or b c) ≡ option_or (option_or a b) c
+-- the first of three
+pub or_assoc : (a b c : Option Fault) → option_or a (option_or b c) ≡ option_or (option_or a b) c
 or_assoc None b c = refl
 or_assoc (Some x) b c = refl
 

@@ -6,7 +6,7 @@ use Rattle.cts_units.specs.declared.params.Buffer.{Buffer}
 use Rattle.cts_units.specs.declared.params.Sink.{Sink}
 use Rattle.cts_block.specs.declared.blocks.Block.{Block}
 use Rattle.cts_instance.specs.declared.counts.BlockCounts.{BlockCounts}
-use Rattle.cts_instance.specs.FirstFault.{buffer_line, buffer_fault, sink_line, sink_fault, block_line, block_fault, blocks_fault, counts_of}
+use Rattle.cts_instance.specs.FirstFault.{buffer_line, buffer_fault, sink_line, sink_fault, block_line, block_fault, first_of, counts_of}
 
 pub buffer_line-at : (buffers : List Buffer) (number : ℕ) (buffer : Buffer) → number ≤ length buffers
     → buffer_fault number buffer ≡ buffer_line (take number buffers) buffer
@@ -23,9 +23,9 @@ pub block_line-at : (die : Die) (x y : ℤ) (sinks : List Sink) (before : List B
 unfolding block_line
 block_line-at die x y sinks before counts block same = ap (λ seen. block_fault die x y sinks seen block) same
 
-pub blocks_fault-at : (die : Die) (x y u v : ℤ) (sinks : List Sink) (blocks : List Block)
-    → x ≡ u → y ≡ v → blocks_fault die x y sinks blocks ≡ blocks_fault die u v sinks blocks
-blocks_fault-at die x y u v sinks blocks same_x same_y = rw (same_x, same_y) refl
+pub first_of-at : (die : Die) (x y u v : ℤ) (sinks : List Sink) (blocks : List Block)
+    → x ≡ u → y ≡ v → first_of (block_line die x y sinks) [] blocks ≡ first_of (block_line die u v sinks) [] blocks
+first_of-at die x y u v sinks blocks same_x same_y = rw (same_x, same_y) refl
 
 -- the step of a loop that collects the ids of the sinks
 pub ids-more : (sinks : List Sink) (place : ℕ) (d : Sink) (old new : List ℕ)

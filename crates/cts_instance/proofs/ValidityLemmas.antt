@@ -17,7 +17,7 @@ use Rattle.cts_instance.specs.declared.parts.Parts.{Parts}
 use Rattle.cts_instance.specs.Places.{IsInDie}
 use Rattle.cts_instance.specs.Validity.{IsDie, IsBounded, IsLimits, IsBuffer, IsSink, IsBlock, IsClear, IsValid}
 use Rattle.cts_instance.specs.Tests.{has_room, stops_buffers, stops_wires}
-use Rattle.cts_instance.specs.FirstFault.{die_fault, source_fault, wire_fault, limits_fault, buffer_count_fault, buffer_fault, buffer_line, buffers_fault, sink_count_fault, sink_fault, sink_line, sinks_fault, block_count_fault, block_fault, block_line, blocks_fault, counts_of, first_fault}
+use Rattle.cts_instance.specs.FirstFault.{die_fault, source_fault, wire_fault, limits_fault, buffer_count_fault, buffer_fault, buffer_line, buffers_fault, sink_count_fault, sink_fault, sink_line, sinks_fault, block_count_fault, block_fault, block_line, blocks_fault, counts_of, first_of, first_fault}
 use Rattle.cts_instance.proofs.TestLemmas.{Decides-nat_le, Decides-absent, Decides-is_bounded, Decides-is_die, Decides-is_in_die, Decides-is_wire, Decides-is_limits, Decides-is_buffer, Decides-is_sink, Decides-is_upright, Decides-is_block_in_die, Decides-is_clear}
 use Rattle.cts_instance.proofs.AllowLemmas.{Allows, Allows-like, Allows-unless, Allows-last, Allows-or, EachLine, Allows-first_of, pairs_from_lines, lines_from_pairs, FindsRoom, count_from_lines, lines_from_count}
 
@@ -45,10 +45,12 @@ pub Allows-buffer_fault : (number : ℕ) (buffer : Buffer) → Allows (buffer_fa
 unfolding buffer_fault
 Allows-buffer_fault number buffer = Allows-last _ _ (Decides-is_buffer buffer)
 
-pub Allows-buffers_fault : (buffers : List Buffer) → Allows (buffers_fault buffers) (All IsBuffer buffers)
+pub Allows-buffers_fault : (buffers : List Buffer)
+    → Allows (buffers_fault buffers) ((length buffers ≤ 16) × All IsBuffer buffers)
 unfolding buffers_fault buffer_line
 Allows-buffers_fault buffers =
-    Allows-first_of buffer_line (λ before buffer. IsBuffer buffer) (λ before buffer. Allows-buffer_fault (length before) buffer) [] buffers
+    Allows-or _ _ (Allows-buffer_count_fault (length buffers))
+    (Allows-first_of buffer_line (λ before buffer. IsBuffer buffer) (λ before buffer. Allows-buffer_fault (length before) buffer) [] buffers)
 
 pub Allows-sink_count_fault : (count : ℕ) → Allows (sink_count_fault count) ((1 ≤ count) × (count ≤ 65536))
 unfolding sink_count_fault
@@ -75,16 +77,18 @@ sinks_apart : (sink : Sink) (before : List Sink) → All (λ s. s.id ≢ sink.id
 sinks_apart sink before h = All-map (λ id. id ≢ sink.id) (λ s. s.id) before h
 
 pub Allows-sinks_fault : (die : Die) (sinks : List Sink)
-    → Allows (sinks_fault die sinks) (All (IsSink die) sinks × AllPairs (λ a b. a.id ≢ b.id) sinks)
+    → Allows (sinks_fault die sinks)
+        (((1 ≤ length sinks) × (length sinks ≤ 65536)) × (All (IsSink die) sinks × AllPairs (λ a b. a.id ≢ b.id) sinks))
 unfolding sinks_fault sink_line
 Allows-sinks_fault die sinks =
-    Allows-like (sinks_fault die sinks)
+    Allows-or _ _ (Allows-sink_count_fault (length sinks))
+    (Allows-like (first_of (sink_line die) [] sinks)
     (λ h. (λ k d inside. let r = h k d inside in record { id = r.0.0; cap = r.0.1; in_die = r.1.1 },
            pairs_from_lines (λ a b. a.id ≢ b.id) sinks (λ k d inside. ids_apart (get_or sinks k d) (take k sinks) (h k d inside).1.0)))
     (λ p k d inside. let s = p.0 k d inside in
         ((s.id, s.cap), (sinks_apart (get_or sinks k d) (take k sinks) (lines_from_pairs (λ a b. a.id ≢ b.id) sinks p.1 k d inside), s.in_die)))
     (Allows-first_of (sink_line die) (λ before sink. SinkRules die (map (λ s. s.id) before) sink)
-        (λ before sink. Allows-sink_fault die (map (λ s. s.id) before) sink) [] sinks)
+        (λ before sink. Allows-sink_fault die (map (λ s. s.id) before) sink) [] sinks))
 
 pub Allows-block_count_fault : (count : ℕ) → Allows (block_count_fault count) (count ≤ 4160)
 unfolding block_count_fault
@@ -118,13 +122,15 @@ Allows-block_fault die x y sinks counts block =
 
 pub Allows-blocks_fault : (die : Die) (x y : ℤ) (sinks : List Sink) (blocks : List Block)
     → Allows (blocks_fault die x y sinks blocks)
-        (All (IsBlock die) blocks
+        ((length blocks ≤ 4160)
+        × (All (IsBlock die) blocks
         × ((count_by (λ block. stops_buffers block.kind) blocks ≤ 4096)
         × ((count_by (λ block. stops_wires block.kind) blocks ≤ 64)
-        × All (IsClear x y sinks) blocks)))
+        × All (IsClear x y sinks) blocks))))
 unfolding blocks_fault block_line counts_of
 Allows-blocks_fault die x y sinks blocks =
-    Allows-like (blocks_fault die x y sinks blocks)
+    Allows-or _ _ (Allows-block_count_fault (length blocks))
+    (Allows-like (first_of (block_line die x y sinks) [] blocks)
     (λ h. (λ k d inside. let r = h k d inside in record { x_order = r.0.0; y_order = r.0.1; from = r.1.0.0; to = r.1.0.1 },
           (count_from_lines (λ block. stops_buffers block.kind) 4096 blocks (λ k d inside. (h k d inside).1.1.0.0),
           (count_from_lines (λ block. stops_wires block.kind) 64 blocks (λ k d inside. (h k d inside).1.1.0.1),
@@ -135,38 +141,47 @@ Allows-blocks_fault die x y sinks blocks =
           lines_from_count (λ block. stops_wires block.kind) 64 blocks p.1.1.0 k d inside),
         p.1.1.1 k d inside))))
     (Allows-first_of (block_line die x y sinks) (λ before block. BlockRules die x y sinks (counts_of before) block)
-        (λ before block. Allows-block_fault die x y sinks (counts_of before) block) [] blocks)
+        (λ before block. Allows-block_fault die x y sinks (counts_of before) block) [] blocks))
 
 pub Allows-first_fault : (parts : Parts) → Allows (first_fault parts) (IsValid parts)
 unfolding first_fault
 Allows-first_fault parts =
     Allows-like (first_fault parts)
     (λ h. record {
-        die = h.0;
-        source_r = h.1.0.0;
-        source = h.1.0.1;
-        wire = h.1.1.0;
-        limits = h.1.1.1.0;
-        buffer_count = h.1.1.1.1.0;
-        buffers = h.1.1.1.1.1.0;
-        some_sink = h.1.1.1.1.1.1.0.0;
-        sink_count = h.1.1.1.1.1.1.0.1;
-        sinks = h.1.1.1.1.1.1.1.0.0;
-        ids = h.1.1.1.1.1.1.1.0.1;
-        block_count = h.1.1.1.1.1.1.1.1.0;
-        blocks = h.1.1.1.1.1.1.1.1.1.0;
-        buffer_blocks = h.1.1.1.1.1.1.1.1.1.1.0;
-        all_blocks = h.1.1.1.1.1.1.1.1.1.1.1.0;
-        clear = h.1.1.1.1.1.1.1.1.1.1.1.1 })
-    (λ v. (v.die, ((v.source_r, v.source), (v.wire, (v.limits, (v.buffer_count, (v.buffers, ((v.some_sink, v.sink_count),
-        ((v.sinks, v.ids), (v.block_count, (v.blocks, (v.buffer_blocks, (v.all_blocks, v.clear)))))))))))))
-    (Allows-or _ _ (Allows-die_fault parts.die)
-    (Allows-or _ _ (Allows-source_fault parts.die parts.source_x parts.source_y parts.source_r)
-    (Allows-or _ _ (Allows-wire_fault parts.params.wire)
-    (Allows-or _ _ (Allows-limits_fault parts.params.insert_at parts.load_limit parts.slew_limit)
-    (Allows-or _ _ (Allows-buffer_count_fault (length parts.params.library))
-    (Allows-or _ _ (Allows-buffers_fault parts.params.library)
-    (Allows-or _ _ (Allows-sink_count_fault (length parts.sinks))
-    (Allows-or _ _ (Allows-sinks_fault parts.die parts.sinks)
-    (Allows-or _ _ (Allows-block_count_fault (length parts.blocks))
-        (Allows-blocks_fault parts.die parts.source_x parts.source_y parts.sinks parts.blocks))))))))))
+        die = h.0.0.0.0.0.0;
+        source_r = h.0.0.0.0.0.1.0;
+        source = h.0.0.0.0.0.1.1;
+        wire = h.0.0.0.0.1;
+        limits = h.0.0.0.1;
+        buffer_count = h.0.0.1.0;
+        buffers = h.0.0.1.1;
+        some_sink = h.0.1.0.0;
+        sink_count = h.0.1.0.1;
+        sinks = h.0.1.1.0;
+        ids = h.0.1.1.1;
+        block_count = h.1.0;
+        blocks = h.1.1.0;
+        buffer_blocks = h.1.1.1.0;
+        all_blocks = h.1.1.1.1.0;
+        clear = h.1.1.1.1.1 })
+    (λ v. ((((((v.die, (v.source_r, v.source)), v.wire), v.limits), (v.buffer_count, v.buffers)),
+        ((v.some_sink, v.sink_count), (v.sinks, v.ids))),
+        (v.block_count, (v.blocks, (v.buffer_blocks, (v.all_blocks, v.clear))))))
+    (Allows-or _ _ (Allows-or _ _ (Allows-or _ _ (Allows-or _ _ (Allows-or _ _ (Allows-or _ _
+        (Allows-die_fault parts.die)
+        (Allows-source_fault parts.die parts.source_x parts.source_y parts.source_r))
+        (Allows-wire_fault parts.params.wire))
+        (Allows-limits_fault parts.params.insert_at parts.load_limit parts.slew_limit))
+        (Allows-buffers_fault parts.params.library))
+        (Allows-sinks_fault parts.die parts.sinks))
+        (Allows-blocks_fault parts.die parts.source_x parts.source_y parts.sinks parts.blocks))
+
+-- what a loop over a list asks of its length
+pub buffer_count : (count : ℕ) → buffer_count_fault count ≡ None → count ≤ 16
+buffer_count count = (Allows-buffer_count_fault count).0
+
+pub sink_count : (count : ℕ) → sink_count_fault count ≡ None → count ≤ 65536
+sink_count count none = ((Allows-sink_count_fault count).0 none).1
+
+pub block_count : (count : ℕ) → block_count_fault count ≡ None → count ≤ 4160
+block_count count = (Allows-block_count_fault count).0

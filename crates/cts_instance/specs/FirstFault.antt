@@ -1,7 +1,7 @@
 -- The faults of the parts of an instance, in the order of the lines of its text: the die, the source, the wire,
 -- the limits, the number of buffers, each buffer, the number of sinks, each sink, the number of blocks, each block.
 -- A line may have several faults, in the order of its rules.
-use Rattle.std.specs.Prelude.{ℕ, ◌+◌, Bool, not, nat_le, nat_lt, nat_eq, ℤ, List, [], ◌∷◌, ◌++◌, length, map, count_by, Option, None, Some, if◌then◌else◌}
+use Rattle.std.specs.Prelude.{◌≡◌, ℕ, ◌+◌, Bool, not, nat_le, nat_lt, nat_eq, ℤ, List, [], ◌∷◌, ◌++◌, length, map, count_by, Option, None, Some, if◌then◌else◌}
 use Rattle.std.specs.List.{list_any}
 use Rattle.std.specs.Option.{option_or}
 use Rattle.cts_geom.specs.declared.bounds.Die.{Die}
@@ -15,6 +15,8 @@ use Rattle.cts_instance.specs.declared.parts.Parts.{Parts}
 use Rattle.cts_instance.specs.declared.counts.BlockCounts.{BlockCounts}
 use Rattle.cts_instance.specs.declared.fault.Fault.{Fault}
 use Rattle.cts_instance.specs.declared.fault.Fault.TheVariants.{NoSink, TwiceSink, Outside, InBlock, Range, TooMany}
+use Rattle.cts_instance.specs.declared.fault.CheckEnd.{CheckEnd}
+use Rattle.cts_instance.specs.declared.fault.CheckEnd.TheVariants.{Fault as told, NoMemory as out_of_memory}
 use Rattle.cts_instance.specs.declared.fault.Item.{Item}
 use Rattle.cts_instance.specs.declared.fault.Item.TheVariants as item
 use Rattle.cts_instance.specs.Tests.{is_die, is_in_die, is_bounded, is_wire, is_limits, is_buffer, is_sink, is_upright, is_block_in_die, has_room, is_clear, stops_buffers, stops_wires}
@@ -23,10 +25,15 @@ use Rattle.cts_instance.specs.Tests.{is_die, is_in_die, is_bounded, is_wire, is_
 abbrev pub unless : Bool → Fault → Option Fault → Option Fault
 unless holds fault later = if holds then later else Some fault
 
+-- the fault of the first line, and else that of the later lines
+infixl 4 ◌or◌
+abbrev pub ◌or◌ : Option Fault → Option Fault → Option Fault
+first or later = option_or first later
+
 -- the first fault of a list of lines, each line asked with the lines before it
 unfoldable pub first_of : {A : Type 0} → (List A → A → Option Fault) → List A → List A → Option Fault
 first_of ask before [] = None
-first_of ask before (line ∷ later) = option_or (ask before line) (first_of ask (before ++ line ∷ []) later)
+first_of ask before (line ∷ later) = ask before line or first_of ask (before ++ line ∷ []) later
 
 unfoldable pub die_fault : Die → Option Fault
 die_fault die = unless (is_die die) (Range item.Die) None
@@ -93,24 +100,28 @@ sink_line die before sink = sink_fault die (map (λ s. s.id) before) sink
 unfoldable pub block_line : Die → ℤ → ℤ → List Sink → List Block → Block → Option Fault
 block_line die x y sinks before block = block_fault die x y sinks (counts_of before) block
 
+-- the line with the number of buffers, and the lines of the buffers
 unfoldable pub buffers_fault : List Buffer → Option Fault
-buffers_fault buffers = first_of buffer_line [] buffers
+buffers_fault buffers = buffer_count_fault (length buffers) or first_of buffer_line [] buffers
 
 unfoldable pub sinks_fault : Die → List Sink → Option Fault
-sinks_fault die sinks = first_of (sink_line die) [] sinks
+sinks_fault die sinks = sink_count_fault (length sinks) or first_of (sink_line die) [] sinks
 
 unfoldable pub blocks_fault : Die → ℤ → ℤ → List Sink → List Block → Option Fault
-blocks_fault die x y sinks blocks = first_of (block_line die x y sinks) [] blocks
+blocks_fault die x y sinks blocks =
+    block_count_fault (length blocks) or first_of (block_line die x y sinks) [] blocks
 
 unfoldable pub first_fault : Parts → Option Fault
 first_fault parts =
-    option_or (die_fault parts.die) (
-    option_or (source_fault parts.die parts.source_x parts.source_y parts.source_r) (
-    option_or (wire_fault parts.params.wire) (
-    option_or (limits_fault parts.params.insert_at parts.load_limit parts.slew_limit) (
-    option_or (buffer_count_fault (length parts.params.library)) (
-    option_or (buffers_fault parts.params.library) (
-    option_or (sink_count_fault (length parts.sinks)) (
-    option_or (sinks_fault parts.die parts.sinks) (
-    option_or (block_count_fault (length parts.blocks)) (
-    blocks_fault parts.die parts.source_x parts.source_y parts.sinks parts.blocks)))))))))
+    die_fault parts.die
+    or source_fault parts.die parts.source_x parts.source_y parts.source_r
+    or wire_fault parts.params.wire
+    or limits_fault parts.params.insert_at parts.load_limit parts.slew_limit
+    or buffers_fault parts.params.library
+    or sinks_fault parts.die parts.sinks
+    or blocks_fault parts.die parts.source_x parts.source_y parts.sinks parts.blocks
+
+-- a check of parts with this first fault may end so: with that fault, or for want of memory
+abbrev pub Ends : Option Fault → CheckEnd → Type 0
+Ends first (told fault) = first ≡ Some fault
+Ends first out_of_memory = Unit {0}

@@ -1,11 +1,10 @@
 use Rattle.std.proofs.Common.{rules, sym, ◌∙◌, arith}
 use Rattle.cts_instance.proofs.FirstFaultLemmas.{found, passed, ended}
 use Rattle.cts_instance.proofs.LineLemmas.{sink_line-at, ids-more}
-use Rattle.cts_instance.specs.FirstFault.{sinks_fault, sink_line}
-use Rattle.cts_instance.proofs.check.sinks_fault.Goals as goal
+use Rattle.cts_instance.specs.FirstFault.{sink_line}
+use Rattle.cts_instance.proofs.check.faulty_sink.Goals as goal
 
 pub loop-sink-init : goal.loop-sink-init
-unfolding sinks_fault
 loop-sink-init c = search rules
 
 pub returns-in-Some : goal.returns-in-Some

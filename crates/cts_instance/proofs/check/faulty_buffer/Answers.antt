@@ -1,11 +1,10 @@
 use Rattle.std.proofs.Common.{rules, ◌∙◌, arith}
 use Rattle.cts_instance.proofs.FirstFaultLemmas.{found, passed, ended}
 use Rattle.cts_instance.proofs.LineLemmas.{buffer_line-at}
-use Rattle.cts_instance.specs.FirstFault.{buffers_fault, buffer_line}
-use Rattle.cts_instance.proofs.check.buffers_fault.Goals as goal
+use Rattle.cts_instance.specs.FirstFault.{buffer_line}
+use Rattle.cts_instance.proofs.check.faulty_buffer.Goals as goal
 
 pub loop-number-init : goal.loop-number-init
-unfolding buffers_fault
 loop-number-init c = search rules
 
 pub returns-in-Some : goal.returns-in-Some
