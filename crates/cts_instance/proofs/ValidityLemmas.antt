@@ -185,3 +185,9 @@ sink_count count none = ((Allows-sink_count_fault count).0 none).1
 
 pub block_count : (count : ℕ) → block_count_fault count ≡ None → count ≤ 4160
 block_count count = (Allows-block_count_fault count).0
+
+pub valid_from_no_fault : (parts : Parts) → first_fault parts ≡ None → IsValid parts
+valid_from_no_fault parts = (Allows-first_fault parts).0
+
+pub no_fault_from_valid : (parts : Parts) → IsValid parts → first_fault parts ≡ None
+no_fault_from_valid parts = (Allows-first_fault parts).1
