@@ -117,7 +117,13 @@ fn first_fault(alloc: Global, parts: &Parts) -> Result<Option<Fault>, NoMemory>
     if let Some(fault) = sinks_fault(alloc, die, sinks)? {
         return Ok(Some(fault));
     }
-    Ok(blocks_fault(die, parts.source_x, parts.source_y, sinks, parts.blocks.items()))
+    Ok(blocks_fault(
+        die,
+        parts.source_x,
+        parts.source_y,
+        sinks,
+        parts.blocks.items(),
+    ))
 }
 
 /// The instance of these parts, or their first fault: `Ok` exactly where the parts are valid, unless
@@ -139,3 +145,6 @@ pub fn check_instance(alloc: Global, parts: Parts) -> Result<Instance, CheckEnd>
         None => Ok(Instance::of(parts)),
     }
 }
+
+#[cfg(test)]
+mod tests;
