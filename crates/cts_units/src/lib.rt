@@ -8,8 +8,10 @@
 
 mod choice;
 mod delay;
+mod limits;
 mod params;
 
 pub use choice::choose_buffer;
 pub use delay::{buffer_delay, slew_tenths, wire_delay};
+pub use limits::{MAX_DELAY, MAX_LENGTH, MAX_LOAD};
 pub use params::{Buffer, Library, Params, Sink, Wire};
