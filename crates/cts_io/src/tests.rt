@@ -146,7 +146,7 @@ fn put_line<K: ByteSink>(out: &mut SinkBuffer, sink: &mut K, name: &[u8], value:
 fn write_lines<K: ByteSink>(sink: &mut K, name: &[u8], value: &[u8]) -> Result<(), WriteEnd>
     ensures { Writes K.held K.faults sink.old sink.new
         (name.now ++ codes " " ++ value.now ++ codes "\n"
-            ++ (value.now ++ codes " " ++ name.now ++ codes "\n")) result }
+        ++ (value.now ++ codes " " ++ name.now ++ codes "\n")) result }
 {
     let mut out = SinkBuffer::new();
     put_line(&mut out, sink, name, value);
