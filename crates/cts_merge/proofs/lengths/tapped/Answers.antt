@@ -1,5 +1,5 @@
 -- Of the last place at which the first side is not slower and the next one, the nearer is the least pair.
-use Rattle.std.proofs.Common.{◌+◌, ◌-◌, ◌≤◌, arith}
+use Rattle.std.proofs.Common.{◌+◌, ◌-◌, arith}
 use Rattle.cts_merge.specs.Side.{delay_through}
 use Rattle.cts_merge.proofs.SideDelays.{delay_rises}
 use Rattle.cts_merge.proofs.MergePairs.{taps_at, spans_low, spans_high}
