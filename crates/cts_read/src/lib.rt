@@ -1,0 +1,4 @@
+//! Reading instances from text.
+#![tactic(auto)]
+
+mod words;
