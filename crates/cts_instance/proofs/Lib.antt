@@ -1,0 +1,6 @@
+pub mod FirstFaultLemmas
+pub mod CountLemmas
+pub mod LineLemmas
+pub mod TestLemmas
+pub mod AllowLemmas
+pub mod ValidityLemmas

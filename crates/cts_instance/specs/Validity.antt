@@ -1,0 +1,70 @@
+-- What a valid instance is.
+use Rattle.std.specs.Prelude.{◌≡◌, ◌≢◌, ℕ, ◌^◌, ◌≤◌, ◌<◌, ℤ, pos, ◌≤ℤ◌, List, length, All, AllPairs, count_by}
+use Rattle.cts_geom.specs.declared.bounds.Die.{Die}
+use Rattle.cts_units.specs.declared.params.Sink.{Sink}
+use Rattle.cts_units.specs.declared.params.Buffer.{Buffer}
+use Rattle.cts_units.specs.Limits.{IsWire}
+use Rattle.cts_block.specs.declared.blocks.Block.{Block}
+use Rattle.cts_block.specs.FreePoints.{StopsWires}
+use Rattle.cts_instance.specs.declared.parts.Parts.{Parts}
+use Rattle.cts_instance.specs.Places.{IsInDie, IsInside}
+use Rattle.cts_instance.specs.Tests.{stops_buffers, stops_wires}
+
+-- the corners are from 0 to 10^8 nm, lower left and upper right
+pub record IsDie (die : Die) : Type 0 where
+  pub x_low : pos 0 ≤ℤ die.x1
+  pub x_order : die.x1 ≤ℤ die.x2
+  pub x_high : die.x2 ≤ℤ pos (10 ^ 8)
+  pub y_low : pos 0 ≤ℤ die.y1
+  pub y_order : die.y1 ≤ℤ die.y2
+  pub y_high : die.y2 ≤ℤ pos (10 ^ 8)
+
+-- numbers without a limit of their own are below 10^18 of their unit
+abbrev pub IsBounded : ℕ → Type 0
+IsBounded n = n < 10 ^ 18
+
+-- the insertion threshold and the limits on loads and slews
+pub record IsLimits (insert_at load slew : ℕ) : Type 0 where
+  pub threshold : IsBounded insert_at
+  pub loads : IsBounded load
+  pub slews : IsBounded slew
+
+pub record IsBuffer (buffer : Buffer) : Type 0 where
+  pub cin : buffer.cin ≤ 10 ^ 12
+  pub rout : IsBounded buffer.rout
+  pub intrinsic : IsBounded buffer.intrinsic
+
+pub record IsSink (die : Die) (sink : Sink) : Type 0 where
+  pub id : sink.id ≤ 999999999
+  pub cap : sink.cap ≤ 10 ^ 12
+  pub in_die : IsInDie die sink.x sink.y
+
+-- the corners are lower left and upper right, and both lie in the die
+pub record IsBlock (die : Die) (block : Block) : Type 0 where
+  pub x_order : block.x1 ≤ℤ block.x2
+  pub y_order : block.y1 ≤ℤ block.y2
+  pub from : IsInDie die block.x1 block.y1
+  pub to : IsInDie die block.x2 block.y2
+
+-- a block that stops wires has no point inside that the tree has to reach
+pub record IsClear (x y : ℤ) (sinks : List Sink) (block : Block) : Type 0 where
+  pub of_source : StopsWires block.kind → ¬ IsInside block x y
+  pub of_sinks : StopsWires block.kind → All (λ sink. ¬ IsInside block sink.x sink.y) sinks
+
+pub record IsValid (parts : Parts) : Type 0 where
+  pub die : IsDie parts.die
+  pub source_r : IsBounded parts.source_r
+  pub source : IsInDie parts.die parts.source_x parts.source_y
+  pub wire : IsWire parts.params.wire
+  pub limits : IsLimits parts.params.insert_at parts.load_limit parts.slew_limit
+  pub buffer_count : length parts.params.library ≤ 16
+  pub buffers : All IsBuffer parts.params.library
+  pub some_sink : 1 ≤ length parts.sinks
+  pub sink_count : length parts.sinks ≤ 65536
+  pub sinks : All (IsSink parts.die) parts.sinks
+  pub ids : AllPairs (λ a b. a.id ≢ b.id) parts.sinks
+  pub blocks : All (IsBlock parts.die) parts.blocks
+  pub block_count : length parts.blocks ≤ 4160
+  pub buffer_blocks : count_by (λ block. stops_buffers block.kind) parts.blocks ≤ 4096
+  pub all_blocks : count_by (λ block. stops_wires block.kind) parts.blocks ≤ 64
+  pub clear : All (IsClear parts.source_x parts.source_y parts.sinks) parts.blocks

@@ -1,0 +1,57 @@
+//! What can be wrong with the parts of an instance, and where.
+
+use cts_num::NoMemory;
+
+/// The part of an instance, or of a script of edits, that a fault is about. Lists are counted from 0.
+#[derive(Clone, Copy, PartialEq, Eq, Debug)]
+pub enum Item {
+    Die,
+    Source,
+    Wire,
+    Limits,
+    Buffers,
+    Buffer(u32),
+    Sinks,
+    Sink(u32),
+    Blocks,
+    Block(u32),
+    Callers,
+    Step(u32),
+}
+
+/// What is wrong with the parts of an instance.
+#[derive(Clone, Copy, PartialEq, Eq, Debug)]
+pub enum Fault {
+    /// There are no sinks.
+    NoSink,
+    /// An earlier sink has the same id.
+    TwiceSink { id: u32 },
+    /// A source, a sink or a block that isn't wholly in the closed die.
+    Outside { item: Item },
+    /// A block of kind `All` with the source or a sink strictly inside.
+    InBlock { item: Item },
+    /// A number is beyond its limits, or two corners are in the wrong order.
+    Range { item: Item },
+    /// There are more of these than an instance may have.
+    TooMany { item: Item },
+}
+
+/// Why the parts of an instance were refused.
+#[derive(Clone, Copy, PartialEq, Eq, Debug)]
+pub enum CheckEnd {
+    /// The first fault of the parts.
+    Fault(Fault),
+    /// Memory ran out.
+    NoMemory,
+}
+
+impl From<NoMemory> for CheckEnd {
+    ghost use Rattle.std.specs.Prelude.{◌≡◌};
+    ghost use Rattle.cts_instance.specs.declared.fault.CheckEnd.TheVariants.{NoMemory};
+
+    ghost from_gives = { λ _ end. end ≡ NoMemory };
+
+    fn from(_error: NoMemory) -> CheckEnd {
+        CheckEnd::NoMemory
+    }
+}

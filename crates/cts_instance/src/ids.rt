@@ -1,0 +1,50 @@
+//! The ids of the sinks that were seen so far.
+
+use cts_num::NoMemory;
+use indexmap::IndexSet;
+use std::alloc::Global;
+use std::marker::Model;
+
+/// Distinct ids, in the order in which they came.
+#[derive(Drop)]
+pub struct SinkIds {
+    ids: IndexSet<u32>,
+}
+
+impl Model for SinkIds {
+    ghost use Rattle.std.specs.Prelude.{ℕ, List};
+
+    ghost Value = { List ℕ };
+
+    ghost view = { λ seen. seen.ids.keys };
+}
+
+impl SinkIds {
+    ghost use Rattle.std.specs.Prelude.{◌≡◌, [], ◌∷◌, ◌++◌, length, nat_eq, not, IsTrue, IfOk};
+    ghost use Rattle.std.specs.List.{list_any};
+
+    /// No ids yet.
+    pub fn new(alloc: Global) -> SinkIds
+        ensures { result ≡ [] }
+    {
+        SinkIds {
+            ids: IndexSet::new(alloc),
+        }
+    }
+
+    /// How many ids there are.
+    pub fn len(&self) -> usize
+        ensures { result ≡ length self.now }
+    {
+        self.ids.len()
+    }
+
+    /// Adds an id, and says whether it is new. One that is there already changes nothing.
+    pub fn insert(&mut self, id: u32) -> Result<bool, NoMemory>
+        ensures new { IfOk result (λ is_new. is_new ≡ not (list_any (nat_eq id) self.old)) }
+        ensures added { IfOk result (λ is_new. IsTrue is_new → self.new ≡ self.old ++ id ∷ []) }
+    {
+        let (_, is_new) = self.ids.insert_full(id)?;
+        Ok(is_new)
+    }
+}

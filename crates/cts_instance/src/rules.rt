@@ -1,0 +1,145 @@
+//! The rules of the lines of an instance, as tests of one line each.
+
+ghost use Rattle.std.specs.Prelude.{◌≡◌, not};
+ghost use Rattle.std.specs.List.{list_all};
+ghost use Rattle.cts_instance.specs.Tests.{is_between, is_strictly_between, is_side, is_die, is_in_die, is_inside, is_bounded, is_wire, is_limits, is_buffer, is_sink, is_upright, is_block_in_die, has_room, is_empty, is_clear};
+
+use crate::counts::BlockCounts;
+use cts_block::{Block, Kind};
+use cts_geom::Die;
+use cts_units::{Buffer, Sink, Wire};
+
+/// The greatest coordinate of a die, in nm.
+const GREATEST_COORDINATE: i64 = 100_000_000;
+/// Where numbers without a limit of their own end, in their unit.
+const NUMBER_END: u64 = 1_000_000_000_000_000_000;
+/// The greatest resistance in µΩ and capacitance in zF of one nm of wire.
+const GREATEST_WIRE: u64 = 1_000_000;
+/// The greatest input capacitance of a sink or a buffer, in zF.
+const GREATEST_CAPACITANCE: u64 = 1_000_000_000_000;
+const GREATEST_ID: u32 = 999_999_999;
+const BUFFER_BLOCKS: u32 = 4_096;
+const ALL_BLOCKS: u32 = 64;
+
+#[tactic(auto, unfolding(crate::specs::Tests::is_between))]
+fn is_between(low: i64, high: i64, z: i64) -> bool
+    ensures { result ≡ is_between low high z }
+{
+    low <= z && z <= high
+}
+
+#[tactic(auto, unfolding(crate::specs::Tests::is_strictly_between))]
+fn is_strictly_between(low: i64, high: i64, z: i64) -> bool
+    ensures { result ≡ is_strictly_between low high z }
+{
+    low < z && z < high
+}
+
+#[tactic(auto, unfolding(crate::specs::Tests::is_side))]
+fn is_side(low: i64, high: i64) -> bool
+    ensures { result ≡ is_side low high }
+{
+    is_between(0, high, low) && high <= GREATEST_COORDINATE
+}
+
+#[tactic(auto, unfolding(crate::specs::Tests::is_die))]
+pub fn is_die(die: &Die) -> bool
+    ensures { result ≡ is_die die.now }
+{
+    is_side(die.x1, die.x2) && is_side(die.y1, die.y2)
+}
+
+#[tactic(auto, unfolding(crate::specs::Tests::is_in_die))]
+pub fn is_in_die(die: &Die, x: i64, y: i64) -> bool
+    ensures { result ≡ is_in_die die.now x y }
+{
+    is_between(die.x1, die.x2, x) && is_between(die.y1, die.y2, y)
+}
+
+#[tactic(auto, unfolding(crate::specs::Tests::is_inside))]
+fn is_inside(block: &Block, x: i64, y: i64) -> bool
+    ensures { result ≡ is_inside block.now x y }
+{
+    is_strictly_between(block.x1, block.x2, x) && is_strictly_between(block.y1, block.y2, y)
+}
+
+pub fn is_bounded(number: u64) -> bool
+    ensures { result ≡ is_bounded number }
+{
+    number < NUMBER_END
+}
+
+#[tactic(auto, unfolding(crate::specs::Tests::is_wire))]
+pub fn is_wire(wire: Wire) -> bool
+    ensures { result ≡ is_wire wire }
+{
+    1 <= wire.r && wire.r <= GREATEST_WIRE && 1 <= wire.c && wire.c <= GREATEST_WIRE
+}
+
+#[tactic(auto, unfolding(crate::specs::Tests::is_limits))]
+pub fn is_limits(insert_at: u64, load: u64, slew: u64) -> bool
+    ensures { result ≡ is_limits insert_at load slew }
+{
+    is_bounded(insert_at) && is_bounded(load) && is_bounded(slew)
+}
+
+#[tactic(auto, unfolding(crate::specs::Tests::is_buffer))]
+pub fn is_buffer(buffer: &Buffer) -> bool
+    ensures { result ≡ is_buffer buffer.now }
+{
+    buffer.cin <= GREATEST_CAPACITANCE && is_bounded(buffer.rout) && is_bounded(buffer.intrinsic)
+}
+
+#[tactic(auto, unfolding(crate::specs::Tests::is_sink))]
+pub fn is_sink(sink: &Sink) -> bool
+    ensures { result ≡ is_sink sink.now }
+{
+    sink.id <= GREATEST_ID && sink.cap <= GREATEST_CAPACITANCE
+}
+
+#[tactic(auto, unfolding(crate::specs::Tests::is_upright))]
+pub fn is_upright(block: &Block) -> bool
+    ensures { result ≡ is_upright block.now }
+{
+    block.x1 <= block.x2 && block.y1 <= block.y2
+}
+
+#[tactic(auto, unfolding(crate::specs::Tests::is_block_in_die))]
+pub fn is_block_in_die(die: &Die, block: &Block) -> bool
+    ensures { result ≡ is_block_in_die die.now block.now }
+{
+    is_in_die(die, block.x1, block.y1) && is_in_die(die, block.x2, block.y2)
+}
+
+#[tactic(auto, unfolding(crate::specs::Tests::has_room))]
+pub fn has_room(counts: BlockCounts, kind: Kind) -> bool
+    ensures { result ≡ has_room counts kind }
+{
+    match kind {
+        Kind::Buffer => counts.buffer < BUFFER_BLOCKS,
+        Kind::All => counts.all < ALL_BLOCKS,
+    }
+}
+
+fn has_no_sink_inside(block: &Block, sinks: &[Sink]) -> bool
+    ensures { result ≡ list_all (λ sink. not (is_inside block.now sink.x sink.y)) sinks.now }
+{
+    sinks.iter().all(|sink| !is_inside(block, sink.x, sink.y))
+}
+
+#[tactic(auto, unfolding(crate::specs::Tests::is_empty))]
+fn is_empty(block: &Block, x: i64, y: i64, sinks: &[Sink]) -> bool
+    ensures { result ≡ is_empty x y sinks.now block.now }
+{
+    !is_inside(block, x, y) && has_no_sink_inside(block, sinks)
+}
+
+#[tactic(auto, unfolding(crate::specs::Tests::is_clear))]
+pub fn is_clear(block: &Block, x: i64, y: i64, sinks: &[Sink]) -> bool
+    ensures { result ≡ is_clear x y sinks.now block.now }
+{
+    match block.kind {
+        Kind::Buffer => true,
+        Kind::All => is_empty(block, x, y, sinks),
+    }
+}
