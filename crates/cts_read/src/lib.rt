@@ -1,4 +1,10 @@
 //! Reading instances from text.
 #![tactic(auto)]
 
+mod cursor;
+mod fields;
+mod header;
+mod stop;
 mod words;
+
+pub use stop::{Cause, ReadStop};
