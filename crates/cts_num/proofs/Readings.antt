@@ -27,6 +27,12 @@ no_whole v e r p n a t a0 d pos less lo hi value sum last =
     let w : a ≡ v * e * 10 = (same_from_place a t (v * e * 10) 0 r less (omega arith) z).0 in
     omega (arith, w, last)
 
+units : (e r p : ℕ) → 10 ^ (e + suc r + p) ≡ 10 ^ e * (10 ^ r * 10) * 10 ^ p
+units e r p = pow-add 10 (e + suc r) p ∙ ap (λ x. x * 10 ^ p) (pow-add 10 e (suc r) ∙ ap (λ x. 10 ^ e * x) (pow-suc 10 r))
+
+value_by_units : (v n k e r p : ℕ) → k ≡ e + suc r + p → v * 10 ^ k ≡ n * 10 ^ p → v * (10 ^ e * (10 ^ r * 10) * 10 ^ p) ≡ n * 10 ^ p
+value_by_units v n k e r p h value = rw (← units e r p, ← h) value
+
 pub fine_is_no_value : (text : List ℕ) (places at v : ℕ) → IsFirstTooFine text places at → IsDecimal text places v → ⊥
 fine_is_no_value text places at v f h =
     let q = point_place text in
@@ -42,12 +48,9 @@ fine_is_no_value text places at v f h =
     let more = digit_number_more text at inside d in
     let extra = at - q - places - 1 in
     let k : fraction_length text ≡ extra + suc r + places = omega (arith, fraction_length_is text) in
-    let unit : 10 ^ (extra + suc r + places) ≡ 10 ^ extra * (10 ^ r * 10) * 10 ^ places =
-    pow-add 10 (extra + suc r) places ∙ ap (λ p. p * 10 ^ places) (pow-add 10 extra (suc r) ∙ ap (λ p. 10 ^ extra * p) (pow-suc 10 r)) in
-    let value : v * (10 ^ extra * (10 ^ r * 10) * 10 ^ places) ≡ digit_number text * 10 ^ places =
-    ap (λ p. v * p) (sym unit) ∙ ap (λ j. v * 10 ^ j) (sym k) ∙ h.value_is in
+    let value = value_by_units v (digit_number text) (fraction_length text) extra r places k h.value_is in
     no_whole v (10 ^ extra) (10 ^ r) (10 ^ places) (digit_number text) (digit_number (take (at + 1) text)) rest.rest (digit_number (take at text)) (get_or text at 0 - 48)
-    (ten_pos places) rest.less (omega (arith, d.0, f.fine)) (omega (arith, d.1)) value (sym n ∙ rest.sum) more
+    (ten_pos places) rest.less (omega (arith, d.0, f.fine)) (omega (arith, d.1)) value (rw n at rest.sum) more
 
 -- two readings are one
 

@@ -1,5 +1,5 @@
 -- What each part of reading a decimal text shows of the text.
-use Rattle.std.proofs.Common.{◌≡◌, ◌≢◌, ℕ, ◌+◌, ◌-◌, ◌*◌, ◌^◌, ◌<◌, ◌≤◌, min, List, length, get_or, take, sym, ap, ◌∙◌, inl, inr, ⊎_elim, arith, Result, Ok, Err, MatchResult, mul-le-mul_right}
+use Rattle.std.proofs.Common.{◌≡◌, ◌≢◌, ℕ, ◌+◌, ◌-◌, ◌*◌, ◌^◌, ◌<◌, ◌≤◌, min, List, length, get_or, take, sym, ap, ◌∙◌, inl, inr, ⊎_elim, arith, Result, Ok, Err, MatchResult, mul-le-mul_right, pow-suc, mul-le-mul_left, suc, subst}
 use Rattle.std.proofs.Math.Nat.{pow-zero}
 use Rattle.std.proofs.lemmas.Nat.{pow-add}
 use Rattle.std.proofs.lemmas.Bool.{cases_lt}
@@ -9,14 +9,29 @@ use Rattle.cts_num.specs.Reading.{fraction_length, IsGoodByte, IsDecimal, IsFirs
 use Rattle.cts_num.specs.declared.read.DecimalFault.{DecimalFault}
 use Rattle.cts_num.specs.declared.read.DecimalFault.TheVariants.{Empty, BadByte, TooFine, TooGreat}
 use Rattle.cts_num.proofs.Texts.{ten_pos}
-use Rattle.cts_num.proofs.Fronts.{AllDigitsIn, AllZerosIn, HasPoint, point_place_is, point_place_none, byte_at_point, fraction_length_is, digit_number-all, digit_number_zeros}
+use Rattle.cts_num.proofs.Fronts.{digit_number_rest, AllDigitsIn, AllZerosIn, HasPoint, point_place_is, point_place_none, byte_at_point, fraction_length_is, digit_number-all, digit_number_zeros}
 
 -- a number kept below a limit, with one more digit
 pub capped_below : (n d number : ℕ) → number ≡ min n (10 ^ 18) → number * 10 + d < 10 ^ 18 → number * 10 + d ≡ min (n * 10 + d) (10 ^ 18)
 capped_below n d number e h = omega arith
 
-pub capped_above : (n d number : ℕ) → number ≡ min n (10 ^ 18) → 10 ^ 18 ≤ number * 10 + d → 10 ^ 18 ≡ min (n * 10 + d) (10 ^ 18)
-capped_above n d number e h = omega arith
+digit_first : (text : List ℕ) (i end : ℕ) → IsAsciiDigit (get_or text i 0) → ((k : ℕ) → i + 1 ≤ k → k < end → IsAsciiDigit (get_or text k 0)) → AllDigitsIn text i end
+digit_first text i end here next = record {
+    each = λ k lo hi. ⊎_elim (λ lt. let e : i ≡ k = omega arith in subst (λ j. IsAsciiDigit (get_or text j 0)) e here) (λ le. next k le hi) (cases_lt k (i + 1));
+  }
+
+pub capped_rest : (text : List ℕ) (i end number : ℕ) → i < end → end ≤ length text → IsAsciiDigit (get_or text i 0) → ((k : ℕ) → i + 1 ≤ k → k < end → IsAsciiDigit (get_or text k 0)) → number ≡ min (digit_number (take i text)) (10 ^ 18) → 10 ^ 17 ≤ number → 10 ^ 18 ≡ min (digit_number (take end text)) (10 ^ 18)
+capped_rest text i end number lt le here next e large =
+    let digits = digit_first text i end here next in
+    let j = end - i - 1 in
+    let whole : i + suc j ≡ end = omega arith in
+    let front = digit_number (take i text) in
+    let rest = digit_number_rest text i (suc j) (omega arith) (record { each = λ k lo hi. digits.each k lo (omega arith); }) in
+    let one = ten_pos j in
+    let more : front * 10 * 1 ≤ front * 10 * 10 ^ j = mul-le-mul_left (front * 10) one in
+    let unit : front * 10 ^ suc j ≡ front * 10 * 10 ^ j = ap (λ x. front * x) (pow-suc 10 j) ∙ omega arith in
+    let n : digit_number (take (i + suc j) text) ≡ digit_number (take end text) = ap (λ k. digit_number (take k text)) whole in
+    omega (arith, rest.sum, n, unit, more)
 
 -- one more index of a range
 pub range_more : (P : ℕ → Type 0) (i j : ℕ) → ((k : ℕ) → i ≤ k → k < j → P k) → P j → (k : ℕ) → i ≤ k → k < j + 1 → P k
@@ -32,7 +47,7 @@ bad_before_point text at inside digits bad other = record {
   first = λ k lt. inl (digits.each k (omega arith) lt);
 }
 
-good_around_point : (text : List ℕ) (q at : ℕ) → HasPoint text q → AllDigitsIn text (q + 1) at → (k : ℕ) → k < at → IsGoodByte text k
+pub good_around_point : (text : List ℕ) (q at : ℕ) → HasPoint text q → AllDigitsIn text (q + 1) at → (k : ℕ) → k < at → IsGoodByte text k
 good_around_point text q at point digits k lt =
     ⊎_elim (λ before. inl (point.before k before))
     (λ le. ⊎_elim (λ after. inl (digits.each k (omega arith) lt)) (λ ge. let e : k ≡ q = omega arith in inr (e ∙ sym (point_place_is text q point))) (cases_lt q k))

@@ -1,9 +1,9 @@
 -- What a text says as a decimal number, or the first fault in it. An own format of this project: a
 -- decimal text has digits, at most one point and at least one digit; there is no sign and no
 -- exponent. Its value counts units of 10^-places.
-use Rattle.std.specs.Prelude.{◌≡◌, ◌≢◌, ◌⊎◌, ℕ, ◌+◌, ◌*◌, ◌^◌, ◌<◌, ◌≤◌, Bool, List, [], length, slice_index, codes, ◌==◌, Result, Ok, Err, EachIndex, SomeIndex}
-use Rattle.std.specs.Char.{IsAsciiDigit}
-use Rattle.std.specs.List.{position_or_len, after_first}
+use Rattle.std.specs.Prelude.{◌≡◌, ◌≢◌, ◌⊎◌, ℕ, ◌+◌, ◌*◌, ◌/◌, ◌^◌, ◌<◌, ◌≤◌, Bool, true, false, List, [], ◌∷◌, drop, if◌then◌else◌, nat_lt, length, slice_index, codes, ◌==◌, Result, Ok, Err, EachIndex, SomeIndex}
+use Rattle.std.specs.Char.{IsAsciiDigit, is_ascii_digit}
+use Rattle.std.specs.List.{position_or_len, after_first, prefix_len}
 use Rattle.cts_num.specs.Number.{digit_number}
 use Rattle.cts_num.specs.declared.read.DecimalFault.{DecimalFault}
 use Rattle.cts_num.specs.declared.read.DecimalFault.TheVariants.{Empty, BadByte, TooFine, TooGreat}
@@ -55,6 +55,41 @@ IsReading text places (Err Empty) = IsEmptyDecimal text
 IsReading text places (Err (BadByte at)) = IsFirstBadByte text at
 IsReading text places (Err (TooFine at)) = IsFirstTooFine text places at
 IsReading text places (Err TooGreat) = (value : ℕ) × IsDecimal text places value × (10 ^ 18 ≤ value)
+
+-- where the first byte stands that is neither a digit nor the first point; a place past the end where
+-- there is none
+unfoldable pub bad_place : List ℕ → ℕ
+bad_place text =
+    let front = prefix_len is_ascii_digit text in
+    if front == point_place text then front + 1 + prefix_len is_ascii_digit (drop (front + 1) text) else front
+
+-- where the first byte past the places stands that is not `0`; a place past the end where there is none
+unfoldable pub fine_place : List ℕ → ℕ → ℕ
+fine_place text places =
+    let kept = point_place text + 1 + places in kept + prefix_len (λ byte. byte == 48) (drop kept text)
+
+abbrev pub is_empty_decimal : List ℕ → Bool
+is_empty_decimal [] = true
+is_empty_decimal (byte ∷ []) = is_point byte
+is_empty_decimal (byte ∷ next ∷ rest) = false
+
+abbrev pub below_limit : ℕ → Result ℕ DecimalFault
+below_limit value = if nat_lt value (10 ^ 18) then Ok value else Err TooGreat
+
+-- the answer of `IsReading` as a function, for grammars that are functions of the text
+unfoldable pub reading_of : List ℕ → ℕ → Result ℕ DecimalFault
+reading_of text places =
+    if is_empty_decimal text
+    then Err Empty
+    else (
+      if nat_lt (bad_place text) (length text)
+      then Err (BadByte (bad_place text))
+      else (
+        if nat_lt (fine_place text places) (length text)
+        then Err (TooFine (fine_place text places))
+        else below_limit (digit_number text * 10 ^ places / 10 ^ fraction_length text)
+      )
+    )
 
 -- a fault from `from` on: the first byte that is no digit, or where there is none the first digit
 -- that is not 0

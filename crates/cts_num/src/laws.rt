@@ -1,5 +1,5 @@
 // What holds of every decimal text, as laws that proofs cite.
-ghost use Rattle.cts_num.specs.Laws.{DecimalIsReadBack, ReadingIsUnique, ValueIsUnique};
+ghost use Rattle.cts_num.specs.Laws.{DecimalIsReadBack, ReadingIsComputed, ReadingIsUnique, ValueIsUnique, WrittenIsRead};
 
 /// A text writes at most one value at each number of places.
 pub fn value_is_unique()
@@ -11,7 +11,18 @@ pub fn reading_is_unique()
     ensures { ReadingIsUnique }
 {}
 
+/// Every text has a reading at each number of places.
+pub fn reading_is_computed()
+    ensures { ReadingIsComputed }
+{}
+
 /// The canonical text of a value is read as that value.
 pub fn decimal_is_read_back()
     ensures { DecimalIsReadBack }
+{}
+
+/// The canonical text of a value below 10^18 is read, at the places at which it was written, as
+/// that value and no fault.
+pub fn written_is_read()
+    ensures { WrittenIsRead }
 {}

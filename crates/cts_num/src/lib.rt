@@ -12,6 +12,8 @@ mod read;
 mod write;
 
 pub use error::NoMemory;
-pub use laws::{decimal_is_read_back, reading_is_unique, value_is_unique};
+pub use laws::{
+    decimal_is_read_back, reading_is_computed, reading_is_unique, value_is_unique, written_is_read,
+};
 pub use read::{DecimalFault, read_decimal};
 pub use write::{Digits, decimal};

@@ -2,7 +2,7 @@
 ghost use Rattle.std.specs.Prelude.{◌≡◌, ◌≢◌, ◌↔◌, ℕ, ◌+◌, ◌-◌, ◌*◌, ◌^◌, ◌<◌, ◌≤◌, min, length, take, slice_index, OnOk, IfErr, MatchResult};
 ghost use Rattle.std.specs.Char.{IsAsciiDigit};
 ghost use Rattle.cts_num.specs.Number.{digit_number};
-ghost use Rattle.cts_num.specs.Reading.{IsDecimal, IsEmptyDecimal, IsFirstBadByte, IsFirstTooFine, IsReading, IsTailFault};
+ghost use Rattle.cts_num.specs.Reading.{IsDecimal, IsEmptyDecimal, IsFirstBadByte, IsFirstTooFine, IsReading, IsTailFault, reading_of};
 
 use crate::powers::POWERS_OF_TEN;
 
@@ -31,6 +31,7 @@ const LIMIT: u64 = 1_000_000_000_000_000_000;
 pub fn read_decimal(text: &[u8], places: u32) -> Result<u64, DecimalFault>
     requires { places ≤ 16 }
     ensures reading { IsReading text.now places result }
+    ensures same { result ≡ reading_of text.now places }
     ensures ok { (value : ℕ)
         → (result ≡ Ok value) ↔ (IsDecimal text.now places value × (value < 10 ^ 18)) }
     ensures empty { (result ≡ Err DecimalFault.Empty) ↔ IsEmptyDecimal text.now }
@@ -91,11 +92,29 @@ fn read_digits(text: &[u8], from: usize, to: usize, front: u64) -> (u64, usize)
     let mut number = front;
     let mut at = from;
     while at < to && text[at].is_ascii_digit() {
-        let next = number * 10 + u64::from(text[at] - b'0');
-        number = if next < LIMIT { next } else { LIMIT };
+        if number >= LIMIT / 10 {
+            return (LIMIT, digits_end(text, at + 1, to));
+        }
+        number = number * 10 + u64::from(text[at] - b'0');
         at += 1;
     }
     (number, at)
+}
+
+// Where the digits from `from` to before `to` end.
+fn digits_end(text: &[u8], from: usize, to: usize) -> usize
+    requires from { from ≤ to }
+    requires to { to ≤ length text.now }
+    ensures from { from ≤ result }
+    ensures to { result ≤ to }
+    ensures digits { (k : ℕ) → from ≤ k → k < result → IsAsciiDigit (slice_index text.now k) }
+    ensures stop { result < to → ¬ IsAsciiDigit (slice_index text.now result) }
+{
+    let mut at = from;
+    while at < to && text[at].is_ascii_digit() {
+        at += 1;
+    }
+    at
 }
 
 // Past the places only zeros may follow.
@@ -109,10 +128,7 @@ fn check_tail(text: &[u8], from: usize) -> Result<(), DecimalFault>
     while fine < text.len() && text[fine] == b'0' {
         fine += 1;
     }
-    let mut bad = fine;
-    while bad < text.len() && text[bad].is_ascii_digit() {
-        bad += 1;
-    }
+    let bad = digits_end(text, fine, text.len());
     if bad < text.len() {
         Err(DecimalFault::BadByte { at: bad })
     } else if fine < text.len() {

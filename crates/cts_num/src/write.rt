@@ -13,6 +13,14 @@ const CHUNK: usize = 18;
 
 const CHUNK_SCALE: u128 = 1_000_000_000_000_000_000;
 
+// One at the greatest number of places.
+const FINEST: u64 = 10_000_000_000_000_000;
+
+// 2^64 is `HIGH_WHOLE * FINEST + HIGH_REST`.
+const HIGH_WHOLE: u64 = 1_844;
+
+const HIGH_REST: u64 = 6_744_073_709_551_616;
+
 // The numbers from 00 to 99.
 static PAIRS: [u8; 200] =
     *b"00010203040506070809101112131415161718192021222324252627282930313233343536373839404142434445464748495051525354555657585960616263646566676869707172737475767778798081828384858687888990919293949596979899";
@@ -51,35 +59,70 @@ pub fn decimal(value: u128, places: u32) -> Digits
     ensures text { result ≡ decimal_text places value }
     ensures short { length result ≤ 39 }
 {
-    let mut buffer = [0; CAPACITY];
-    if places == 0 {
-        let start = write_whole(value, &mut buffer, CAPACITY);
-        return Digits { buffer, start };
-    }
-    let width = places as usize;
-    let (whole, fraction) = split(value, width);
-    let point = CAPACITY - width - 1;
-    write_padded(fraction, width, &mut buffer, CAPACITY);
-    buffer[point] = b'.';
-    let start = write_whole(whole, &mut buffer, point);
-    Digits { buffer, start }
+    let mut digits = Digits {
+        buffer: [0; CAPACITY],
+        start: CAPACITY,
+    };
+    digits.start = write_decimal(value, places as usize, &mut digits.buffer);
+    digits
 }
 
-// The whole part and the fraction at `places` decimal places.
+// Writes the text so that it ends with the buffer, and returns where it starts.
+fn write_decimal(value: u128, places: usize, buffer: &mut [u8]) -> usize
+    requires value { value < 10 ^ 38 }
+    requires places { places ≤ 16 }
+    requires buffer { length buffer.old ≡ CAPACITY }
+    ensures start { result ≤ CAPACITY }
+    ensures written { drop result buffer.new ≡ decimal_text places value }
+{
+    if places == 0 {
+        return write_whole(value, buffer, CAPACITY);
+    }
+    let (whole, fraction) = split(value, places);
+    let point = CAPACITY - places - 1;
+    write_padded(fraction, places, buffer, CAPACITY);
+    buffer[point] = b'.';
+    write_whole(whole, buffer, point)
+}
+
+// The whole part and the fraction at `places` decimal places. One word is divided fast, and
+// fastest by a constant, so the usual numbers of places have arms of their own.
 fn split(value: u128, places: usize) -> (u128, u64)
     requires { places ≤ 16 }
     ensures whole { result.0 ≡ value / 10 ^ places }
     ensures fraction { result.1 ≡ value % 10 ^ places }
 {
-    let scale = POWERS_OF_TEN[places];
-    if value <= u128::from(u64::MAX) {
-        // Division of one word is far quicker.
-        let word = value as u64;
-        (u128::from(word / scale), word % scale)
-    } else {
-        let scale = u128::from(scale);
-        (value / scale, (value % scale) as u64)
+    if value > u128::from(u64::MAX) {
+        return split_wide(value, places);
     }
+    let word = value as u64;
+    let (whole, fraction) = match places {
+        3 => (word / 1_000, word % 1_000),
+        4 => (word / 10_000, word % 10_000),
+        6 => (word / 1_000_000, word % 1_000_000),
+        16 => (word / FINEST, word % FINEST),
+        _ => (word / POWERS_OF_TEN[places], word % POWERS_OF_TEN[places]),
+    };
+    (u128::from(whole), fraction)
+}
+
+// As `split`, for a value of two words. At 16 places a small high word is turned into units of
+// 10^16 and a rest, without the slow division of two words.
+fn split_wide(value: u128, places: usize) -> (u128, u64)
+    requires { places ≤ 16 }
+    ensures whole { result.0 ≡ value / 10 ^ places }
+    ensures fraction { result.1 ≡ value % 10 ^ places }
+{
+    let high = value >> 64;
+    if places == 16 && high < 1024 {
+        let high = high as u64;
+        let low = (value & u128::from(u64::MAX)) as u64;
+        let rest = high * HIGH_REST + low % FINEST;
+        let whole = high * HIGH_WHOLE + low / FINEST + rest / FINEST;
+        return (u128::from(whole), rest % FINEST);
+    }
+    let scale = u128::from(POWERS_OF_TEN[places]);
+    (value / scale, (value % scale) as u64)
 }
 
 // Writes the digits so that they end at `end`, and returns where they start.
@@ -171,7 +214,7 @@ mod tests {
     #[test]
     fn writes_canonical_text(rt: HostRuntime) {
         let greatest = 10u128.pow(38) - 1;
-        let rows: [(u128, u32, &[u8]); 16] = [
+        let rows: [(u128, u32, &[u8]); 19] = [
             (0, 0, b"0"),
             (0, 3, b"0.000"),
             (0, 16, b"0.0000000000000000"),
@@ -186,6 +229,13 @@ mod tests {
             (11 * 119_000_000_000_000, 16, b"0.1309000000000000"),
             (50, 16, b"0.0000000000000050"),
             (1_415_060_000_000_000_000, 16, b"141.5060000000000000"),
+            (18_446_744_073_709_551_615, 6, b"18446744073709.551615"),
+            (18_446_744_073_709_551_616, 16, b"1844.6744073709551616"),
+            (
+                18_889_465_931_478_580_854_784,
+                16,
+                b"1888946.5931478580854784",
+            ),
             (greatest, 0, b"99999999999999999999999999999999999999"),
             (greatest, 16, b"9999999999999999999999.9999999999999999"),
         ];

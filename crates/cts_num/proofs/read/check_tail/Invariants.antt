@@ -11,13 +11,3 @@ invariant-loop-fine l = record {
 
 abbrev pub decreases-loop-fine : goal.decreases-loop-fine
 decreases-loop-fine l = length l.text - l.fine
-
-abbrev pub invariant-loop-bad : goal.invariant-loop-bad
-invariant-loop-bad l = record {
-  from : l.fine ≤ l.bad;
-  to : l.bad ≤ length l.text;
-  digits : (k : ℕ) → l.fine ≤ k → k < l.bad → IsAsciiDigit (slice_index l.text k);
-}
-
-abbrev pub decreases-loop-bad : goal.decreases-loop-bad
-decreases-loop-bad l = length l.text - l.bad
