@@ -1,4 +1,5 @@
 pub mod Faults
+pub mod Lines
 pub mod Memory
 pub mod Pending
 pub mod Taken

@@ -2,6 +2,7 @@
 #![tactic(auto)]
 
 mod buffer;
+mod cursor;
 mod device;
 mod host;
 mod memory;
@@ -9,6 +10,7 @@ mod read;
 mod write;
 
 pub use buffer::SinkBuffer;
+pub use cursor::Lines;
 pub use device::{ByteSink, ByteSource, Failed};
 pub use host::{HostSink, HostSource};
 pub use memory::{MemSink, MemSource};

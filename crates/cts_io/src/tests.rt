@@ -2,7 +2,7 @@ ghost use Rattle.std.specs.Prelude.{◌≡◌, ◌++◌, codes, Ok, Err};
 ghost use Rattle.cts_io.specs.Text.{Puts, Writes};
 
 use crate::{
-    ByteSink, ByteSource, HostSink, HostSource, MemSink, MemSource, ReadEnd, SinkBuffer, WriteEnd,
+    ByteSink, HostSink, HostSource, Lines, MemSink, MemSource, ReadEnd, SinkBuffer, WriteEnd,
     read_all, write_all,
 };
 use std::io;
@@ -176,6 +176,37 @@ fn writes_through_a_buffer(rt: HostRuntime) -> Result<(), Fail> {
         }
         assert_eq!(rt; sink.bytes().len(), written);
         assert!(rt; sink.calls() <= 7);
+    }
+    Ok(())
+}
+
+#[test]
+fn gives_lines(rt: HostRuntime) -> Result<(), Fail> {
+    // Each text behind line 6, its lines with a bar behind each, and the number of its last line.
+    let cases: [(&[u8], &[u8], u32); 9] = [
+        (b"", b"", 6),
+        (b"cts 1\nend", b"cts 1|end|", 8),
+        (b"cts 1\r\nend\r\n", b"cts 1|end|", 8),
+        (b"a\n\nb\n", b"a||b|", 9),
+        (b"\n\r", b"||", 8),
+        (b"end\r", b"end|", 7),
+        (b"end\r\r", b"end\r|", 7),
+        (b"x\r\r\n", b"x\r|", 7),
+        (b"a\rb \r \n", b"a\rb \r |", 7),
+    ];
+    for (text, want, last) in cases {
+        let mut lines = Lines::new(text, 6);
+        let mut got = Vec::new(rt.alloc());
+        for number in 7..10 {
+            if let Some((at, line)) = lines.next() {
+                assert_eq!(rt; at, number);
+                got.extend_from_slice(line)?;
+                got.push(b'|')?;
+            }
+        }
+        assert_eq!(rt; got.as_slice(), want);
+        assert_eq!(rt; lines.line(), last);
+        assert!(rt; lines.rest().is_empty());
     }
     Ok(())
 }
