@@ -1,5 +1,5 @@
 // The lines of a text, by a cursor.
-ghost use Rattle.std.specs.Prelude.{◌≡◌, ℕ, List, [], ◌∷◌, ◌++◌, ◌+◌, ◌^◌, ◌<◌, ◌≤◌, ◌↔◌, ◌==◌, length, position, IsNone, IfNone, IfSome};
+ghost use Rattle.std.specs.Prelude.{◌≡◌, ℕ, List, [], ◌∷◌, ◌++◌, ◌+◌, ◌-◌, ◌^◌, ◌<◌, ◌≤◌, ◌↔◌, ◌==◌, length, position, IsNone, IfNone, IfSome};
 ghost use Rattle.cts_io.specs.Lines.{lines_of, pieces_of, IsLineEnd, without_cr as cut_line};
 
 use std::marker::Model;
@@ -16,14 +16,14 @@ pub struct Lines<'a> {
 }
 
 impl<'a> Model for Lines<'a> {
-    ghost use Rattle.std.specs.Prelude.{◌+◌, ◌<◌, ◌^◌, length};
+    ghost use Rattle.std.specs.Prelude.{◌+◌, ◌-◌, ◌<◌, ◌^◌, length};
     ghost use Rattle.cts_io.specs.Lines.{LinesLeft};
 
     ghost Value = { LinesLeft };
 
     ghost view = { λ s. record { rest = s.rest.now; line = s.line } };
 
-    ghost invariant = { λ s. s.line + length s.rest.now < 2 ^ 32 };
+    ghost invariant = { λ s. s.line + length s.rest.now < 2 ^ 32 - 1 };
 }
 
 impl<'a> Lines<'a> {
@@ -66,7 +66,8 @@ impl<'a> Lines<'a> {
 
     /// The number of the line given last, or of the line before the first.
     pub fn line(&self) -> u32
-        ensures { result ≡ self.now.line }
+        ensures line { result ≡ self.now.line }
+        ensures bound { result < 2 ^ 32 - 1 }
     {
         self.line
     }

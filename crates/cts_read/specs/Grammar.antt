@@ -3,7 +3,7 @@ use Rattle.std.specs.Prelude.{◌≡◌, ℕ, ◌+◌, Bool, not, nat_eq, if◌t
 use Rattle.std.specs.Str.{bytes_eq}
 use Rattle.cts_io.specs.Lines.{LinesLeft, lines_of}
 use Rattle.cts_num.specs.declared.read.DecimalFault.{DecimalFault}
-use Rattle.cts_num.specs.ReadingOf.{reading_of}
+use Rattle.cts_num.specs.Reading.{reading_of}
 use Rattle.cts_instance.specs.declared.fault.Fault.{Fault as InstanceFault}
 use Rattle.cts_read.specs.declared.stop.Cause.{Cause}
 use Rattle.cts_read.specs.declared.stop.Cause.TheVariants.{NotAscii, Word, Count, Number, Missing, Fault}

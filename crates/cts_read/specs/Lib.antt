@@ -1,3 +1,4 @@
 pub mod Lines
 pub mod Grammar
 pub mod Header
+pub mod Items

@@ -4,6 +4,7 @@
 mod cursor;
 mod fields;
 mod header;
+mod items;
 mod stop;
 mod words;
 
