@@ -1,2 +1,4 @@
 pub mod Contents
+pub mod Counts
+pub mod ListSteps
 pub mod WordLists

@@ -92,3 +92,8 @@ Gives view (Err stop) left read = Refuses stop read
 abbrev pub Finds : {X Y : Type 0} → (X → Y) → Result X Cause → Result Y Cause → Type 0
 Finds view (Ok x) read = read ≡ Ok (view x)
 Finds view (Err cause) read = read ≡ Err cause
+
+-- a cause gets the number of its line
+abbrev pub AtLine : {A : Type 0} → ℕ → Result A Cause → Result A ReadStop → Type 0
+AtLine line (Ok x) result = result ≡ Ok x
+AtLine line (Err cause) result = result ≡ Err (Refused line cause)

@@ -2,3 +2,4 @@ pub mod Lines
 pub mod Grammar
 pub mod Header
 pub mod Items
+pub mod Whole

@@ -22,27 +22,30 @@ fn count_of(key: &[u8], line: &[u8]) -> Result<usize, Cause>
     Ok(count as usize)
 }
 
-#[tactic(auto, unfolding(crate::specs::Items::buffer_count_of))]
+#[tactic(auto, unfolding(crate::specs::Items::buffer_count_of), using(crate::proofs::Counts::buffer_count_small))]
 pub fn buffer_count_of(line: &[u8]) -> Result<usize, Cause>
-    ensures { result ≡ buffer_count_of line.now }
+    ensures read { result ≡ buffer_count_of line.now }
+    ensures bound { IfOk result (λ count. count < 2 ^ 32) }
 {
     let count = count_of(b"buffers", line)?;
     refuse(buffer_count_fault(count))?;
     Ok(count)
 }
 
-#[tactic(auto, unfolding(crate::specs::Items::sink_count_of))]
+#[tactic(auto, unfolding(crate::specs::Items::sink_count_of), using(crate::proofs::Counts::sink_count_small))]
 pub fn sink_count_of(line: &[u8]) -> Result<usize, Cause>
-    ensures { result ≡ sink_count_of line.now }
+    ensures read { result ≡ sink_count_of line.now }
+    ensures bound { IfOk result (λ count. count < 2 ^ 32) }
 {
     let count = count_of(b"sinks", line)?;
     refuse(sink_count_fault(count))?;
     Ok(count)
 }
 
-#[tactic(auto, unfolding(crate::specs::Items::block_count_of))]
+#[tactic(auto, unfolding(crate::specs::Items::block_count_of), using(crate::proofs::Counts::block_count_small))]
 pub fn block_count_of(line: &[u8]) -> Result<usize, Cause>
-    ensures { result ≡ block_count_of line.now }
+    ensures read { result ≡ block_count_of line.now }
+    ensures bound { IfOk result (λ count. count < 2 ^ 32) }
 {
     let count = count_of(b"blocks", line)?;
     refuse(block_count_fault(count))?;

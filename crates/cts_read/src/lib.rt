@@ -5,6 +5,8 @@ mod cursor;
 mod fields;
 mod header;
 mod items;
+mod lists;
+mod read;
 mod stop;
 mod words;
 

@@ -1,0 +1,148 @@
+//! A whole instance, and what may follow it.
+
+ghost use Rattle.std.specs.Prelude.{◌≡◌, ◌<◌, ◌≤◌, ◌^◌, None, Ok, IfOk, length, drop, MatchResult};
+ghost use Rattle.cts_io.specs.Lines.{lines_of};
+ghost use Rattle.cts_instance.specs.FirstFault.{first_fault};
+ghost use Rattle.cts_read.specs.Grammar.{Gives, Refuses, item_at, left_of};
+ghost use Rattle.cts_read.specs.Header.{die_of, limits_of, source_of, version_of, wire_of};
+ghost use Rattle.cts_read.specs.Items.{block_count_of, buffer_count_of, sink_count_of};
+ghost use Rattle.cts_read.specs.Whole.{end_at, head_at, instance_at, lists_at, rest_of};
+
+use crate::cursor::next_line;
+use crate::header::{Limits, Source, die_of, limits_of, source_of, version_of, wire_of};
+use crate::items::{block_count_of, buffer_count_of, end_of, sink_count_of};
+use crate::lists::{at_line, read_blocks, read_buffers, read_sinks};
+use crate::stop::{Cause, ReadStop};
+use cts_geom::Die;
+use cts_instance::{Blocks, Instance, Parts, Sinks};
+use cts_io::Lines;
+use cts_units::{Library, Params, Wire};
+use std::alloc::Global;
+
+/// What comes before the lists.
+struct Head {
+    die: Die,
+    source: Source,
+    wire: Wire,
+    limits: Limits,
+}
+
+#[tactic(auto, unfolding(crate::specs::Grammar::item_at))]
+fn read_version(lines: &mut Lines<'_>) -> Result<(), ReadStop>
+    ensures { Gives (λ x. x) result (left_of lines.new) (item_at version_of (left_of lines.old)) }
+{
+    let (number, line) = next_line(lines)?;
+    at_line(number, version_of(line))
+}
+
+#[tactic(auto, unfolding(crate::specs::Grammar::item_at))]
+fn read_die(lines: &mut Lines<'_>) -> Result<Die, ReadStop>
+    ensures { Gives (λ x. x) result (left_of lines.new) (item_at die_of (left_of lines.old)) }
+{
+    let (number, line) = next_line(lines)?;
+    at_line(number, die_of(line))
+}
+
+#[tactic(auto, unfolding(crate::specs::Grammar::item_at))]
+fn read_source(lines: &mut Lines<'_>, die: &Die) -> Result<Source, ReadStop>
+    ensures { Gives (λ x. x) result (left_of lines.new) (item_at (source_of die.now) (left_of lines.old)) }
+{
+    let (number, line) = next_line(lines)?;
+    at_line(number, source_of(die, line))
+}
+
+#[tactic(auto, unfolding(crate::specs::Grammar::item_at))]
+fn read_wire(lines: &mut Lines<'_>) -> Result<Wire, ReadStop>
+    ensures { Gives (λ x. x) result (left_of lines.new) (item_at wire_of (left_of lines.old)) }
+{
+    let (number, line) = next_line(lines)?;
+    at_line(number, wire_of(line))
+}
+
+#[tactic(auto, unfolding(crate::specs::Grammar::item_at))]
+fn read_limits(lines: &mut Lines<'_>) -> Result<Limits, ReadStop>
+    ensures { Gives (λ x. x) result (left_of lines.new) (item_at limits_of (left_of lines.old)) }
+{
+    let (number, line) = next_line(lines)?;
+    at_line(number, limits_of(line))
+}
+
+#[tactic(auto, unfolding(crate::specs::Grammar::item_at))]
+fn read_buffer_count(lines: &mut Lines<'_>) -> Result<usize, ReadStop>
+    ensures read { Gives (λ x. x) result (left_of lines.new) (item_at buffer_count_of (left_of lines.old)) }
+    ensures bound { IfOk result (λ count. count < 2 ^ 32) }
+{
+    let (number, line) = next_line(lines)?;
+    at_line(number, buffer_count_of(line))
+}
+
+#[tactic(auto, unfolding(crate::specs::Grammar::item_at))]
+fn read_sink_count(lines: &mut Lines<'_>) -> Result<usize, ReadStop>
+    ensures read { Gives (λ x. x) result (left_of lines.new) (item_at sink_count_of (left_of lines.old)) }
+    ensures bound { IfOk result (λ count. count < 2 ^ 32) }
+{
+    let (number, line) = next_line(lines)?;
+    at_line(number, sink_count_of(line))
+}
+
+#[tactic(auto, unfolding(crate::specs::Grammar::item_at))]
+fn read_block_count(lines: &mut Lines<'_>) -> Result<usize, ReadStop>
+    ensures read { Gives (λ x. x) result (left_of lines.new) (item_at block_count_of (left_of lines.old)) }
+    ensures bound { IfOk result (λ count. count < 2 ^ 32) }
+{
+    let (number, line) = next_line(lines)?;
+    at_line(number, block_count_of(line))
+}
+
+/// The line `end`, and its number.
+#[tactic(auto, unfolding(crate::specs::Whole::end_at))]
+fn read_end(lines: &mut Lines<'_>) -> Result<u32, ReadStop>
+    ensures { Gives (λ x. x) result (left_of lines.new) (end_at (left_of lines.old)) }
+{
+    let (number, line) = next_line(lines)?;
+    at_line(number, end_of(line))?;
+    Ok(number)
+}
+
+/// The lines before the lists.
+#[tactic(auto, unfolding(crate::specs::Whole::head_at))]
+fn read_head(lines: &mut Lines<'_>) -> Result<Head, ReadStop>
+    ensures { Gives (λ x. x) result (left_of lines.new) (head_at (left_of lines.old)) }
+{
+    read_version(lines)?;
+    let die = read_die(lines)?;
+    let source = read_source(lines, &die)?;
+    let wire = read_wire(lines)?;
+    let limits = read_limits(lines)?;
+    Ok(Head {
+        die,
+        source,
+        wire,
+        limits,
+    })
+}
+
+/// The lists.
+struct Lists {
+    buffers: Library,
+    sinks: Sinks,
+    blocks: Blocks,
+}
+
+/// The lists, after what comes before them.
+#[tactic(auto, unfolding(crate::specs::Whole::lists_at))]
+fn read_lists(alloc: Global, lines: &mut Lines<'_>, head: &Head) -> Result<Lists, ReadStop>
+    ensures { Gives (λ x. x) result (left_of lines.new) (lists_at head.now (left_of lines.old)) }
+{
+    let buffer_count = read_buffer_count(lines)?;
+    let buffers = read_buffers(alloc, lines, buffer_count)?;
+    let sink_count = read_sink_count(lines)?;
+    let sinks = read_sinks(alloc, lines, &head.die, sink_count)?;
+    let block_count = read_block_count(lines)?;
+    let blocks = read_blocks(alloc, lines, &head.die, &head.source, &sinks, block_count)?;
+    Ok(Lists {
+        buffers: Library::of(buffers),
+        sinks: Sinks::of(sinks),
+        blocks: Blocks::of(blocks),
+    })
+}
