@@ -1,4 +1,4 @@
--- Where wires may go. Points are in half nm, so the nm of dies and blocks are doubled.
+-- Where wires and buffers may go. Points are in half nm, so the nm of dies and blocks are doubled.
 use Rattle.std.specs.Prelude.{◌^◌, ℤ, pos, ◌*ℤ◌, ◌≤ℤ◌, ◌<ℤ◌, List, All}
 use Rattle.cts_geom.specs.declared.points.Half.{Half}
 use Rattle.cts_geom.specs.declared.bounds.Die.{Die}
@@ -44,3 +44,12 @@ IsOpenToWires point block = StopsWires block.kind → ¬ IsInside block point
 pub record IsFreeForWire (blocks : List Block) (die : Die) (point : Half) : Type 0 where
   pub in_die : IsInDie die point
   pub clear : All (IsOpenToWires point) blocks
+
+-- no buffer stands strictly inside a block of either kind
+abbrev pub IsOpenToBuffers : Half → Block → Type 0
+IsOpenToBuffers point block = ¬ IsInside block point
+
+-- the point lies in the die and strictly inside no block
+pub record IsFreeForBuffer (blocks : List Block) (die : Die) (point : Half) : Type 0 where
+  pub in_die : IsInDie die point
+  pub clear : All (IsOpenToBuffers point) blocks

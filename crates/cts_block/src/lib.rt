@@ -8,4 +8,4 @@ mod blocks;
 mod free;
 
 pub use blocks::{Block, Kind};
-pub use free::free_for_wire;
+pub use free::{free_for_buffer, free_for_wire};

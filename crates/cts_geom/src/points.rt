@@ -1,4 +1,4 @@
-ghost use Rattle.std.specs.Prelude.{◌≡◌, ◌*◌, ◌^◌, ◌≤◌, ◌↔◌, pos, ◌+ℤ◌, ◌*ℤ◌, IsNone, IfSome};
+ghost use Rattle.std.specs.Prelude.{◌≡◌, ◌*◌, ◌^◌, ◌≤◌, ◌↔◌, pos, ◌+ℤ◌, ◌-ℤ◌, ◌*ℤ◌, IsNone, IfSome};
 ghost use Rattle.cts_geom.specs.Coordinate.{IsCoordinate, IsOdd};
 ghost use Rattle.cts_geom.specs.Points.{IsSpotInRange, IsHalfInRange, spot_at, point_of, manhattan_of, distance_of};
 
@@ -24,6 +24,10 @@ pub fn spot_of(x: i64, y: i64) -> Spot
     requires y { IsCoordinate y }
     ensures rotated { result ≡ spot_at x y }
     ensures point { point_of result ≡ record { x = pos 2 *ℤ x; y = pos 2 *ℤ y } }
+
+    // The same as numbers.
+    ensures u { result.u ≡ x +ℤ y }
+    ensures v { result.v ≡ x -ℤ y }
 {
     Spot { u: x + y, v: x - y }
 }
@@ -31,7 +35,11 @@ pub fn spot_of(x: i64, y: i64) -> Spot
 /// The point of a spot, in half nm.
 pub fn halves(at: Spot) -> Half
     requires { IsSpotInRange at }
-    ensures { result ≡ point_of at }
+    ensures point { result ≡ point_of at }
+
+    // The same as numbers.
+    ensures x { result.x ≡ at.u +ℤ at.v }
+    ensures y { result.y ≡ at.u -ℤ at.v }
 {
     Half {
         x: at.u + at.v,

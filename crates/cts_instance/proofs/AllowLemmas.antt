@@ -44,9 +44,10 @@ module _ {A : Type 0} (R : List A → A → Type 0) where
 
   pub EachLine-parts : (before : List A) (line : A) (lines : List A)
       → EachLine before (line ∷ lines) → R before line × EachLine (before ++ line ∷ []) lines
-  EachLine-parts before line lines h =
-      (subst (λ b. R b line) (append-nil before) (h 0 line (omega arith)),
-       λ k d inside. subst (λ b. R b (get_or lines k d)) (sym (append_assoc before (line ∷ []) (take k lines))) (h (suc k) d (omega arith)))
+  EachLine-parts before line lines h = (
+    subst (λ b. R b line) (append-nil before) (h 0 line (omega arith)),
+    λ k d inside. subst (λ b. R b (get_or lines k d)) (sym (append_assoc before (line ∷ []) (take k lines))) (h (suc k) d (omega arith)),
+  )
 
 module _ {A : Type 0} (ask : List A → A → Option Fault) (R : List A → A → Type 0) where
   pub Allows-first_of : ((before : List A) (line : A) → Allows (ask before line) (R before line))
@@ -54,9 +55,10 @@ module _ {A : Type 0} (ask : List A → A → Option Fault) (R : List A → A �
   Allows-first_of each before [] = (λ _ k d inside. absurd (omega arith), λ _. first_of-nil ask before)
   Allows-first_of each before (line ∷ lines) =
       let rest = Allows-first_of each (before ++ line ∷ []) lines in
-      let whole = Allows-or (ask before line) (first_of ask (before ++ line ∷ []) lines) (each before line) rest in
-      (λ e. EachLine-cons R before line lines (whole.0 (sym (first_of-cons ask before line lines) ∙ e)),
-       λ h. first_of-cons ask before line lines ∙ whole.1 (EachLine-parts R before line lines h))
+      let whole = Allows-or (ask before line) (first_of ask (before ++ line ∷ []) lines) (each before line) rest in (
+        λ e. EachLine-cons R before line lines (whole.0 (sym (first_of-cons ask before line lines) ∙ e)),
+        λ h. first_of-cons ask before line lines ∙ whole.1 (EachLine-parts R before line lines h),
+      )
 
 -- each line differs from those before it exactly where any two differ
 pub pairs_from_lines : {A : Type 0} (R : A → A → Type 0) (lines : List A)

@@ -13,14 +13,15 @@ pub counts_of-push : (blocks : List Block) (block : Block) → counts_of (blocks
 unfolding counts_of counts_with
 counts_of-push blocks block =
     ap (λ n. record { buffer = n; all = count_by (λ b. stops_wires b.kind) (blocks ++ block ∷ []) })
-        (sum_by_push (λ b. cond (stops_buffers b.kind) 1 0) blocks block)
+    (sum_by_push (λ b. cond (stops_buffers b.kind) 1 0) blocks block)
     ∙ ap (λ n. record { buffer = count_by (λ b. stops_buffers b.kind) blocks + cond (stops_buffers block.kind) 1 0; all = n })
-        (sum_by_push (λ b. cond (stops_wires b.kind) 1 0) blocks block)
+    (sum_by_push (λ b. cond (stops_wires b.kind) 1 0) blocks block)
     ∙ by block.kind
   where
     by : (kind : Kind) → record {
-        buffer = count_by (λ b. stops_buffers b.kind) blocks + cond (stops_buffers kind) 1 0;
-        all = count_by (λ b. stops_wires b.kind) blocks + cond (stops_wires kind) 1 0 } ≡ counts_with (counts_of blocks) kind
+      buffer = count_by (λ b. stops_buffers b.kind) blocks + cond (stops_buffers kind) 1 0;
+      all = count_by (λ b. stops_wires b.kind) blocks + cond (stops_wires kind) 1 0;
+    } ≡ counts_with (counts_of blocks) kind
     by of_buffers = ap (λ n. record { buffer = count_by (λ b. stops_buffers b.kind) blocks + 1; all = n }) (add-zero _)
     by of_all = ap (λ n. record { buffer = n; all = count_by (λ b. stops_wires b.kind) blocks + 1 }) (add-zero _)
 

@@ -23,7 +23,7 @@ module _ {A : Type 0} (ask : List A → A → Option Fault) where
   -- the line at a place decides, and else the lines after it
   pub first_of-turn : (lines : List A) (place : ℕ) (d : A) → place < length lines
       → first_of ask (take place lines) (drop place lines)
-        ≡ option_or (ask (take place lines) (get_or lines place d)) (first_of ask (take (place + 1) lines) (drop (place + 1) lines))
+      ≡ option_or (ask (take place lines) (get_or lines place d)) (first_of ask (take (place + 1) lines) (drop (place + 1) lines))
   first_of-turn lines place d inside =
       rw (drop_more lines place d inside, take_more lines place d inside, first_of-cons) refl
 

@@ -4,3 +4,4 @@ pub mod LineLemmas
 pub mod TestLemmas
 pub mod AllowLemmas
 pub mod ValidityLemmas
+pub mod PlaceLemmas

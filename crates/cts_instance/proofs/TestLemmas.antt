@@ -46,7 +46,7 @@ Decides-absent n ns =
     (λ none k d inside same. none (k, inside, λ e. sym same ∙ get_or_default ns k d e inside))
     (λ apart some. apart some.0 0 some.1 (sym (some.2 0)))
     (Decides-not (list_any (nat_eq n) ns)
-        (Decides-by_or (nat_eq n) (λ m. n ≡ m) (list_any (nat_eq n)) (Decides-eqb n) refl (λ _ _. refl) ns))
+    (Decides-by_or (nat_eq n) (λ m. n ≡ m) (list_any (nat_eq n)) (Decides-eqb n) refl (λ _ _. refl) ns))
 
 pub Decides-is_between : (low high z : ℤ) → Decides (is_between low high z) ((low ≤ℤ z) × (z ≤ℤ high))
 unfolding is_between
@@ -71,7 +71,7 @@ Decides-is_inside block x y =
     (λ h. record { west = h.0.0; east = h.0.1; south = h.1.0; north = h.1.1 })
     (λ p. ((p.west, p.east), (p.south, p.north)))
     (Decides-and (is_strictly_between block.x1 block.x2 x) (is_strictly_between block.y1 block.y2 y)
-        (Decides-is_strictly_between block.x1 block.x2 x) (Decides-is_strictly_between block.y1 block.y2 y))
+    (Decides-is_strictly_between block.x1 block.x2 x) (Decides-is_strictly_between block.y1 block.y2 y))
 
 pub Decides-is_side : (low high : ℤ) → Decides (is_side low high) (((pos 0 ≤ℤ low) × (low ≤ℤ high)) × (high ≤ℤ pos (10 ^ 8)))
 unfolding is_side
@@ -132,7 +132,7 @@ unfolding is_empty
 Decides-is_empty x y sinks block =
     Decides-and _ _ (Decides-not _ (Decides-is_inside block x y))
     (Decides-list_all (λ sink. not (is_inside block sink.x sink.y)) (λ sink. ¬ IsInside block sink.x sink.y)
-        (λ sink. Decides-not _ (Decides-is_inside block sink.x sink.y)) sinks)
+    (λ sink. Decides-not _ (Decides-is_inside block sink.x sink.y)) sinks)
 
 pub Decides-is_clear : (x y : ℤ) (sinks : List Sink) (block : Block) → Decides (is_clear x y sinks block) (IsClear x y sinks block)
 unfolding is_clear

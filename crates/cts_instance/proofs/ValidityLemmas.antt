@@ -78,17 +78,19 @@ sinks_apart sink before h = All-map (λ id. id ≢ sink.id) (λ s. s.id) before 
 
 pub Allows-sinks_fault : (die : Die) (sinks : List Sink)
     → Allows (sinks_fault die sinks)
-        (((1 ≤ length sinks) × (length sinks ≤ 65536)) × (All (IsSink die) sinks × AllPairs (λ a b. a.id ≢ b.id) sinks))
+    (((1 ≤ length sinks) × (length sinks ≤ 65536)) × (All (IsSink die) sinks × AllPairs (λ a b. a.id ≢ b.id) sinks))
 unfolding sinks_fault sink_line
 Allows-sinks_fault die sinks =
     Allows-or _ _ (Allows-sink_count_fault (length sinks))
     (Allows-like (first_of (sink_line die) [] sinks)
-    (λ h. (λ k d inside. let r = h k d inside in record { id = r.0.0; cap = r.0.1; in_die = r.1.1 },
-           pairs_from_lines (λ a b. a.id ≢ b.id) sinks (λ k d inside. ids_apart (get_or sinks k d) (take k sinks) (h k d inside).1.0)))
+    (λ h. (
+      λ k d inside. let r = h k d inside in record { id = r.0.0; cap = r.0.1; in_die = r.1.1 },
+      pairs_from_lines (λ a b. a.id ≢ b.id) sinks (λ k d inside. ids_apart (get_or sinks k d) (take k sinks) (h k d inside).1.0),
+    ))
     (λ p k d inside. let s = p.0 k d inside in
-        ((s.id, s.cap), (sinks_apart (get_or sinks k d) (take k sinks) (lines_from_pairs (λ a b. a.id ≢ b.id) sinks p.1 k d inside), s.in_die)))
+    ((s.id, s.cap), (sinks_apart (get_or sinks k d) (take k sinks) (lines_from_pairs (λ a b. a.id ≢ b.id) sinks p.1 k d inside), s.in_die)))
     (Allows-first_of (sink_line die) (λ before sink. SinkRules die (map (λ s. s.id) before) sink)
-        (λ before sink. Allows-sink_fault die (map (λ s. s.id) before) sink) [] sinks))
+    (λ before sink. Allows-sink_fault die (map (λ s. s.id) before) sink) [] sinks))
 
 pub Allows-block_count_fault : (count : ℕ) → Allows (block_count_fault count) (count ≤ 4160)
 unfolding block_count_fault
@@ -122,59 +124,78 @@ Allows-block_fault die x y sinks counts block =
 
 pub Allows-blocks_fault : (die : Die) (x y : ℤ) (sinks : List Sink) (blocks : List Block)
     → Allows (blocks_fault die x y sinks blocks)
-        ((length blocks ≤ 4160)
-        × (All (IsBlock die) blocks
-        × ((count_by (λ block. stops_buffers block.kind) blocks ≤ 4096)
-        × ((count_by (λ block. stops_wires block.kind) blocks ≤ 64)
-        × All (IsClear x y sinks) blocks))))
+    ((length blocks ≤ 4160)
+    × (All (IsBlock die) blocks
+    × ((count_by (λ block. stops_buffers block.kind) blocks ≤ 4096)
+    × ((count_by (λ block. stops_wires block.kind) blocks ≤ 64)
+    × All (IsClear x y sinks) blocks))))
 unfolding blocks_fault block_line counts_of
 Allows-blocks_fault die x y sinks blocks =
     Allows-or _ _ (Allows-block_count_fault (length blocks))
     (Allows-like (first_of (block_line die x y sinks) [] blocks)
-    (λ h. (λ k d inside. let r = h k d inside in record { x_order = r.0.0; y_order = r.0.1; from = r.1.0.0; to = r.1.0.1 },
-          (count_from_lines (λ block. stops_buffers block.kind) 4096 blocks (λ k d inside. (h k d inside).1.1.0.0),
-          (count_from_lines (λ block. stops_wires block.kind) 64 blocks (λ k d inside. (h k d inside).1.1.0.1),
-          λ k d inside. (h k d inside).1.1.1))))
-    (λ p k d inside. let b = p.0 k d inside in
-        ((b.x_order, b.y_order), ((b.from, b.to),
-        ((lines_from_count (λ block. stops_buffers block.kind) 4096 blocks p.1.0 k d inside,
-          lines_from_count (λ block. stops_wires block.kind) 64 blocks p.1.1.0 k d inside),
-        p.1.1.1 k d inside))))
+    (λ h. (
+      λ k d inside. let r = h k d inside in record { x_order = r.0.0; y_order = r.0.1; from = r.1.0.0; to = r.1.0.1 },
+      (
+        count_from_lines (λ block. stops_buffers block.kind) 4096 blocks (λ k d inside. (h k d inside).1.1.0.0),
+        (
+          count_from_lines (λ block. stops_wires block.kind) 64 blocks (λ k d inside. (h k d inside).1.1.0.1),
+          λ k d inside. (h k d inside).1.1.1,
+        ),
+      ),
+    ))
+    (λ p k d inside. let b = p.0 k d inside in (
+      (b.x_order, b.y_order),
+      (
+        (b.from, b.to),
+        (
+          (
+            lines_from_count (λ block. stops_buffers block.kind) 4096 blocks p.1.0 k d inside,
+            lines_from_count (λ block. stops_wires block.kind) 64 blocks p.1.1.0 k d inside,
+          ),
+          p.1.1.1 k d inside,
+        ),
+      ),
+    ))
     (Allows-first_of (block_line die x y sinks) (λ before block. BlockRules die x y sinks (counts_of before) block)
-        (λ before block. Allows-block_fault die x y sinks (counts_of before) block) [] blocks))
+    (λ before block. Allows-block_fault die x y sinks (counts_of before) block) [] blocks))
 
 pub Allows-first_fault : (parts : Parts) → Allows (first_fault parts) (IsValid parts)
 unfolding first_fault
 Allows-first_fault parts =
     Allows-like (first_fault parts)
     (λ h. record {
-        die = h.0.0.0.0.0.0;
-        source_r = h.0.0.0.0.0.1.0;
-        source = h.0.0.0.0.0.1.1;
-        wire = h.0.0.0.0.1;
-        limits = h.0.0.0.1;
-        buffer_count = h.0.0.1.0;
-        buffers = h.0.0.1.1;
-        some_sink = h.0.1.0.0;
-        sink_count = h.0.1.0.1;
-        sinks = h.0.1.1.0;
-        ids = h.0.1.1.1;
-        block_count = h.1.0;
-        blocks = h.1.1.0;
-        buffer_blocks = h.1.1.1.0;
-        all_blocks = h.1.1.1.1.0;
-        clear = h.1.1.1.1.1 })
-    (λ v. ((((((v.die, (v.source_r, v.source)), v.wire), v.limits), (v.buffer_count, v.buffers)),
-        ((v.some_sink, v.sink_count), (v.sinks, v.ids))),
-        (v.block_count, (v.blocks, (v.buffer_blocks, (v.all_blocks, v.clear))))))
+      die = h.0.0.0.0.0.0;
+      source_r = h.0.0.0.0.0.1.0;
+      source = h.0.0.0.0.0.1.1;
+      wire = h.0.0.0.0.1;
+      limits = h.0.0.0.1;
+      buffer_count = h.0.0.1.0;
+      buffers = h.0.0.1.1;
+      some_sink = h.0.1.0.0;
+      sink_count = h.0.1.0.1;
+      sinks = h.0.1.1.0;
+      ids = h.0.1.1.1;
+      block_count = h.1.0;
+      blocks = h.1.1.0;
+      buffer_blocks = h.1.1.1.0;
+      all_blocks = h.1.1.1.1.0;
+      clear = h.1.1.1.1.1;
+    })
+    (λ v. (
+      (
+        ((((v.die, (v.source_r, v.source)), v.wire), v.limits), (v.buffer_count, v.buffers)),
+        ((v.some_sink, v.sink_count), (v.sinks, v.ids)),
+      ),
+      (v.block_count, (v.blocks, (v.buffer_blocks, (v.all_blocks, v.clear)))),
+    ))
     (Allows-or _ _ (Allows-or _ _ (Allows-or _ _ (Allows-or _ _ (Allows-or _ _ (Allows-or _ _
-        (Allows-die_fault parts.die)
-        (Allows-source_fault parts.die parts.source_x parts.source_y parts.source_r))
-        (Allows-wire_fault parts.params.wire))
-        (Allows-limits_fault parts.params.insert_at parts.load_limit parts.slew_limit))
-        (Allows-buffers_fault parts.params.library))
-        (Allows-sinks_fault parts.die parts.sinks))
-        (Allows-blocks_fault parts.die parts.source_x parts.source_y parts.sinks parts.blocks))
+    (Allows-die_fault parts.die)
+    (Allows-source_fault parts.die parts.source_x parts.source_y parts.source_r))
+    (Allows-wire_fault parts.params.wire))
+    (Allows-limits_fault parts.params.insert_at parts.load_limit parts.slew_limit))
+    (Allows-buffers_fault parts.params.library))
+    (Allows-sinks_fault parts.die parts.sinks))
+    (Allows-blocks_fault parts.die parts.source_x parts.source_y parts.sinks parts.blocks))
 
 -- what a loop over a list asks of its length
 pub buffer_count : (count : ℕ) → buffer_count_fault count ≡ None → count ≤ 16
@@ -185,3 +206,9 @@ sink_count count none = ((Allows-sink_count_fault count).0 none).1
 
 pub block_count : (count : ℕ) → block_count_fault count ≡ None → count ≤ 4160
 block_count count = (Allows-block_count_fault count).0
+
+pub valid_from_no_fault : (parts : Parts) → first_fault parts ≡ None → IsValid parts
+valid_from_no_fault parts = (Allows-first_fault parts).0
+
+pub no_fault_from_valid : (parts : Parts) → IsValid parts → first_fault parts ≡ None
+no_fault_from_valid parts = (Allows-first_fault parts).1

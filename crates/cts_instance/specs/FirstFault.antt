@@ -82,8 +82,9 @@ block_fault die x y sinks counts block =
 -- how many blocks there are of each kind
 unfoldable pub counts_of : List Block → BlockCounts
 counts_of blocks = record {
-    buffer = count_by (λ block. stops_buffers block.kind) blocks;
-    all = count_by (λ block. stops_wires block.kind) blocks }
+  buffer = count_by (λ block. stops_buffers block.kind) blocks;
+  all = count_by (λ block. stops_wires block.kind) blocks;
+}
 
 -- the counts after one more block of this kind
 unfoldable pub counts_with : BlockCounts → Kind → BlockCounts

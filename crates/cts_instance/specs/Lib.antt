@@ -1,4 +1,5 @@
 pub mod Places
-pub mod Validity
 pub mod Tests
+pub mod Validity
 pub mod FirstFault
+pub mod Laws

@@ -1,11 +1,13 @@
 //! The first fault of the parts of an instance.
 
-ghost use Rattle.std.specs.Prelude.{◌≡◌, ◌≤◌, [], length, IfOk};
-ghost use Rattle.cts_instance.specs.FirstFault.{◌or◌, first_of, buffer_line, sink_line, block_line, buffers_fault, sinks_fault, blocks_fault, die_fault, source_fault, wire_fault, limits_fault, first_fault};
+ghost use Rattle.std.specs.Prelude.{◌≡◌, ◌≤◌, [], None, length, IfOk, IfErr, OnOk};
+ghost use Rattle.cts_instance.specs.FirstFault.{◌or◌, first_of, buffer_line, sink_line, block_line, buffers_fault, sinks_fault, blocks_fault, die_fault, source_fault, wire_fault, limits_fault, first_fault, Ends};
+ghost use Rattle.cts_instance.specs.Validity.{IsValid};
 
 use crate::counts::BlockCounts;
-use crate::fault::Fault;
+use crate::fault::{CheckEnd, Fault};
 use crate::ids::SinkIds;
+use crate::instance::Instance;
 use crate::lines::{
     block_count_fault, block_fault, buffer_count_fault, buffer_fault, die_fault, limits_fault,
     sink_count_fault, sink_fault, source_fault, wire_fault,
@@ -115,5 +117,34 @@ fn first_fault(alloc: Global, parts: &Parts) -> Result<Option<Fault>, NoMemory>
     if let Some(fault) = sinks_fault(alloc, die, sinks)? {
         return Ok(Some(fault));
     }
-    Ok(blocks_fault(die, parts.source_x, parts.source_y, sinks, parts.blocks.items()))
+    Ok(blocks_fault(
+        die,
+        parts.source_x,
+        parts.source_y,
+        sinks,
+        parts.blocks.items(),
+    ))
 }
+
+/// The instance of these parts, or their first fault: `Ok` exactly where the parts are valid, unless
+/// memory runs out.
+///
+/// The faults stand in the order of the lines of an instance's text: the die, the source, the wire,
+/// the limits, the number of buffers, each buffer, the number of sinks, each sink, the number of
+/// blocks, each block. The parts are dropped on a refusal.
+#[tactic(auto, using(crate::proofs::ValidityLemmas::valid_from_no_fault))]
+pub fn check_instance(alloc: Global, parts: Parts) -> Result<Instance, CheckEnd>
+    ensures same { IfOk result (λ instance. instance ≡ parts) }
+    ensures no_fault { OnOk result (first_fault parts ≡ None) }
+    ensures valid { OnOk result (IsValid parts) }
+    ensures first_fault { IfErr result (Ends (first_fault parts)) }
+    ensures accepted { IsValid parts → IfErr result (λ end. end ≡ CheckEnd.NoMemory) }
+{
+    match first_fault(alloc, &parts)? {
+        Some(fault) => Err(CheckEnd::Fault(fault)),
+        None => Ok(Instance::of(parts)),
+    }
+}
+
+#[cfg(test)]
+mod tests;

@@ -1,3 +1,10 @@
+//! Valid instances of clock tree synthesis, and the first fault of the parts of one.
+//!
+//! [`Parts`] are what a user hands in; an [`Instance`] holds valid parts alone. A layer above makes
+//! one by [`check_instance`], or checks the lines of a text one at a time by the calls of [`lines`]
+//! and then by [`Instance::of`]. `specs/FirstFault.antt` has the faults in their order,
+//! `specs/Validity.antt` what valid parts are, and [`laws`] says that the two agree, and what valid
+//! parts mean for the geometry and the blocks.
 #![tactic(auto)]
 
 mod check;
@@ -5,10 +12,12 @@ mod counts;
 mod fault;
 mod ids;
 mod instance;
+pub mod laws;
 pub mod lines;
 mod parts;
 mod rules;
 
+pub use check::check_instance;
 pub use counts::BlockCounts;
 pub use fault::{CheckEnd, Fault, Item};
 pub use ids::SinkIds;

@@ -186,3 +186,233 @@ pub fn block_fault(
         None
     }
 }
+
+#[cfg(test)]
+mod tests {
+    use super::*;
+    use cts_block::Kind;
+    use std::test::Fail;
+
+    const DIE: Die = Die {
+        x1: 10,
+        y1: 20,
+        x2: 110,
+        y2: 220,
+    };
+
+    #[test]
+    fn judges_dies(rt: HostRuntime) {
+        let range = Some(Fault::Range { item: Item::Die });
+        let table = [
+            ("a die", (10, 20, 110, 220), None),
+            ("a point", (5, 5, 5, 5), None),
+            ("the greatest", (0, 0, 100_000_000, 100_000_000), None),
+            ("too wide", (0, 0, 100_000_001, 5), range),
+            ("too high", (0, 0, 5, 100_000_001), range),
+            ("west of 0", (-1, 0, 5, 5), range),
+            ("south of 0", (0, -1, 5, 5), range),
+            ("x in the wrong order", (6, 0, 5, 5), range),
+            ("y in the wrong order", (0, 6, 5, 5), range),
+        ];
+        for (name, (x1, y1, x2, y2), fault) in table {
+            let die = Die { x1, y1, x2, y2 };
+            assert_eq!(rt; die_fault(&die), fault, "{name}");
+        }
+    }
+
+    #[test]
+    fn judges_sources(rt: HostRuntime) {
+        let range = Some(Fault::Range { item: Item::Source });
+        let outside = Some(Fault::Outside { item: Item::Source });
+        let table = [
+            ("on the west edge", (10, 100, 0), None),
+            ("on a corner", (110, 220, 999_999_999_999_999_999), None),
+            ("west of the die", (9, 100, 0), outside),
+            ("east of the die", (111, 100, 0), outside),
+            ("south of the die", (50, 19, 0), outside),
+            ("north of the die", (50, 221, 0), outside),
+            ("below 0", (-50, 100, 0), outside),
+            (
+                "a great resistance",
+                (50, 100, 1_000_000_000_000_000_000),
+                range,
+            ),
+            ("both faults", (-50, 100, 1_000_000_000_000_000_000), range),
+        ];
+        for (name, (x, y, r), fault) in table {
+            assert_eq!(rt; source_fault(&DIE, x, y, r), fault, "{name}");
+        }
+    }
+
+    #[test]
+    fn judges_electrical_numbers(rt: HostRuntime) {
+        let end = 1_000_000_000_000_000_000;
+        let wire = Some(Fault::Range { item: Item::Wire });
+        for (r, c, fault) in [
+            (1, 1, None),
+            (1_000_000, 1_000_000, None),
+            (0, 1, wire),
+            (1, 0, wire),
+            (1_000_001, 1, wire),
+            (1, 1_000_001, wire),
+        ] {
+            assert_eq!(rt; wire_fault(Wire { r, c }), fault, "{r} and {c}");
+        }
+        let limits = Some(Fault::Range { item: Item::Limits });
+        for (insert_at, load, slew, fault) in [
+            (end - 1, end - 1, end - 1, None),
+            (end, 0, 0, limits),
+            (0, end, 0, limits),
+            (0, 0, end, limits),
+        ] {
+            assert_eq!(rt; limits_fault(insert_at, load, slew), fault);
+        }
+        let third = Some(Fault::Range {
+            item: Item::Buffer(3),
+        });
+        for (cin, rout, intrinsic, fault) in [
+            (1_000_000_000_000, end - 1, end - 1, None),
+            (1_000_000_000_001, 0, 0, third),
+            (0, end, 0, third),
+            (0, 0, end, third),
+        ] {
+            let buffer = Buffer {
+                cin,
+                rout,
+                intrinsic,
+            };
+            assert_eq!(rt; buffer_fault(3, &buffer), fault);
+        }
+    }
+
+    #[test]
+    fn judges_counts(rt: HostRuntime) {
+        let too_many = |item: Item| Some(Fault::TooMany { item });
+        assert_eq!(rt; buffer_count_fault(0), None);
+        assert_eq!(rt; buffer_count_fault(16), None);
+        assert_eq!(rt; buffer_count_fault(17), too_many(Item::Buffers));
+        assert_eq!(rt; sink_count_fault(0), Some(Fault::NoSink));
+        assert_eq!(rt; sink_count_fault(1), None);
+        assert_eq!(rt; sink_count_fault(65_536), None);
+        assert_eq!(rt; sink_count_fault(65_537), too_many(Item::Sinks));
+        assert_eq!(rt; block_count_fault(4_160), None);
+        assert_eq!(rt; block_count_fault(4_161), too_many(Item::Blocks));
+    }
+
+    #[test]
+    fn judges_sinks(rt: HostRuntime) -> Result<(), Fail> {
+        let mut ids = SinkIds::new(rt.alloc());
+        ids.insert(7)?;
+        ids.insert(9)?;
+        let range = Some(Fault::Range {
+            item: Item::Sink(2),
+        });
+        let twice = Some(Fault::TwiceSink { id: 9 });
+        let great = 1_000_000_000_001;
+        // None of these is added, since each has a fault.
+        let table = [
+            ("a great id", (1_000_000_000, 50, 50, 0), range),
+            ("a great capacitance", (1, 50, 50, great), range),
+            (
+                "a great capacitance and an id twice",
+                (9, 50, 50, great),
+                range,
+            ),
+            ("an id twice", (9, 50, 50, 0), twice),
+            ("an id twice, outside", (9, 9, 50, 0), twice),
+        ];
+        for (name, (id, x, y, cap), fault) in table {
+            assert_eq!(rt; ids.len(), 2);
+            let sink = Sink { id, x, y, cap };
+            assert_eq!(rt; sink_fault(&DIE, &mut ids, &sink)?, fault, "{name}");
+        }
+        let corner = Sink {
+            id: 999_999_999,
+            x: 110,
+            y: 20,
+            cap: 1_000_000_000_000,
+        };
+        assert_eq!(rt; ids.len(), 2);
+        assert_eq!(rt; sink_fault(&DIE, &mut ids, &corner)?, None);
+        assert_eq!(rt; ids.len(), 3);
+        let west = Sink {
+            id: 8,
+            x: 9,
+            ..corner
+        };
+        let outside = Some(Fault::Outside {
+            item: Item::Sink(3),
+        });
+        assert_eq!(rt; sink_fault(&DIE, &mut ids, &west)?, outside);
+        Ok(())
+    }
+
+    #[test]
+    fn judges_blocks(rt: HostRuntime) {
+        let sinks = [
+            Sink {
+                id: 1,
+                x: 60,
+                y: 60,
+                cap: 0,
+            },
+            Sink {
+                id: 2,
+                x: 80,
+                y: 120,
+                cap: 0,
+            },
+        ];
+        let item = Item::Block(5);
+        let range = Some(Fault::Range { item });
+        let outside = Some(Fault::Outside { item });
+        let in_block = Some(Fault::InBlock { item });
+        let (buffer, all) = (Kind::Buffer, Kind::All);
+        // The source is at (30, 40).
+        let table = [
+            ("over all", buffer, (10, 20, 110, 220), None),
+            ("round the source", all, (29, 39, 31, 41), in_block),
+            ("round a sink", all, (79, 119, 81, 121), in_block),
+            ("east of the source", all, (30, 39, 31, 41), None),
+            ("north of a sink", all, (50, 60, 70, 70), None),
+            ("no width, through the source", all, (30, 20, 30, 220), None),
+            ("x in the wrong order, outside", all, (9, 20, 8, 220), range),
+            ("y in the wrong order", buffer, (30, 22, 30, 21), range),
+            ("west, round the source", all, (9, 39, 31, 41), outside),
+            ("north of the die", buffer, (10, 20, 110, 221), outside),
+        ];
+        let counts = BlockCounts { buffer: 2, all: 3 };
+        for (name, kind, (x1, y1, x2, y2), fault) in table {
+            let block = Block {
+                kind,
+                x1,
+                y1,
+                x2,
+                y2,
+            };
+            let answer = block_fault(&DIE, 30, 40, &sinks, counts, &block);
+            assert_eq!(rt; answer, fault, "{name}");
+        }
+        let edge = Block {
+            kind: Kind::All,
+            x1: 10,
+            y1: 20,
+            x2: 10,
+            y2: 220,
+        };
+        let full = Some(Fault::TooMany {
+            item: Item::Block(4_159),
+        });
+        for (kind, buffer, all, fault) in [
+            (Kind::Buffer, 4_095, 64, None),
+            (Kind::Buffer, 4_096, 63, full),
+            (Kind::All, 4_096, 63, None),
+            (Kind::All, 4_095, 64, full),
+        ] {
+            let block = Block { kind, ..edge };
+            let counts = BlockCounts { buffer, all };
+            let answer = block_fault(&DIE, 30, 40, &sinks, counts, &block);
+            assert_eq!(rt; answer, fault, "{buffer} and {all}");
+        }
+    }
+}

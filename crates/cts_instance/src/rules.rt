@@ -17,8 +17,11 @@ const NUMBER_END: u64 = 1_000_000_000_000_000_000;
 const GREATEST_WIRE: u64 = 1_000_000;
 /// The greatest input capacitance of a sink or a buffer, in zF.
 const GREATEST_CAPACITANCE: u64 = 1_000_000_000_000;
+
 const GREATEST_ID: u32 = 999_999_999;
+
 const BUFFER_BLOCKS: u32 = 4_096;
+
 const ALL_BLOCKS: u32 = 64;
 
 #[tactic(auto, unfolding(crate::specs::Tests::is_between))]

@@ -1,12 +1,12 @@
 -- How a text goes through a buffer to a sink, piece by piece.
-use Rattle.std.proofs.Common.{◌≡◌, ℕ, ◌+◌, ◌-◌, ◌^◌, ◌≤◌, min, Bool, true, false, List, [], ◌++◌, length, take, drop, Option, Result, Ok, Err, refl, sym, ap, ◌∙◌, subst, append_assoc, append-nil, length-append, arith}
+use Rattle.std.proofs.Common.{◌≡◌, ℕ, ◌+◌, ◌-◌, ◌^◌, ◌<◌, ◌≤◌, min, Bool, true, false, List, [], ◌++◌, length, take, drop, Option, Result, Ok, Err, refl, sym, ap, ◌∙◌, subst, append_assoc, append-nil, length-append, arith}
 use Rattle.std.proofs.lemmas.List.{take-append-drop, length-take}
 use Rattle.std.proofs.Math.Seq.{take-append_seam}
 use Rattle.std.specs.Io.KnownBytes.{Appends}
 use Rattle.std.proofs.KnownBytes.{Appends-trans, Appends-nil}
 use Rattle.cts_io.specs.Faults.{Rose}
 use Rattle.cts_io.specs.Pending.{Pending, fresh}
-use Rattle.cts_io.specs.Text.{Writes, IsGiven, Puts, Finishes}
+use Rattle.cts_io.specs.Text.{IsCut, Writes, IsGiven, Puts, Finishes}
 use Rattle.cts_io.specs.declared.write.WriteEnd.{WriteEnd}
 use Rattle.cts_io.specs.declared.write.WriteEnd.TheVariants.{WriteFault}
 use Rattle.cts_io.proofs.Rises.{rose_later}
@@ -167,3 +167,13 @@ module _ {S : Type 0} (held : S → Option (List ℕ)) (faults : S → ℕ) wher
       let kept : record { waiting = piece; written = b.written; failed = b.failed } ≡ record b { waiting = b.waiting ++ piece } = rw w refl in
       let both = puts_then s s t b (record { waiting = piece; written = b.written; failed = b.failed }) (record { waiting = []; written = m; failed = f }) piece [] (puts_kept s b _ piece kept) p in
       rw e (subst (Puts held faults s b t (record { waiting = []; written = m; failed = f })) (append-nil piece) both)
+
+-- a text of less than 2^64 bytes that was cut: the sink took exactly the first `written` bytes of it
+pub cut_exact : (old new : Option (List ℕ)) (text : List ℕ) (written : ℕ) → length text < 2 ^ 64 → IsCut old new text written → (written ≤ length text) × Appends old new (take written text)
+cut_exact old new text written l h =
+    let same : written ≡ h.count = omega (arith, h.within, h.told) in
+    (omega (arith, h.within), rw same h.taken)
+
+-- the other way round
+pub cut_at : (old new : Option (List ℕ)) (text : List ℕ) (written : ℕ) → written ≤ length text → length text < 2 ^ 64 → Appends old new (take written text) → IsCut old new text written
+cut_at old new text written w l p = record { count = written; within = w; told = omega arith; taken = p }

@@ -47,6 +47,7 @@ impl SinkBuffer {
     }
 
     /// Gives `piece` to the sink, now or later.
+    #[inline]
     pub fn put<K: ByteSink>(&mut self, sink: &mut K, piece: &[u8])
         ensures { Puts K.held K.faults sink.old self.old sink.new self.new piece.now }
     {
@@ -72,6 +73,8 @@ impl SinkBuffer {
     }
 
     /// Makes room by a write, and then gives `piece`, which may be longer than the buffer.
+    #[cold]
+    #[inline(never)]
     fn put_over<K: ByteSink>(&mut self, sink: &mut K, piece: &[u8])
         ensures { Puts K.held K.faults sink.old self.old sink.new self.new piece.now }
     {
@@ -84,6 +87,7 @@ impl SinkBuffer {
     }
 
     /// Copies `piece` behind what waits.
+    #[inline]
     fn keep(&mut self, piece: &[u8])
         requires { length self.old.waiting + length piece.now ≤ 8192 }
         ensures { self.new ≡ record self.old { waiting = self.old.waiting ++ piece.now } }
@@ -134,6 +138,7 @@ fn hand_over<K: ByteSink>(sink: &mut K, bytes: &[u8], written: &mut usize, faile
 }
 
 /// Copies `piece` to the place `at` of `bytes`.
+#[inline]
 fn store(bytes: &mut [u8], at: usize, piece: &[u8])
     requires { at + length piece.now ≤ length bytes.old }
     ensures { take (at + length piece.now) bytes.new ≡ take at bytes.old ++ piece.now }

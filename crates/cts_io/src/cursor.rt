@@ -41,7 +41,8 @@ impl<'a> Lines<'a> {
     pub fn next(&mut self) -> Option<(u32, &'a [u8])>
         ensures none { IsNone result ↔ (lines_of self.old.rest ≡ []) }
         ensures end { IsNone result ↔ (self.old.rest ≡ []) }
-        ensures first { IfSome result (λ next. lines_of self.old.rest ≡ next.1.now ∷ lines_of self.new.rest) }
+        ensures first { IfSome result (λ next.
+            lines_of self.old.rest ≡ next.1.now ∷ lines_of self.new.rest) }
         ensures number { IfSome result (λ next. next.0 ≡ self.old.line + 1) }
         ensures after { IfSome result (λ next. self.new.line ≡ next.0) }
         ensures taken { IfSome result (λ next. (end : List ℕ) × IsLineEnd end self.new.rest
@@ -77,7 +78,8 @@ impl<'a> Lines<'a> {
 fn split_line(text: &[u8]) -> (&[u8], &[u8])
     requires { 0 < length text.now }
     ensures lines { lines_of text.now ≡ result.0.now ∷ lines_of result.1.now }
-    ensures taken { (end : List ℕ) × IsLineEnd end result.1.now × (text.now ≡ result.0.now ++ end ++ result.1.now) }
+    ensures taken { (end : List ℕ) × IsLineEnd end result.1.now
+        × (text.now ≡ result.0.now ++ end ++ result.1.now) }
     ensures shorter { length result.1.now < length text.now }
 {
     match find_line_feed(text) {

@@ -27,7 +27,9 @@ impl Model for MemSource {
 
     ghost Value = { SourceState };
 
-    ghost view = { λ s. record { left = drop s.start s.bytes.items; failing = s.failing.items; most = s.most; calls = s.calls; faults = s.faults } };
+    ghost view = { λ s. record {
+        left = drop s.start s.bytes.items; failing = s.failing.items; most = s.most;
+        calls = s.calls; faults = s.faults } };
 
     ghost invariant = { λ s. (s.start ≤ length s.bytes.items) × (0 < s.most) };
 }
@@ -66,7 +68,8 @@ impl ByteSource for MemSource {
 
     fn read(&mut self, buf: &mut [u8]) -> Result<usize, Failed>
         ensures bound { IfOk result (λ n. n ≤ length buf.new) }
-        ensures taken { IfOk result (λ n. Consumes (Some self.old.left) (Some self.new.left) (take n buf.new)) }
+        ensures taken { IfOk result (λ n.
+            Consumes (Some self.old.left) (Some self.new.left) (take n buf.new)) }
         ensures end { IfOk result (λ n. n ≡ 0 → 0 < length buf.new → IsAtEnd (Some self.new.left)) }
 
         ensures failed { OnErr result (Rose self.old.faults self.new.faults) }
@@ -77,9 +80,12 @@ impl ByteSource for MemSource {
         ensures listed { IsErr result ↔ Contains self.old.failing self.old.calls }
 
         // The number of bytes, and what stands after each answer.
-        ensures count { IfOk result (λ n. n ≡ min self.old.most (min (length buf.new) (length self.old.left))) }
-        ensures ok { IfOk result (λ n. self.new ≡ record self.old { left = drop n self.old.left; calls = next_count self.old.calls }) }
-        ensures err { OnErr result (self.new ≡ record self.old { calls = next_count self.old.calls; faults = next_count self.old.faults }) }
+        ensures count { IfOk result (λ n.
+            n ≡ min self.old.most (min (length buf.new) (length self.old.left))) }
+        ensures ok { IfOk result (λ n. self.new ≡ record self.old {
+            left = drop n self.old.left; calls = next_count self.old.calls }) }
+        ensures err { OnErr result (self.new ≡ record self.old {
+            calls = next_count self.old.calls; faults = next_count self.old.faults }) }
     {
         let fails = self.failing.contains(&self.calls);
         self.calls = self.calls.saturating_add(1);
@@ -114,7 +120,9 @@ impl Model for MemSink {
 
     ghost Value = { SinkState };
 
-    ghost view = { λ s. record { held = s.bytes.items; room = s.room; failing = s.failing.items; most = s.most; calls = s.calls; faults = s.faults } };
+    ghost view = { λ s. record {
+        held = s.bytes.items; room = s.room; failing = s.failing.items; most = s.most;
+        calls = s.calls; faults = s.faults } };
 
     ghost invariant = { λ s. (vec_len s.bytes + s.room ≤ vec_capacity s.bytes) × (0 < s.most) };
 }
@@ -169,20 +177,25 @@ impl ByteSink for MemSink {
     fn write(&mut self, bytes: &[u8]) -> Result<usize, Failed>
         ensures bound { IfOk result (λ n. n ≤ length bytes.now) }
         ensures some { IfOk result (λ n. 0 < length bytes.now → 0 < n) }
-        ensures taken { IfOk result (λ n. Appends (Some self.old.held) (Some self.new.held) (take n bytes.now)) }
+        ensures taken { IfOk result (λ n.
+            Appends (Some self.old.held) (Some self.new.held) (take n bytes.now)) }
 
         ensures failed { OnErr result (Rose self.old.faults self.new.faults) }
         ensures kept { OnErr result (Some self.new.held ≡ Some self.old.held) }
         ensures counted { self.old.faults ≤ self.new.faults }
 
         // It fails exactly at a listed call, and where a piece that isn't empty meets no room.
-        ensures listed { IsErr result
-            ↔ (Contains self.old.failing self.old.calls ⊎ ((0 < length bytes.now) × (self.old.room ≡ 0))) }
+        ensures listed { IsErr result ↔ (Contains self.old.failing self.old.calls
+            ⊎ ((0 < length bytes.now) × (self.old.room ≡ 0))) }
 
         // The number of bytes, and what stands after each answer.
-        ensures count { IfOk result (λ n. n ≡ min self.old.most (min (length bytes.now) self.old.room)) }
-        ensures ok { IfOk result (λ n. self.new ≡ record self.old { held = self.old.held ++ take n bytes.now; room = self.old.room - n; calls = next_count self.old.calls }) }
-        ensures err { OnErr result (self.new ≡ record self.old { calls = next_count self.old.calls; faults = next_count self.old.faults }) }
+        ensures count { IfOk result (λ n.
+            n ≡ min self.old.most (min (length bytes.now) self.old.room)) }
+        ensures ok { IfOk result (λ n. self.new ≡ record self.old {
+            held = self.old.held ++ take n bytes.now; room = self.old.room - n;
+            calls = next_count self.old.calls }) }
+        ensures err { OnErr result (self.new ≡ record self.old {
+            calls = next_count self.old.calls; faults = next_count self.old.faults }) }
     {
         let is_listed = self.failing.contains(&self.calls);
         let is_full = self.room == 0 && !bytes.is_empty();

@@ -145,8 +145,8 @@ fn put_line<K: ByteSink>(out: &mut SinkBuffer, sink: &mut K, name: &[u8], value:
 /// A text of two lines, as the layers above write theirs.
 fn write_lines<K: ByteSink>(sink: &mut K, name: &[u8], value: &[u8]) -> Result<(), WriteEnd>
     ensures { Writes K.held K.faults sink.old sink.new
-        (name.now ++ codes " " ++ value.now ++ codes "\n" ++ (value.now ++ codes " " ++ name.now ++ codes "\n"))
-        result }
+        (name.now ++ codes " " ++ value.now ++ codes "\n"
+            ++ (value.now ++ codes " " ++ name.now ++ codes "\n")) result }
 {
     let mut out = SinkBuffer::new();
     put_line(&mut out, sink, name, value);

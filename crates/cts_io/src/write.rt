@@ -2,6 +2,7 @@
 ghost use Rattle.std.specs.Prelude.{◌≡◌, [], ◌<◌, ◌≤◌, length, take, IfErr, OnErr, OnOk, IsOk};
 ghost use Rattle.std.specs.Io.KnownBytes.{Appends};
 ghost use Rattle.cts_io.specs.Faults.{Rose};
+ghost use Rattle.cts_io.specs.Text.{Writes};
 ghost use Rattle.cts_io.specs.Written.{written_of};
 
 use crate::device::ByteSink;
@@ -36,10 +37,14 @@ pub fn write_all<K: ByteSink>(sink: &mut K, bytes: &[u8]) -> Result<(), WriteEnd
     ensures empty { bytes.now ≡ [] → IsOk result }
     ensures untouched { bytes.now ≡ [] → sink.new ≡ sink.old }
 
-    ensures cut { IfErr result (λ e. Appends (K.held sink.old) (K.held sink.new) (take (written_of e) bytes.now)) }
-    ensures short { IfErr result (λ e. written_of e < length bytes.now) }
+    ensures cut { IfErr result (λ end.
+        Appends (K.held sink.old) (K.held sink.new) (take (written_of end) bytes.now)) }
+    ensures short { IfErr result (λ end. written_of end < length bytes.now) }
     ensures write_fault { OnErr result (Rose (K.faults sink.old) (K.faults sink.new)) }
     ensures counted { K.faults sink.old ≤ K.faults sink.new }
+
+    // The same in the form of the calls that write longer texts.
+    ensures text { Writes K.held K.faults sink.old sink.new bytes.now result }
 {
     let mut written = 0;
     while written < bytes.len() {

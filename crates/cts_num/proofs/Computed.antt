@@ -1,15 +1,13 @@
 -- The reading of a text as a function.
-use Rattle.std.proofs.Common.{◌≡◌, ◌≢◌, ◌⊎◌, ℕ, zero, suc, ◌+◌, ◌-◌, ◌*◌, ◌/◌, ◌^◌, ◌<◌, ◌≤◌, min, Bool, true, false, cond, eqb, ltb, List, [], ◌∷◌, length, get_or, take, drop, refl, sym, ap, ◌∙◌, subst, inl, inr, ⊎_elim, arith, Result, Ok, Err, get_or-drop, length-drop, mul-div_cancel}
+use Rattle.std.proofs.Common.{◌≡◌, ◌≢◌, ◌⊎◌, ℕ, suc, ◌+◌, ◌-◌, ◌*◌, ◌/◌, ◌^◌, ◌<◌, ◌≤◌, min, Bool, true, false, cond, eqb, ltb, List, [], ◌∷◌, length, get_or, drop, refl, sym, ap, ◌∙◌, subst, inl, inr, ⊎_elim, arith, get_or-drop, length-drop}
 use Rattle.std.proofs.lemmas.Bool.{cases_lt, ne_eqb, eq-eqb}
 use Rattle.std.proofs.lemmas.Nat.{div-mul-add}
 use Rattle.std.proofs.lemmas.Bool.Decides.{leb_tells, eqb_tells}
 use Rattle.std.proofs.lemmas.List.Sums.{prefix_len-le-length, prefix_len_passes, prefix_len_stops}
-use Rattle.std.specs.Char.{IsAsciiDigit, is_ascii_digit}
+use Rattle.std.specs.Char.{is_ascii_digit}
 use Rattle.std.specs.List.{prefix_len}
 use Rattle.cts_num.specs.Number.{digit_number}
 use Rattle.cts_num.specs.Reading.{point_place, fraction_length, IsDecimal, IsEmptyDecimal, IsFirstBadByte, IsFirstTooFine, IsReading, bad_place, fine_place, is_empty_decimal, below_limit, reading_of}
-use Rattle.cts_num.specs.declared.read.DecimalFault.{DecimalFault}
-use Rattle.cts_num.specs.declared.read.DecimalFault.TheVariants.{Empty, BadByte, TooFine, TooGreat}
 use Rattle.cts_num.proofs.Texts.{ten_pos}
 use Rattle.cts_num.proofs.Fronts.{AllDigitsIn, AllZerosIn, HasPoint, passes_digit, fails_digit, point_place_is, point_place_none, byte_at_point}
 use Rattle.cts_num.proofs.Steps.{bad_before_point, bad_after_point, good_around_point, whole_value, point_value}
@@ -24,13 +22,13 @@ passing_from p text j =
     let n = prefix_len p (drop j text) in
     record {
       passes = λ k lo hi.
-        let e : j + (k - j) ≡ k = omega arith in
-        subst (λ i. p (get_or text i 0) ≡ true) e (ap p (sym (get_or-drop j text (k - j) 0)) ∙ prefix_len_passes p (drop j text) (k - j) 0 (omega arith));
+          let e : j + (k - j) ≡ k = omega arith in
+          subst (λ i. p (get_or text i 0) ≡ true) e (ap p (sym (get_or-drop j text (k - j) 0)) ∙ prefix_len_passes p (drop j text) (k - j) 0 (omega arith));
       stops = λ lt. ap p (sym (get_or-drop j text n 0)) ∙ prefix_len_stops p (drop j text) 0 (omega (arith, length-drop j text));
     }
 
 digits_from : (text : List ℕ) (j n : ℕ) → Passing is_ascii_digit text j n → AllDigitsIn text j (j + n)
-digits_from text j n h = record { each = λ k lo hi. passes_digit (get_or text k 0) (h.passes k lo hi); }
+digits_from text j n h = record { each = λ k lo hi. passes_digit (get_or text k 0) (h.passes k lo hi) }
 
 -- each test with what it tells
 
@@ -57,7 +55,7 @@ bad_behind text q e f =
     ∙ ap (λ n. n + 1 + prefix_len is_ascii_digit (drop (n + 1) text)) e
 
 front_digits : (text : List ℕ) → AllDigitsIn text 0 (prefix_len is_ascii_digit text)
-front_digits text = record { each = λ k lo hi. passes_digit (get_or text k 0) (prefix_len_passes is_ascii_digit text k 0 hi); }
+front_digits text = record { each = λ k lo hi. passes_digit (get_or text k 0) (prefix_len_passes is_ascii_digit text k 0 hi) }
 
 BadTold : List ℕ → ℕ → Type 0
 BadTold text bad = ((ltb bad (length text) ≡ true) × IsFirstBadByte text bad) ⊎ ((ltb bad (length text) ≡ false) × Clean text)
@@ -77,7 +75,7 @@ bad_told_behind text q inside e f =
     } in
     rw (bad_behind text q e f) (elim (leb_tells (suc bad) (length text)) [
       | inl p ↦ inl (p.0, bad_after_point text q bad point (omega arith) p.1 digits (fails_digit (get_or text bad 0) (h.stops p.1)))
-      | inr p ↦ inr (p.0, inr (q, point, record { each = λ k lo hi. digits.each k lo (omega (arith, p.1)); }))
+      | inr p ↦ inr (p.0, inr (q, point, record { each = λ k lo hi. digits.each k lo (omega (arith, p.1)) }))
     ])
 
 -- the digits at the front are the whole text
@@ -97,8 +95,11 @@ bad_told_front text ne =
     let d = prefix_len is_ascii_digit text in
     let digits = front_digits text in
     rw (bad_in_front text ne) (elim (leb_tells (suc d) (length text)) [
-      | inl p ↦ inl (p.0, bad_before_point text d p.1 digits (fails_digit (get_or text d 0) (prefix_len_stops is_ascii_digit text 0 p.1))
-            (λ e. ne (sym (point_place_is text d (record { inside = p.1; point = e; before = λ k lt. digits.each k (omega arith) lt; })))))
+      | inl p ↦ inl (
+        p.0,
+        bad_before_point text d p.1 digits (fails_digit (get_or text d 0) (prefix_len_stops is_ascii_digit text 0 p.1))
+            (λ e. ne (sym (point_place_is text d (record { inside = p.1; point = e; before = λ k lt. digits.each k (omega arith) lt })))),
+      )
       | inr p ↦
           let e : d ≡ length text = omega (arith, p.1, prefix_len-le-length is_ascii_digit text) in
           absurd (ne (e ∙ sym (point_place_none text (rw e at digits))))
@@ -133,15 +134,18 @@ fine_tells text places clean =
       | inl p ↦
           let lt = p.1 in
           ⊎_elim (λ all. absurd (omega (arith, point_place_none text all)))
-          (λ w. inl (p.0, record {
+          (λ w. inl (
+            p.0,
+            record {
               good = good_around_point text w.0 (length text) w.1 w.2;
               inside = lt;
               past = omega arith;
               fine = other_byte (get_or text fine 0) (h.stops lt);
               first = λ k after before. zero_byte (get_or text k 0) (h.passes k (omega arith) before);
-            }))
+            },
+          ))
           clean
-      | inr p ↦ inr (p.0, record { each = λ k lo hi. zero_byte (get_or text k 0) (h.passes k lo (omega (arith, p.1))); })
+      | inr p ↦ inr (p.0, record { each = λ k lo hi. zero_byte (get_or text k 0) (h.passes k lo (omega (arith, p.1))) })
     ]
 
 -- the value
@@ -161,7 +165,7 @@ some_value text places some other clean zeros =
     let inside = w.1.inside in
     let place = point_place_is text q w.1 in
     let kept = min (length text) (q + 1 + places) in
-    (_, point_value text q kept places w.1 (omega arith) refl other (record { each = λ k lo hi. w.2.each k lo (omega arith); }) (record { each = λ k lo hi. zeros.each k (omega arith) hi; })))
+    (_, point_value text q kept places w.1 (omega arith) refl other (record { each = λ k lo hi. w.2.each k lo (omega arith) }) (record { each = λ k lo hi. zeros.each k (omega arith) hi })))
     clean
 
 limited : (text : List ℕ) (places v : ℕ) → IsDecimal text places v → IsReading text places (below_limit v)

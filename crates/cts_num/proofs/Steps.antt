@@ -17,8 +17,8 @@ capped_below n d number e h = omega arith
 
 digit_first : (text : List ℕ) (i end : ℕ) → IsAsciiDigit (get_or text i 0) → ((k : ℕ) → i + 1 ≤ k → k < end → IsAsciiDigit (get_or text k 0)) → AllDigitsIn text i end
 digit_first text i end here next = record {
-    each = λ k lo hi. ⊎_elim (λ lt. let e : i ≡ k = omega arith in subst (λ j. IsAsciiDigit (get_or text j 0)) e here) (λ le. next k le hi) (cases_lt k (i + 1));
-  }
+  each = λ k lo hi. ⊎_elim (λ lt. let e : i ≡ k = omega arith in subst (λ j. IsAsciiDigit (get_or text j 0)) e here) (λ le. next k le hi) (cases_lt k (i + 1));
+}
 
 pub capped_rest : (text : List ℕ) (i end number : ℕ) → i < end → end ≤ length text → IsAsciiDigit (get_or text i 0) → ((k : ℕ) → i + 1 ≤ k → k < end → IsAsciiDigit (get_or text k 0)) → number ≡ min (digit_number (take i text)) (10 ^ 18) → 10 ^ 17 ≤ number → 10 ^ 18 ≡ min (digit_number (take end text)) (10 ^ 18)
 capped_rest text i end number lt le here next e large =
@@ -26,7 +26,7 @@ capped_rest text i end number lt le here next e large =
     let j = end - i - 1 in
     let whole : i + suc j ≡ end = omega arith in
     let front = digit_number (take i text) in
-    let rest = digit_number_rest text i (suc j) (omega arith) (record { each = λ k lo hi. digits.each k lo (omega arith); }) in
+    let rest = digit_number_rest text i (suc j) (omega arith) (record { each = λ k lo hi. digits.each k lo (omega arith) }) in
     let one = ten_pos j in
     let more : front * 10 * 1 ≤ front * 10 * 10 ^ j = mul-le-mul_left (front * 10) one in
     let unit : front * 10 ^ suc j ≡ front * 10 * 10 ^ j = ap (λ x. front * x) (pow-suc 10 j) ∙ omega arith in

@@ -1,12 +1,12 @@
 -- The texts of numbers, taken apart by their last digits.
-use Rattle.std.proofs.Common.{◌≡◌, ℕ, zero, suc, ◌+◌, ◌-◌, ◌*◌, ◌/◌, ◌%◌, ◌^◌, ◌<◌, ◌≤◌, cond, [], ◌∷◌, ◌++◌, length, map, replicate, refl, sym, ap, ◌∙◌, inl, inr, arith, append_assoc, append-nil, length-append, pow-suc, eq-zero-or-pos, div-one, div-add-mod', mod-lt}
+use Rattle.std.proofs.Common.{◌≡◌, ℕ, zero, suc, ◌+◌, ◌-◌, ◌*◌, ◌/◌, ◌%◌, ◌^◌, ◌<◌, ◌≤◌, cond, [], ◌∷◌, ◌++◌, length, map, replicate, refl, sym, ap, ◌∙◌, inl, inr, arith, append_assoc, append-nil, length-append, pow-suc, eq-zero-or-pos, div-one, div-add-mod', mod-lt, mul-pos, mul_assoc, mod-eq_of_lt}
 use Rattle.std.proofs.lemmas.Bool.{ne_eqb}
-use Rattle.std.proofs.Math.Nat.{one-le-pow, pow-zero, mod-one}
+use Rattle.std.proofs.Math.Nat.{one-le-pow, pow-zero, mod-one, div-div-eq-div-mul}
 use Rattle.std.proofs.lemmas.Int.Digits.{digits_of_step, length-digits_of-le}
 use Rattle.std.proofs.lemmas.List.{map_push, replicate_more, length-map, length-replicate}
-use Rattle.std.proofs.lemmas.Nat.{div-mul-add, mod-mul-add, div_below, pow-add}
+use Rattle.std.proofs.lemmas.Nat.{div-mul-add, mod-mul-add, div_below, pow-add, le-div}
 use Rattle.std.specs.Int.Digits.{digits_of}
-use Rattle.cts_num.specs.Decimal.{glyph, digits_text, whole_text, padded_text, pair_text, decimal_text}
+use Rattle.cts_num.specs.Decimal.{glyph, digits_text, whole_text, padded_text, pair_text, fraction_text, decimal_text}
 
 pub digits_text_step : (n : ℕ) → 0 < n → digits_text n ≡ digits_text (n / 10) ++ glyph (n % 10) ∷ []
 unfolding digits_text
@@ -173,13 +173,114 @@ whole_part-lt k p n le h =
 
 -- the whole text of a decimal
 
-pub decimal_text-zero : (v : ℕ) → decimal_text 0 v ≡ whole_text v
+pub fraction_text-zero : (v : ℕ) → fraction_text 0 v ≡ []
+unfolding fraction_text
+fraction_text-zero v = refl
+
+pub fraction_text-some : (p v : ℕ) → 0 < p → fraction_text p v ≡ 46 ∷ padded_text p (v % 10 ^ p)
+unfolding fraction_text
+fraction_text-some p v h = ap (λ b. cond b [] (46 ∷ padded_text p (v % 10 ^ p))) (ne_eqb p 0 (λ e. omega arith))
+
+pub length-fraction_text-some : (p v : ℕ) → 0 < p → length (fraction_text p v) ≡ p + 1
+length-fraction_text-some p v h = ap length (fraction_text-some p v h) ∙ omega (arith, length-padded_text p (v % 10 ^ p) (mod-lt v (ten_pos p)))
+
+pub length-fraction_text-le : (p v : ℕ) → length (fraction_text p v) ≤ p + 1
+length-fraction_text-le p v =
+    elim (eq-zero-or-pos p) [
+      | inl z ↦ omega (arith, ap (λ j. length (fraction_text j v)) z, ap length (fraction_text-zero v))
+      | inr pos ↦ omega (arith, length-fraction_text-some p v pos)
+    ]
+
+pub decimal_text-parts : (p v : ℕ) → decimal_text p v ≡ whole_text (v / 10 ^ p) ++ fraction_text p v
 unfolding decimal_text
-decimal_text-zero v = refl
+decimal_text-parts p v = refl
+
+pub decimal_text-zero : (v : ℕ) → decimal_text 0 v ≡ whole_text v
+decimal_text-zero v = decimal_text-parts 0 v ∙ rw (fraction_text-zero v, append-nil (whole_text (v / 1)), div-one v) refl
 
 pub decimal_text-some : (p v : ℕ) → 0 < p → decimal_text p v ≡ whole_text (v / 10 ^ p) ++ (46 ∷ padded_text p (v % 10 ^ p))
-unfolding decimal_text
-decimal_text-some p v h =
-    let whole = whole_text (v / 10 ^ p) in
-    let fraction = padded_text p (v % 10 ^ p) in
-    ap (λ b. cond b (whole_text v) (whole ++ (46 ∷ []) ++ fraction)) (ne_eqb p 0 (λ e. omega arith)) ∙ append_assoc whole (46 ∷ []) fraction
+decimal_text-some p v h = decimal_text-parts p v ∙ ap (λ t. whole_text (v / 10 ^ p) ++ t) (fraction_text-some p v h)
+
+-- both parts fit 39 bytes
+pub parts_fit : (p v : ℕ) → p ≤ 16 → v < 10 ^ 38 → length (whole_text (v / 10 ^ p)) + length (fraction_text p v) ≤ 39
+parts_fit p v le lt =
+    let bound = whole_part-lt 38 p v (omega arith) lt in
+    let e : 38 - p ≡ suc (37 - p) = omega arith in
+    let long = length-whole_text-le (37 - p) (v / 10 ^ p) (rw e at bound) in
+    elim (eq-zero-or-pos p) [
+      | inl z ↦ omega (arith, ap (λ j. length (fraction_text j v)) z, ap length (fraction_text-zero v))
+      | inr pos ↦ omega (arith, length-fraction_text-some p v pos)
+    ]
+
+-- the last digits
+
+pub low_text-zero : (n : ℕ) → padded_text 0 (n % 10 ^ 0) ≡ []
+low_text-zero n = ap (padded_text 0) (mod-one n) ∙ padded_text-zero 0 (omega arith)
+
+pub low_text_step : (w n : ℕ) → padded_text (w + 1) (n % 10 ^ (w + 1)) ≡ padded_text w (n / 10 % 10 ^ w) ++ glyph (n % 10) ∷ []
+low_text_step w n =
+    let s : w + 1 ≡ suc w = omega arith in
+    let d = split_at w n in
+    padded_text_step w (n % 10 ^ (w + 1)) ∙ rw (s, d.middle, d.last) refl
+
+pub low_text_pair : (w n : ℕ) → padded_text (w + 2) (n % 10 ^ (w + 2)) ≡ padded_text w (n / 100 % 10 ^ w) ++ pair_text (n % 100)
+low_text_pair w n =
+    let s : w + 2 ≡ w + 1 + 1 = omega arith in
+    let a : n / 10 / 10 ≡ n / 100 = omega arith in
+    let b : n / 10 % 10 ≡ n % 100 / 10 = omega arith in
+    let c : n % 10 ≡ n % 100 % 10 = omega arith in
+    rw (s, low_text_step (w + 1) n, low_text_step w (n / 10), append_assoc, a, b, ← c)
+
+pub hundred_more : (n k : ℕ) → n / 10 ^ k / 100 ≡ n / 10 ^ (k + 2)
+hundred_more n k = div-div-eq-div-mul n (10 ^ k) 100 ∙ ap (λ d. n / d) (sym (pow-add 10 k 2))
+
+pub ten_more : (n k : ℕ) → n / 10 ^ k / 10 ≡ n / 10 ^ (k + 1)
+ten_more n k = div-div-eq-div-mul n (10 ^ k) 10 ∙ ap (λ d. n / d) (sym (pow-add 10 k 1))
+
+-- a value cut after c digits, at p places
+
+pub record Cut (n q t : ℕ) : Type 0 where
+  pub high : n / q / t ≡ n / (t * q)
+  pub rest : n / q % t ≡ n % (t * q) / q
+  pub low : n % (t * q) % q ≡ n % q
+
+cut_by : (n q t : ℕ) → 0 < q → 0 < t → Cut n q t
+cut_by n q t pq pt =
+    let u = t * q in
+    let pu : 0 < u = mul-pos pt pq in
+    let h = n / u in
+    let l = n % u in
+    let r = l / q in
+    let f = l % q in
+    let small : r < t = div_below l q t pq (mod-lt n pu) in
+    let e : n ≡ (h * t + r) * q + f = omega (arith, div-add-mod' n u, div-add-mod' l q, mul_assoc h t q) in
+    let whole : n / q ≡ h * t + r = ap (λ x. x / q) e ∙ div-mul-add (h * t + r) q f (mod-lt l pq) in
+    record {
+      high = ap (λ x. x / t) whole ∙ div-mul-add h t r small;
+      rest = ap (λ x. x % t) whole ∙ mod-mul-add h t r small;
+      low = sym (ap (λ x. x % q) e ∙ mod-mul-add (h * t + r) q f (mod-lt l pq));
+    }
+
+pub cut_at : (c p n : ℕ) → p ≤ c → Cut n (10 ^ p) (10 ^ (c - p)) × (10 ^ (c - p) * 10 ^ p ≡ 10 ^ c)
+cut_at c p n le =
+    let s : c - p + p ≡ c = omega arith in
+    (cut_by n (10 ^ p) (10 ^ (c - p)) (ten_pos p) (ten_pos (c - p)), sym (pow-add 10 (c - p) p) ∙ ap (λ j. 10 ^ j) s)
+
+fraction_text-low : (p v : ℕ) → v % 10 ^ 16 % 10 ^ p ≡ v % 10 ^ p → fraction_text p v ≡ fraction_text p (v % 10 ^ 16)
+unfolding fraction_text
+fraction_text-low p v e = rw e refl
+
+pub decimal_text-cut : (p v : ℕ) → p ≤ 16 → 10 ^ 16 ≤ v
+    → decimal_text p v ≡ whole_text (v / 10 ^ 16) ++ (padded_text (16 - p) (v % 10 ^ 16 / 10 ^ p % 10 ^ (16 - p)) ++ fraction_text p (v % 10 ^ 16))
+decimal_text-cut p v le big =
+    let q = 10 ^ p in
+    let t = 10 ^ (16 - p) in
+    let cut = cut_at 16 p v le in
+    let x = v / q in
+    let more : t ≤ x = le-div t v q (ten_pos p) (rw cut.1 big) in
+    let high : x / t ≡ v / 10 ^ 16 = cut.0.high ∙ ap (λ u. v / u) cut.1 in
+    let rest : x % t ≡ v % 10 ^ 16 / q % t = sym (mod-eq_of_lt (mod-lt x (ten_pos (16 - p)))) ∙ ap (λ y. y % t) (cut.0.rest ∙ ap (λ u. v % u / q) cut.1) in
+    let low : v % 10 ^ 16 % q ≡ v % q = ap (λ u. v % u % q) (sym cut.1) ∙ cut.0.low in
+    let whole : whole_text x ≡ whole_text (v / 10 ^ 16) ++ padded_text (16 - p) (v % 10 ^ 16 / q % t) =
+    whole_text_split (16 - p) x more ∙ rw (high, rest) refl in
+    decimal_text-parts p v ∙ rw (whole, fraction_text-low p v low) (append_assoc (whole_text (v / 10 ^ 16)) (padded_text (16 - p) (v % 10 ^ 16 / q % t)) (fraction_text p (v % 10 ^ 16)))

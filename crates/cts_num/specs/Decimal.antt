@@ -24,9 +24,10 @@ padded_text width number = replicate (width - length (digits_text number)) (glyp
 abbrev pub pair_text : ℕ → List ℕ
 pair_text number = glyph (number / 10) ∷ glyph (number % 10) ∷ []
 
--- `value` in units of 10^-places: the whole part, and at places above 0 a point and the fraction
+-- the point and the fraction at places above 0, and nothing at 0 places
+unfoldable pub fraction_text : ℕ → ℕ → List ℕ
+fraction_text places value = if places == 0 then [] else codes "." ++ padded_text places (value % 10 ^ places)
+
+-- `value` in units of 10^-places
 unfoldable pub decimal_text : ℕ → ℕ → List ℕ
-decimal_text places value =
-    if places == 0
-    then whole_text value
-    else whole_text (value / 10 ^ places) ++ codes "." ++ padded_text places (value % 10 ^ places)
+decimal_text places value = whole_text (value / 10 ^ places) ++ fraction_text places value

@@ -82,13 +82,13 @@ reading_of text places =
     if is_empty_decimal text
     then Err Empty
     else (
-      if nat_lt (bad_place text) (length text)
-      then Err (BadByte (bad_place text))
-      else (
-        if nat_lt (fine_place text places) (length text)
-        then Err (TooFine (fine_place text places))
-        else below_limit (digit_number text * 10 ^ places / 10 ^ fraction_length text)
-      )
+    if nat_lt (bad_place text) (length text)
+    then Err (BadByte (bad_place text))
+    else (
+    if nat_lt (fine_place text places) (length text)
+    then Err (TooFine (fine_place text places))
+    else below_limit (digit_number text * 10 ^ places / 10 ^ fraction_length text)
+    )
     )
 
 -- a fault from `from` on: the first byte that is no digit, or where there is none the first digit

@@ -1,25 +1,21 @@
 // Numbers written as decimal text, from the last digit to the first.
 ghost use Rattle.std.specs.Prelude.{◌≡◌, ℕ, ◌+◌, ◌-◌, ◌/◌, ◌%◌, ◌^◌, ◌<◌, ◌≤◌, List, ◌++◌, length, drop};
-ghost use Rattle.cts_num.specs.Decimal.{decimal_text, padded_text, pair_text, whole_text};
+ghost use Rattle.cts_num.specs.Decimal.{decimal_text, fraction_text, padded_text, pair_text, whole_text};
 
-use crate::powers::POWERS_OF_TEN;
 use std::marker::Model;
 
 // The longest text has 38 digits and a point.
 const CAPACITY: usize = 39;
 
-// Digits that fit a `u64`, and the least number with more.
-const CHUNK: usize = 18;
+// A value of two words is cut after this many digits, as many as the greatest number of places.
+const CHUNK: usize = 16;
 
-const CHUNK_SCALE: u128 = 1_000_000_000_000_000_000;
+const CHUNK_UNIT: u64 = 10_000_000_000_000_000;
 
-// One at the greatest number of places.
-const FINEST: u64 = 10_000_000_000_000_000;
+// 2^64 is `WORD_CHUNKS * CHUNK_UNIT + WORD_REST`.
+const WORD_CHUNKS: u64 = 1_844;
 
-// 2^64 is `HIGH_WHOLE * FINEST + HIGH_REST`.
-const HIGH_WHOLE: u64 = 1_844;
-
-const HIGH_REST: u64 = 6_744_073_709_551_616;
+const WORD_REST: u64 = 6_744_073_709_551_616;
 
 // The numbers from 00 to 99.
 static PAIRS: [u8; 200] =
@@ -53,6 +49,7 @@ impl Digits {
 ///
 /// The whole part has no leading zero, except that zero is `0`. With places above 0, a point and
 /// exactly that many digits follow. The text is at most 39 bytes.
+#[inline(always)]
 pub fn decimal(value: u128, places: u32) -> Digits
     requires value { value < 10 ^ 38 }
     requires places { places ≤ 16 }
@@ -75,54 +72,52 @@ fn write_decimal(value: u128, places: usize, buffer: &mut [u8]) -> usize
     ensures start { result ≤ CAPACITY }
     ensures written { drop result buffer.new ≡ decimal_text places value }
 {
-    if places == 0 {
-        return write_whole(value, buffer, CAPACITY);
+    if value <= u128::from(u64::MAX) {
+        let (whole, end) = write_fraction(value as u64, places, buffer);
+        return write_word(whole, buffer, end);
     }
-    let (whole, fraction) = split(value, places);
-    let point = CAPACITY - places - 1;
-    write_padded(fraction, places, buffer, CAPACITY);
-    buffer[point] = b'.';
-    write_whole(whole, buffer, point)
+    let (high, low) = split(value);
+    let (rest, end) = write_fraction(low, places, buffer);
+    let width = CHUNK - places;
+    write_low(rest, width, buffer, end);
+    write_whole(high, buffer, end - width)
 }
 
-// The whole part and the fraction at `places` decimal places. One word is divided fast, and
-// fastest by a constant, so the usual numbers of places have arms of their own.
-fn split(value: u128, places: usize) -> (u128, u64)
-    requires { places ≤ 16 }
-    ensures whole { result.0 ≡ value / 10 ^ places }
-    ensures fraction { result.1 ≡ value % 10 ^ places }
-{
-    if value > u128::from(u64::MAX) {
-        return split_wide(value, places);
-    }
-    let word = value as u64;
-    let (whole, fraction) = match places {
-        3 => (word / 1_000, word % 1_000),
-        4 => (word / 10_000, word % 10_000),
-        6 => (word / 1_000_000, word % 1_000_000),
-        16 => (word / FINEST, word % FINEST),
-        _ => (word / POWERS_OF_TEN[places], word % POWERS_OF_TEN[places]),
-    };
-    (u128::from(whole), fraction)
-}
-
-// As `split`, for a value of two words. At 16 places a small high word is turned into units of
-// 10^16 and a rest, without the slow division of two words.
-fn split_wide(value: u128, places: usize) -> (u128, u64)
-    requires { places ≤ 16 }
-    ensures whole { result.0 ≡ value / 10 ^ places }
-    ensures fraction { result.1 ≡ value % 10 ^ places }
+// The chunks of a value, and what is left below one. A small high word is turned into chunks and a
+// rest without the slow division of two words.
+fn split(value: u128) -> (u128, u64)
+    ensures chunks { result.0 ≡ value / 10 ^ 16 }
+    ensures low { result.1 ≡ value % 10 ^ 16 }
 {
     let high = value >> 64;
-    if places == 16 && high < 1024 {
+    if high < 1024 {
         let high = high as u64;
         let low = (value & u128::from(u64::MAX)) as u64;
-        let rest = high * HIGH_REST + low % FINEST;
-        let whole = high * HIGH_WHOLE + low / FINEST + rest / FINEST;
-        return (u128::from(whole), rest % FINEST);
+        let rest = high * WORD_REST + low % CHUNK_UNIT;
+        let chunks = high * WORD_CHUNKS + low / CHUNK_UNIT + rest / CHUNK_UNIT;
+        (u128::from(chunks), rest % CHUNK_UNIT)
+    } else {
+        let unit = u128::from(CHUNK_UNIT);
+        (value / unit, (value % unit) as u64)
     }
-    let scale = u128::from(POWERS_OF_TEN[places]);
-    (value / scale, (value % scale) as u64)
+}
+
+// Writes the point and the fraction so that they end with the buffer. Returns the whole part, and
+// where its text is to end.
+fn write_fraction(number: u64, places: usize, buffer: &mut [u8]) -> (u64, usize)
+    requires places { places ≤ 16 }
+    requires buffer { length buffer.old ≡ CAPACITY }
+    ensures whole { result.0 ≡ number / 10 ^ places }
+    ensures end { result.1 + length (fraction_text places number) ≡ CAPACITY }
+    ensures written { drop result.1 buffer.new ≡ fraction_text places number }
+{
+    let whole = write_low(number, places, buffer, CAPACITY);
+    if places == 0 {
+        return (whole, CAPACITY);
+    }
+    let point = CAPACITY - places - 1;
+    buffer[point] = b'.';
+    (whole, point)
 }
 
 // Writes the digits so that they end at `end`, and returns where they start.
@@ -134,10 +129,11 @@ fn write_whole(number: u128, buffer: &mut [u8], end: usize) -> usize
 {
     let mut rest = number;
     let mut at = end;
-    while rest >= CHUNK_SCALE {
-        write_padded((rest % CHUNK_SCALE) as u64, CHUNK, buffer, at);
-        rest /= CHUNK_SCALE;
+    while rest > u128::from(u64::MAX) {
+        let (chunks, low) = split(rest);
+        write_low(low, CHUNK, buffer, at);
         at -= CHUNK;
+        rest = chunks;
     }
     write_word(rest as u64, buffer, at)
 }
@@ -176,12 +172,13 @@ fn write_first(number: u64, buffer: &mut [u8], end: usize) -> usize
     }
 }
 
-// Writes exactly `width` digits, which end at `end`.
-fn write_padded(number: u64, width: usize, buffer: &mut [u8], end: usize)
-    requires number { number < 10 ^ width }
+// Writes the last `width` digits so that they end at `end`, and returns the number before them.
+fn write_low(number: u64, width: usize, buffer: &mut [u8], end: usize) -> u64
     requires room { width ≤ end }
     requires end { end ≤ length buffer.old }
-    ensures { drop (end - width) buffer.new ≡ padded_text width number ++ drop end buffer.old }
+    ensures rest { result ≡ number / 10 ^ width }
+    ensures written { drop (end - width) buffer.new
+        ≡ padded_text width (number % 10 ^ width) ++ drop end buffer.old }
 {
     let start = end - width;
     let mut rest = number;
@@ -192,8 +189,10 @@ fn write_padded(number: u64, width: usize, buffer: &mut [u8], end: usize)
         rest /= 100;
     }
     if at > start {
-        buffer[start] = b'0' + rest as u8;
+        buffer[start] = b'0' + (rest % 10) as u8;
+        rest /= 10;
     }
+    rest
 }
 
 fn write_pair(pair: u64, buffer: &mut [u8], at: usize)

@@ -1,6 +1,7 @@
 -- An upward pass: values of the trees in the order of their numbers, each from those of its parts.
-use Rattle.std.proofs.Common.{◌≡◌, ℕ, ◌+◌, ◌<◌, ◌≤◌, List, [], ◌∷◌, ◌++◌, map, take, length, get_or, Option, Some, None, IsSome, refl, sym, ap, subst, ◌∙◌, arith, get_or-take, take_all}
-use Rattle.std.proofs.lemmas.List.{get_or-map, take-map, map_more, length-map, length-take-le, get_or_push}
+use Rattle.std.proofs.Common.{◌≡◌, ℕ, ◌+◌, ◌<◌, ◌≤◌, List, [], ◌∷◌, ◌++◌, map, take, length, get_or, Option, Some, None, IsSome, inl, inr, refl, sym, ap, subst, ◌∙◌, arith, get_or-take, take_all}
+use Rattle.std.proofs.lemmas.List.{map_push, get_or-map, take-map, map_more, length-map, length-take-le, get_or_push}
+use Rattle.std.proofs.lemmas.Bool.{cases_lt}
 use Rattle.cts_postorder.specs.BinaryTree.{BinaryTree, tip, fork}
 use Rattle.cts_postorder.specs.PostOrder.{IsPostOrder, tree_over, trees_of}
 use Rattle.cts_postorder.specs.Pass.{IsLeastFailure}
@@ -71,6 +72,18 @@ pub kept_value : {V : Type 0} (out : List V) (i : ℕ) (v : V) (tried : Option V
     → get_or (map Some out) i None ≡ tried → tried ≡ Some (get_or out i v)
 kept_value out i v tried h e = sym e ∙ get_or-map Some out i v None h
 
+-- some item of a list that has one
+first : {V : Type 0} (xs : List V) (i : ℕ) → i < length xs → V
+first [] i h = absurd (omega arith)
+first (x ∷ xs) i h = x
+
+-- one more value is kept
+pub kept_more : {V : Type 0} (out : List V) (x : V) (values : List (Option V)) (k : ℕ) (tried : Option V)
+    → map Some out ≡ take k values → take (k + 1) values ≡ take k values ++ tried ∷ [] → tried ≡ Some x
+    → map Some (out ++ x ∷ []) ≡ take (k + 1) values
+kept_more out x values k tried kept next is =
+    map_push Some out x ∙ ap (λ vs. vs ++ Some x ∷ []) kept ∙ ap (λ v. take k values ++ v ∷ []) (sym is) ∙ sym next
+
 module _ {N V : Type 0} (kids : N → Option (ℕ × ℕ)) (tried : BinaryTree N → Option V) where
   -- where the next tree fails, its number is the least
   pub least_failure : (nodes : List N) (out : List V) (k : ℕ) (t : BinaryTree N) → k < length nodes
@@ -87,11 +100,36 @@ module _ {N V : Type 0} (kids : N → Option (ℕ × ℕ)) (tried : BinaryTree N
         fails = sym (get_or-take (k + 1) values k None (omega arith)) ∙ ap (λ vs. get_or vs k None) next
             ∙ get_or_push (take k values) (tried t) None k front ∙ fails;
         none_before = λ j w.
+            let inside : j < length out = omega arith in
             let there : get_or values j None ≡ get_or (map Some out) j None =
             sym (get_or-take k values j None w) ∙ ap (λ vs. get_or vs j None) (sym kept) in
-            subst IsSome (sym (there ∙ get_or-map Some out j (first out j (omega arith)) None (omega arith))) refl;
+            subst IsSome (sym (there ∙ get_or-map Some out j (first out j inside) None inside)) refl;
       }
+
+  -- the least number that fails is one
+  pub least_failure_unique : (nodes : List N) (j k : ℕ) → IsLeastFailure kids nodes tried j
+      → IsLeastFailure kids nodes tried k → j ≡ k
+  least_failure_unique nodes j k f g =
+      elim (cases_lt j k) [
+        | inl h ↦ absurd (no_value _ f.fails (g.none_before j h))
+        | inr h ↦ elim (cases_lt k j) [
+          | inl w ↦ absurd (no_value _ g.fails (f.none_before k w))
+          | inr w ↦ omega arith
+        ]
+      ]
     where
-      first : (xs : List V) (i : ℕ) → i < length xs → V
-      first [] i u = absurd (omega arith)
-      first (x ∷ xs) i u = x
+      no_value : (v : Option V) → v ≡ None → IsSome v → ⊥
+      no_value None e h = cc
+      no_value (Some x) e h = cc
+
+  -- where every value is kept no number fails
+  pub kept_all : (nodes : List N) (out : List V) → map Some out ≡ map tried (trees_of kids nodes) → (k : ℕ)
+      → ¬ IsLeastFailure kids nodes tried k
+  kept_all nodes out kept k f =
+      let long : length out ≡ length nodes =
+      sym (length-map out Some) ∙ ap length kept ∙ length-map (trees_of kids nodes) tried ∙ length-trees_of kids nodes in
+      let within : k < length out = omega (arith, f.within) in
+      let there : get_or (map Some out) k None ≡ None = ap (λ vs. get_or vs k None) kept ∙ f.fails in
+      let some : get_or (map Some out) k None ≡ Some (get_or out k (first out k within)) =
+      get_or-map Some out k (first out k within) None within in
+      cc

@@ -1,6 +1,6 @@
 -- One division of pins that are sorted along their axis: what the parts are, and that the nodes of the two trees and
 -- the pair over them are the nodes of the tree over all.
-use Rattle.std.proofs.Common.{◌≡◌, ◌≢◌, ℕ, zero, suc, ◌+◌, ◌-◌, ◌*◌, ◌<◌, ◌≤◌, List, [], ◌∷◌, ◌++◌, take, drop, length, get_or, IsPermutation, IsSortedBy, refl, sym, ap, ap₂, subst, ◌∙◌, arith, append_assoc, length-append, length-drop}
+use Rattle.std.proofs.Common.{◌≡◌, ℕ, zero, suc, ◌+◌, ◌-◌, ◌<◌, ◌≤◌, List, [], ◌∷◌, ◌++◌, take, drop, length, get_or, IsPermutation, IsSortedBy, refl, sym, ap, ap₂, subst, ◌∙◌, arith, append_assoc, length-append, length-drop}
 use Rattle.std.specs.Int.{div_ceil}
 use Rattle.std.proofs.lemmas.List.{length-take-le}
 use Rattle.cts_postorder.specs.BinaryTree.{BinaryTree, size, labels, root_number}
@@ -39,7 +39,7 @@ halves_ready ps qs ls rs half h distinct order is front back =
       left_some = omega arith;
       right_some = omega arith;
       left_distinct = subst HasDistinctIds (sym front) (distinct-take qs half apart);
-      right_distinct = subst HasDistinctIds (sym back) (distinct-drop qs half apart)
+      right_distinct = subst HasDistinctIds (sym back) (distinct-drop qs half apart);
     }
 
 -- one pin
@@ -66,31 +66,31 @@ divided_pair ps qs ls rs half h distinct order sorted is front back nodes left b
     let rises : Rises (is_before (is_wide ps)) qs = rises_of (is_wide ps) qs sorted (distinct-Shuffled s distinct) in
     let parts = parts_of_sorted ps qs s rises in
     let left_same : Shuffled (left_part ps) ls =
-        subst (Shuffled (left_part ps)) (ap (λ n. take n qs) (sym is) ∙ sym front) (parts.0) in
+    subst (Shuffled (left_part ps)) (ap (λ n. take n qs) (sym is) ∙ sym front) (parts.0) in
     let right_same : Shuffled (right_part ps) rs =
-        subst (Shuffled (right_part ps)) (ap (λ n. drop n qs) (sym is) ∙ sym back) (parts.1) in
+    subst (Shuffled (right_part ps)) (ap (λ n. drop n qs) (sym is) ∙ sym back) (parts.1) in
     let first : ℕ = length nodes in
     let l : BinaryTree ShapeNode = division limit first (left_part ps) in
     let r : BinaryTree ShapeNode = division limit (first + size l) (right_part ps) in
     let left_tree : left ≡ nodes ++ labels l =
-        left_is limit (omega (arith, ready.total, ready.right_some))
-        ∙ ap (λ t. nodes ++ labels t) (sym (division-Shuffled limit first (left_part ps) ls left_same)) in
+    left_is limit (omega (arith, ready.total, ready.right_some))
+    ∙ ap (λ t. nodes ++ labels t) (sym (division-Shuffled limit first (left_part ps) ls left_same)) in
     let left_long : length left ≡ first + size l =
-        ap length left_tree ∙ length-append nodes (labels l) ∙ ap (λ n. first + n) (length-labels l) in
+    ap length left_tree ∙ length-append nodes (labels l) ∙ ap (λ n. first + n) (length-labels l) in
     let both_tree : both ≡ left ++ labels r =
-        both_is limit (omega (arith, ready.total, ready.left_some))
-        ∙ ap (λ n. left ++ labels (division limit n rs)) left_long
-        ∙ ap (λ t. left ++ labels t)
-          (sym (division-Shuffled limit (first + size l) (right_part ps) rs right_same)) in
+    both_is limit (omega (arith, ready.total, ready.left_some))
+    ∙ ap (λ n. left ++ labels (division limit n rs)) left_long
+    ∙ ap (λ t. left ++ labels t)
+    (sym (division-Shuffled limit (first + size l) (right_part ps) rs right_same)) in
     let both_long : length both ≡ first + size l + size r =
-        ap length both_tree ∙ length-append left (labels r) ∙ ap₂ (λ m n. m + n) left_long (length-labels r) in
+    ap length both_tree ∙ length-append left (labels r) ∙ ap₂ (λ m n. m + n) left_long (length-labels r) in
     let a : length left - 1 ≡ root_number first l = omega (arith, left_long, root_number-next first l) in
     let b : length both - 1 ≡ root_number (first + size l) r =
-        omega (arith, both_long, root_number-next (first + size l) r) in
+    omega (arith, both_long, root_number-next (first + size l) r) in
     let n : ShapeNode = Pair (root_number first l) (root_number (first + size l) r) in
     let regroup : (nodes ++ labels l) ++ labels r ++ n ∷ [] ≡ nodes ++ (labels l ++ labels r ++ n ∷ []) = simp append_assoc in
     ap₂ (λ i j. both ++ Pair i j ∷ []) a b
     ∙ ap (λ ns. ns ++ Pair (root_number first l) (root_number (first + size l) r) ∷ [])
-      (both_tree ∙ ap (λ ns. ns ++ labels r) left_tree)
+    (both_tree ∙ ap (λ ns. ns ++ labels r) left_tree)
     ∙ regroup
     ∙ ap (λ t. nodes ++ labels t) (sym (division-pair limit first ps h))

@@ -1,5 +1,5 @@
 -- The extent of a coordinate, by its greatest and its least value.
-use Rattle.std.proofs.Common.{◌≡◌, ℕ, zero, suc, ◌+◌, ◌-◌, ◌<◌, ◌≤◌, max, min, nat_le, List, [], ◌∷◌, ◌++◌, take, length, get_or, All, refl, sym, ap, ap₂, subst, ◌∙◌, arith, take_all}
+use Rattle.std.proofs.Common.{◌≡◌, ℕ, ◌+◌, ◌-◌, ◌<◌, ◌≤◌, max, min, nat_le, List, [], ◌∷◌, ◌++◌, take, length, get_or, All, refl, sym, ap, ap₂, subst, ◌∙◌, arith, take_all}
 use Rattle.std.proofs.lemmas.List.{take_more}
 use Rattle.std.proofs.lemmas.List.Elements.{All-head, All-tail, All-nil, All-more}
 use Rattle.std.specs.List.{AllByRecursion}
@@ -110,13 +110,13 @@ scanned_none ps = record { left_is = refl; right_is = refl; bottom_is = refl; to
 pub scanned_more : (ps : List Pin) (n left right bottom top : ℕ) (d : Pin) → Scanned ps n left right bottom top
     → n < length ps → (get_or ps n d).x ≤ 4294967295 → (get_or ps n d).y ≤ 4294967295
     → Scanned ps (n + 1) (min left (get_or ps n d).x) (max right (get_or ps n d).x) (min bottom (get_or ps n d).y)
-      (max top (get_or ps n d).y)
+    (max top (get_or ps n d).y)
 scanned_more ps n left right bottom top d s h x_fits y_fits = record {
   left_is = ap (λ v. min v (get_or ps n d).x) s.left_is ∙ sym (least_more 4294967295 (λ q. q.x) ps n d h);
   right_is = ap (λ v. max v (get_or ps n d).x) s.right_is ∙ sym (greatest_more (λ q. q.x) ps n d h);
   bottom_is = ap (λ v. min v (get_or ps n d).y) s.bottom_is ∙ sym (least_more 4294967295 (λ q. q.y) ps n d h);
   top_is = ap (λ v. max v (get_or ps n d).y) s.top_is ∙ sym (greatest_more (λ q. q.y) ps n d h);
-  fit = All-more FitsWord ps n d h s.fit (x_fits, y_fits)
+  fit = All-more FitsWord ps n d h s.fit (x_fits, y_fits);
 }
 
 pub scanned_order : (ps : List Pin) (n left right bottom top : ℕ) → Scanned ps n left right bottom top → length ps ≤ n
@@ -126,10 +126,9 @@ scanned_order ps n left right bottom top s all some =
     let l : left ≡ least 4294967295 (λ p. p.x) ps = s.left_is ∙ ap (least 4294967295 (λ p. p.x)) whole in
     let r : right ≡ greatest (λ p. p.x) ps = s.right_is ∙ ap (greatest (λ p. p.x)) whole in
     let b : bottom ≡ least 4294967295 (λ p. p.y) ps = s.bottom_is ∙ ap (least 4294967295 (λ p. p.y)) whole in
-    let t : top ≡ greatest (λ p. p.y) ps = s.top_is ∙ ap (greatest (λ p. p.y)) whole in
-    (
+    let t : top ≡ greatest (λ p. p.y) ps = s.top_is ∙ ap (greatest (λ p. p.y)) whole in (
       omega (arith, l, r, least-le-greatest 4294967295 (λ p. p.x) ps some),
-      omega (arith, b, t, least-le-greatest 4294967295 (λ p. p.y) ps some)
+      omega (arith, b, t, least-le-greatest 4294967295 (λ p. p.y) ps some),
     )
 
 -- once all pins are scanned the extents are known

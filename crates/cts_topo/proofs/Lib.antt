@@ -8,3 +8,4 @@ pub mod Divisions
 pub mod PinsFrom
 pub mod Divided
 pub mod Whole
+mod Example

@@ -1,14 +1,13 @@
 -- The two parts of a list of pins: of any order of it, and of one that is sorted.
-use Rattle.std.proofs.Common.{◌≡◌, ◌≢◌, ℕ, zero, suc, ◌+◌, ◌-◌, ◌*◌, ◌/◌, ◌<◌, ◌≤◌, Bool, true, false, cond, not, nat_lt, ◌==◌, nat_eq, List, [], ◌∷◌, ◌++◌, take, drop, length, get_or, filter, sum_by, count_by, IsPermutation, IsSortedBy, refl, sym, ap, subst, ◌∙◌, arith, zero-add, length-drop}
+use Rattle.std.proofs.Common.{◌≡◌, ◌≢◌, ℕ, suc, ◌+◌, ◌-◌, ◌*◌, ◌<◌, ◌≤◌, Bool, true, false, cond, not, nat_lt, ◌==◌, List, [], ◌∷◌, take, drop, length, get_or, filter, count_by, IsSortedBy, refl, sym, ap, subst, ◌∙◌, arith, zero-add}
 use Rattle.std.specs.List.{AllByRecursion}
-use Rattle.std.proofs.lemmas.List.{length-take-le}
-use Rattle.std.proofs.lemmas.List.Sums.{sum_by-cons, sum_by-take-drop}
+use Rattle.std.proofs.lemmas.List.Sums.{sum_by-take-drop}
 use Rattle.std.proofs.lemmas.List.Elements.{filter_agree}
 use Rattle.std.proofs.lemmas.Bool.Decides.{nat_tests}
 use Rattle.cts_topo.specs.declared.pin.Pin.{Pin}
 use Rattle.cts_topo.specs.Pins.{HasDistinctIds}
 use Rattle.cts_topo.specs.Topology.{is_before, is_wide, is_early, left_size, left_part, right_part}
-use Rattle.cts_topo.proofs.Shuffles.{Shuffled, same, skip, turn, chain, turned_round, shuffled_of, length-Shuffled, sum_by-Shuffled, filter-Shuffled}
+use Rattle.cts_topo.proofs.Shuffles.{Shuffled, length-Shuffled, sum_by-Shuffled, filter-Shuffled}
 use Rattle.cts_topo.proofs.Orders.{pins_weak, is_before-trans, ids_of_ties}
 use Rattle.cts_topo.proofs.Ranks.{Rises, rank_of, split_by_rank, count_by-cons}
 use Rattle.cts_topo.proofs.Extents.{is_wide-Shuffled}
@@ -16,22 +15,22 @@ use Rattle.cts_topo.proofs.Extents.{is_wide-Shuffled}
 -- distinct ids: of another order, of a front, of the rest
 pub distinct-Shuffled : {ps qs : List Pin} → Shuffled ps qs → HasDistinctIds ps → HasDistinctIds qs
 distinct-Shuffled s h = record {
-  at_most_one = λ id. subst (λ n. n ≤ 1) (sum_by-Shuffled (λ p. cond (p.id == id) 1 0) s) (h.at_most_one id)
+  at_most_one = λ id. subst (λ n. n ≤ 1) (sum_by-Shuffled (λ p. cond (p.id == id) 1 0) s) (h.at_most_one id);
 }
 
 pub distinct-take : (ps : List Pin) (k : ℕ) → HasDistinctIds ps → HasDistinctIds (take k ps)
 distinct-take ps k h = record {
-  at_most_one = λ id. omega (arith, h.at_most_one id, sum_by-take-drop (λ p. cond (p.id == id) 1 0) ps k)
+  at_most_one = λ id. omega (arith, h.at_most_one id, sum_by-take-drop (λ p. cond (p.id == id) 1 0) ps k);
 }
 
 pub distinct-drop : (ps : List Pin) (k : ℕ) → HasDistinctIds ps → HasDistinctIds (drop k ps)
 distinct-drop ps k h = record {
-  at_most_one = λ id. omega (arith, h.at_most_one id, sum_by-take-drop (λ p. cond (p.id == id) 1 0) ps k)
+  at_most_one = λ id. omega (arith, h.at_most_one id, sum_by-take-drop (λ p. cond (p.id == id) 1 0) ps k);
 }
 
 pub distinct-tail : (p : Pin) (ps : List Pin) → HasDistinctIds (p ∷ ps) → HasDistinctIds ps
 distinct-tail p ps h = record {
-  at_most_one = λ id. omega (arith, h.at_most_one id, count_by-cons (λ q. q.id == id) p ps)
+  at_most_one = λ id. omega (arith, h.at_most_one id, count_by-cons (λ q. q.id == id) p ps);
 }
 
 nobody : (id : ℕ) (ps : List Pin) → count_by (λ q. q.id == id) ps ≡ 0 → AllByRecursion (λ q. q.id ≢ id) ps
@@ -45,9 +44,9 @@ pub first_apart : (p : Pin) (ps : List Pin) → HasDistinctIds (p ∷ ps) → Al
 first_apart p ps h =
     let itself : (p.id == p.id) ≡ true = grind (arith, nat_tests) in
     let count : cond (p.id == p.id) 1 0 + count_by (λ q. q.id == p.id) ps ≤ 1 =
-        subst (λ n. n ≤ 1) (count_by-cons (λ q. q.id == p.id) p ps) (h.at_most_one p.id) in
+    subst (λ n. n ≤ 1) (count_by-cons (λ q. q.id == p.id) p ps) (h.at_most_one p.id) in
     let more : 1 + count_by (λ q. q.id == p.id) ps ≤ 1 =
-        subst (λ b. cond b 1 0 + count_by (λ q. q.id == p.id) ps ≤ 1) itself count in
+    subst (λ b. cond b 1 0 + count_by (λ q. q.id == p.id) ps ≤ 1) itself count in
     nobody p.id ps (omega arith)
 
 -- pins with different ids: one is before the other
@@ -72,13 +71,13 @@ rises_of wide (p ∷ []) sorted h = (tt, tt)
 rises_of wide (p ∷ q ∷ ps) sorted h =
     let apart : AllByRecursion (λ r. r.id ≢ p.id) (q ∷ ps) = first_apart p (q ∷ ps) h in
     let first : is_before wide p q ≡ true =
-        one_before wide p q (apart.0) (sorted 0 p (omega arith) (omega arith)) in
+    one_before wide p q (apart.0) (sorted 0 p (omega arith) (omega arith)) in
     let rest : Rises (is_before wide) (q ∷ ps) =
-        rises_of wide (q ∷ ps)
-        (λ k d u w. let step : suc k + 1 ≡ suc (k + 1) = omega arith in
-          ap (λ i. is_before wide (get_or (p ∷ q ∷ ps) i d) (get_or (q ∷ ps) k d)) (sym step)
-          ∙ sorted (suc k) d (omega arith) (omega arith))
-        (distinct-tail p (q ∷ ps) h) in
+    rises_of wide (q ∷ ps)
+    (λ k d u w. let step : suc k + 1 ≡ suc (k + 1) = omega arith in
+    ap (λ i. is_before wide (get_or (p ∷ q ∷ ps) i d) (get_or (q ∷ ps) k d)) (sym step)
+    ∙ sorted (suc k) d (omega arith) (omega arith))
+    (distinct-tail p (q ∷ ps) h) in
     ((first, before_all wide p q ps first (rest.0)), rest)
 
 -- half of a count, rounded up, and what is left
@@ -134,8 +133,7 @@ pub parts_of_sorted : (ps qs : List Pin) → Shuffled ps qs → Rises (is_before
 parts_of_sorted ps qs s rises =
     let axis : is_wide ps ≡ is_wide qs = is_wide-Shuffled s in
     let long : length qs ≡ length ps = sym (length-Shuffled s) in
-    let halves = parts_of_rising qs (subst (λ w. Rises (is_before w) qs) axis rises) in
-    (
+    let halves = parts_of_rising qs (subst (λ w. Rises (is_before w) qs) axis rises) in (
       subst (Shuffled (left_part ps)) (halves.0 ∙ ap (λ n. take (left_size n) qs) long) (left_part-Shuffled s),
-      subst (Shuffled (right_part ps)) (halves.1 ∙ ap (λ n. drop (left_size n) qs) long) (right_part-Shuffled s)
+      subst (Shuffled (right_part ps)) (halves.1 ∙ ap (λ n. drop (left_size n) qs) long) (right_part-Shuffled s),
     )

@@ -1,5 +1,5 @@
 -- The pins of a list of sinks.
-use Rattle.std.proofs.Common.{◌≡◌, ◌≢◌, ℕ, zero, suc, ◌+◌, ◌<◌, ◌≤◌, ◌==◌, ◌⊎◌, inl, inr, cond, List, [], ◌∷◌, ◌++◌, take, map, length, get_or, All, AllPairs, count_by, refl, sym, ap, subst, ◌∙◌, arith, add-zero}
+use Rattle.std.proofs.Common.{◌≡◌, ◌≢◌, ℕ, suc, ◌+◌, ◌<◌, ◌≤◌, ◌==◌, ◌⊎◌, inl, inr, cond, List, [], ◌∷◌, ◌++◌, take, length, get_or, AllPairs, count_by, refl, sym, ap, ◌∙◌, arith, add-zero}
 use Rattle.std.proofs.lemmas.List.{take_more, length-take-le}
 use Rattle.std.proofs.lemmas.Bool.{cases_lt}
 use Rattle.std.proofs.lemmas.Bool.Decides.{nat_tests}
@@ -39,30 +39,38 @@ none_of id place [] h = refl
 none_of id place (s ∷ sinks) h =
     let own : s.id ≢ id = h 0 s (omega arith) in
     let test : ◌≡◌ {A = ℕ} (cond (s.id == id) 1 0) 0 = grind (arith, nat_tests) in
-    omega (arith, count_by-cons (λ (p : Pin). p.id == id) (pin_of s place) (pins_from (place + 1) sinks), test,
-      none_of id (place + 1) sinks (λ j d w. h (suc j) d (omega arith)))
+    omega (
+      arith,
+      count_by-cons (λ (p : Pin). p.id == id) (pin_of s place) (pins_from (place + 1) sinks),
+      test,
+      none_of id (place + 1) sinks (λ j d w. h (suc j) d (omega arith)),
+    )
 
 at_most_one_of : (id place : ℕ) (sinks : List Sink) → AllPairs (λ (a b : Sink). a.id ≢ b.id) sinks
     → count_by (λ (p : Pin). p.id == id) (pins_from place sinks) ≤ 1
 at_most_one_of id place [] h = omega arith
 at_most_one_of id place (s ∷ sinks) h =
     elim (same_number s.id id) [
-      inl is ↦
-        let rest : count_by (λ (p : Pin). p.id == id) (pins_from (place + 1) sinks) ≡ 0 =
-            none_of id (place + 1) sinks (λ j d w e. h 0 (suc j) d (omega arith) (omega arith) (is ∙ sym e)) in
-        let test : cond (s.id == id) 1 0 ≤ 1 = grind (arith, nat_tests) in
-        omega (arith, count_by-cons (λ (p : Pin). p.id == id) (pin_of s place) (pins_from (place + 1) sinks), test, rest)
-    | inr other ↦
-        let test : ◌≡◌ {A = ℕ} (cond (s.id == id) 1 0) 0 = grind (arith, nat_tests) in
-        omega (arith, count_by-cons (λ (p : Pin). p.id == id) (pin_of s place) (pins_from (place + 1) sinks), test,
-          at_most_one_of id (place + 1) sinks (tail_pairs s sinks h))
+      | inl is ↦
+          let rest : count_by (λ (p : Pin). p.id == id) (pins_from (place + 1) sinks) ≡ 0 =
+          none_of id (place + 1) sinks (λ j d w e. h 0 (suc j) d (omega arith) (omega arith) (is ∙ sym e)) in
+          let test : cond (s.id == id) 1 0 ≤ 1 = grind (arith, nat_tests) in
+          omega (arith, count_by-cons (λ (p : Pin). p.id == id) (pin_of s place) (pins_from (place + 1) sinks), test, rest)
+      | inr other ↦
+          let test : ◌≡◌ {A = ℕ} (cond (s.id == id) 1 0) 0 = grind (arith, nat_tests) in
+          omega (
+            arith,
+            count_by-cons (λ (p : Pin). p.id == id) (pin_of s place) (pins_from (place + 1) sinks),
+            test,
+            at_most_one_of id (place + 1) sinks (tail_pairs s sinks h),
+          )
     ]
   where
     same_number : (m n : ℕ) → (m ≡ n) ⊎ (m ≢ n)
     same_number m n =
         elim (cases_lt m n) [
-          inl h ↦ inr (omega arith)
-        | inr h ↦ elim (cases_lt n m) [ inl w ↦ inr (omega arith) | inr w ↦ inl (omega arith) ]
+          | inl h ↦ inr (omega arith)
+          | inr h ↦ elim (cases_lt n m) [ inl w ↦ inr (omega arith) | inr w ↦ inl (omega arith) ]
         ]
 
 pub distinct_pins : (place : ℕ) (sinks : List Sink) → AllPairs (λ (a b : Sink). a.id ≢ b.id) sinks

@@ -1,9 +1,8 @@
 -- In a list that rises strictly, as many items are before an item as its index tells. So the items with fewer than m
 -- before them are the first m.
-use Rattle.std.proofs.Common.{◌≡◌, ℕ, zero, suc, ◌+◌, ◌-◌, ◌<◌, ◌≤◌, Bool, true, false, cond, not, nat_lt, List, [], ◌∷◌, ◌++◌, take, drop, length, get_or, filter, count_by, refl, sym, ap, subst, ◌∙◌, arith, zero-add}
+use Rattle.std.proofs.Common.{◌≡◌, ℕ, zero, suc, ◌+◌, ◌<◌, ◌≤◌, Bool, true, false, cond, not, nat_lt, List, [], ◌∷◌, take, drop, length, get_or, filter, count_by, refl, ap, ◌∙◌, arith, zero-add}
 use Rattle.std.specs.List.{AllByRecursion}
 use Rattle.std.proofs.lemmas.List.Sums.{sum_by-cons}
-use Rattle.std.proofs.lemmas.Bool.{cases_lt}
 use Rattle.std.proofs.lemmas.Bool.Decides.{nat_tests}
 
 -- each item is less than all later ones
@@ -57,11 +56,10 @@ module _ {X : Type 0} (rank : X → ℕ) (m : ℕ) where
   nothing_early o (x ∷ xs) h ranks =
       let own : rank x ≡ o + 0 = ranks 0 x (omega arith) in
       let late : nat_lt (rank x) m ≡ false = grind (arith, nat_tests) in
-      let rest = nothing_early (o + 1) xs (omega arith) (λ i d w. ranks (suc i) d (omega arith) ∙ omega arith) in
-      (
+      let rest = nothing_early (o + 1) xs (omega arith) (λ i d w. ranks (suc i) d (omega arith) ∙ omega arith) in (
         ap (λ b. cond b (x ∷ filter (λ p. nat_lt (rank p) m) xs) (filter (λ p. nat_lt (rank p) m) xs)) late ∙ rest.0,
         ap (λ b. cond (not b) (x ∷ filter (λ p. not (nat_lt (rank p) m)) xs) (filter (λ p. not (nat_lt (rank p) m)) xs)) late
-        ∙ ap (λ ys. x ∷ ys) (rest.1)
+            ∙ ap (λ ys. x ∷ ys) (rest.1),
       )
 
   pub split_by_rank : (k o : ℕ) (xs : List X) → m ≡ o + k
@@ -72,10 +70,9 @@ module _ {X : Type 0} (rank : X → ℕ) (m : ℕ) where
   split_by_rank (suc k) o (x ∷ xs) e ranks =
       let own : rank x ≡ o + 0 = ranks 0 x (omega arith) in
       let early : nat_lt (rank x) m ≡ true = grind (arith, nat_tests) in
-      let rest = split_by_rank k (o + 1) xs (omega arith) (λ i d w. ranks (suc i) d (omega arith) ∙ omega arith) in
-      (
+      let rest = split_by_rank k (o + 1) xs (omega arith) (λ i d w. ranks (suc i) d (omega arith) ∙ omega arith) in (
         ap (λ b. cond b (x ∷ filter (λ p. nat_lt (rank p) m) xs) (filter (λ p. nat_lt (rank p) m) xs)) early
-        ∙ ap (λ ys. x ∷ ys) (rest.0),
+            ∙ ap (λ ys. x ∷ ys) (rest.0),
         ap (λ b. cond (not b) (x ∷ filter (λ p. not (nat_lt (rank p) m)) xs) (filter (λ p. not (nat_lt (rank p) m)) xs)) early
-        ∙ rest.1
+            ∙ rest.1,
       )

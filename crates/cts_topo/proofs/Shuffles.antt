@@ -1,5 +1,5 @@
 -- Lists with the same items in another order, as data, and what does not see the order.
-use Rattle.std.proofs.Common.{◌≡◌, ℕ, zero, suc, ◌+◌, ◌<◌, ◌≤◌, Bool, true, false, cond, List, [], ◌∷◌, ◌++◌, map, set, length, get_or, swap, filter, sum_by, count_by, IsPermutation, refl, sym, ap, subst, ◌∙◌, arith, append_assoc}
+use Rattle.std.proofs.Common.{◌≡◌, ℕ, zero, suc, ◌+◌, ◌<◌, Bool, true, false, cond, List, [], ◌∷◌, ◌++◌, map, set, length, get_or, swap, filter, sum_by, IsPermutation, refl, sym, ap, ◌∙◌, arith}
 use Rattle.std.proofs.lemmas.List.Sorted.{IsPermutation-keeps}
 use Rattle.std.proofs.lemmas.List.Sums.{sum_by-cons}
 
@@ -57,8 +57,8 @@ module _ {X : Type 0} where
   filter-Shuffled p same = same
   filter-Shuffled p (skip {x} {xs} {ys} s) =
       elim (p x) as (λ b. Shuffled (cond b (x ∷ filter p xs) (filter p xs)) (cond b (x ∷ filter p ys) (filter p ys))) [
-        true ↦ skip (filter-Shuffled p s)
-      | false ↦ filter-Shuffled p s
+        | true ↦ skip (filter-Shuffled p s)
+        | false ↦ filter-Shuffled p s
       ]
   filter-Shuffled p (turn {x} {y} {xs}) = both_ways (p x) (p y) x y (filter p xs)
     where
@@ -82,6 +82,7 @@ module _ {X : Type 0} where
       before : (zs : List X) {us ws : List X} → Shuffled us ws → Shuffled (zs ++ us) (zs ++ ws)
       before [] s = s
       before (z ∷ zs) s = skip (before zs s)
+
       after : (zs : List X) {us ws : List X} → Shuffled us ws → Shuffled (us ++ zs) (ws ++ zs)
       after zs same = same
       after zs (skip s) = skip (after zs s)
@@ -97,6 +98,7 @@ module _ {X : Type 0} where
       none (skip s) e = cc
       none turn e = cc
       none (chain s t) e = none t (none s e)
+
       one : {x : X} {us ws : List X} → Shuffled us ws → us ≡ x ∷ [] → ws ≡ x ∷ []
       one same e = e
       one {x} (skip {x = y} {xs} {ys} s) e = let empty : xs ≡ [] = cc in let rest : ys ≡ [] = none s empty in cc

@@ -1,13 +1,12 @@
 -- Pins with distinct ids have an order in which they rise strictly, by insertion. So the two parts of any list of such
 -- pins have half of them, rounded up, and the rest.
-use Rattle.std.proofs.Common.{◌≡◌, ◌≢◌, ℕ, zero, suc, ◌+◌, ◌-◌, ◌<◌, ◌≤◌, Bool, true, false, cond, List, [], ◌∷◌, ◌++◌, take, drop, length, refl, sym, ap, subst, ◌∙◌, arith, length-drop}
+use Rattle.std.proofs.Common.{◌≡◌, ◌≢◌, ℕ, ◌+◌, ◌≤◌, Bool, true, false, cond, List, [], ◌∷◌, length, refl, sym, ◌∙◌, arith, length-drop}
 use Rattle.std.specs.List.{AllByRecursion}
 use Rattle.std.proofs.lemmas.List.{length-take-le}
 use Rattle.cts_topo.specs.declared.pin.Pin.{Pin}
 use Rattle.cts_topo.specs.Pins.{HasDistinctIds}
 use Rattle.cts_topo.specs.Topology.{is_before, is_wide, left_size, left_part, right_part}
 use Rattle.cts_topo.proofs.Shuffles.{Shuffled, same, skip, turn, chain, turned_round, length-Shuffled}
-use Rattle.cts_topo.proofs.Orders.{is_before-trans}
 use Rattle.cts_topo.proofs.Ranks.{Rises}
 use Rattle.cts_topo.proofs.Parts.{distinct-Shuffled, distinct-tail, distinct-take, distinct-drop, first_apart, one_before, before_all, left_size_le, parts_of_sorted}
 
@@ -27,8 +26,8 @@ module _ (wide : Bool) where
   place_in-Shuffled p [] = same
   place_in-Shuffled p (q ∷ qs) =
       elim (is_before wide p q) as (λ b. Shuffled (p ∷ q ∷ qs) (cond b (p ∷ q ∷ qs) (q ∷ place_in p qs))) [
-        true ↦ same
-      | false ↦ chain turn (skip (place_in-Shuffled p qs))
+        | true ↦ same
+        | false ↦ chain turn (skip (place_in-Shuffled p qs))
       ]
 
   all_placed : (P : Pin → Type 0) (p : Pin) (qs : List Pin) → P p → AllByRecursion P qs → AllByRecursion P (place_in p qs)
@@ -36,8 +35,8 @@ module _ (wide : Bool) where
   all_placed P p [] h all = (h, tt)
   all_placed P p (q ∷ qs) h all =
       elim (is_before wide p q) as (λ b. AllByRecursion P (cond b (p ∷ q ∷ qs) (q ∷ place_in p qs))) [
-        true ↦ (h, all)
-      | false ↦ (all.0, all_placed P p qs h (all.1))
+        | true ↦ (h, all)
+        | false ↦ (all.0, all_placed P p qs h (all.1))
       ]
 
   place_in-Rises : (p : Pin) (qs : List Pin) → AllByRecursion (λ q. q.id ≢ p.id) qs → Rises (is_before wide) qs
@@ -47,10 +46,10 @@ module _ (wide : Bool) where
   place_in-Rises p (q ∷ qs) apart rises =
       elim (is_before wide p q)
       as (λ b. is_before wide p q ≡ b → Rises (is_before wide) (cond b (p ∷ q ∷ qs) (q ∷ place_in p qs))) [
-        true ↦ λ e. ((e, before_all wide p q qs e (rises.0)), rises)
-      | false ↦ λ e.
-        let first : is_before wide q p ≡ true = one_before wide q p (λ i. (apart.0) (sym i)) e in
-        (all_placed (λ r. is_before wide q r ≡ true) p qs first (rises.0), place_in-Rises p qs (apart.1) (rises.1))
+        | true ↦ λ e. ((e, before_all wide p q qs e (rises.0)), rises)
+        | false ↦ λ e.
+            let first : is_before wide q p ≡ true = one_before wide q p (λ i. (apart.0) (sym i)) e in
+            (all_placed (λ r. is_before wide q r ≡ true) p qs first (rises.0), place_in-Rises p qs (apart.1) (rises.1))
       ] refl
 
   pub sorting_of : (ps : List Pin) → HasDistinctIds ps → Sorting wide ps
@@ -61,7 +60,7 @@ module _ (wide : Bool) where
       record {
         sorted = place_in p s.sorted;
         order = chain (skip s.order) (place_in-Shuffled p s.sorted);
-        rises = place_in-Rises p s.sorted (first_apart p s.sorted (distinct-Shuffled (skip s.order) h)) s.rises
+        rises = place_in-Rises p s.sorted (first_apart p s.sorted (distinct-Shuffled (skip s.order) h)) s.rises;
       }
 
 -- what is known of the parts of pins with distinct ids
@@ -82,5 +81,5 @@ halves_of ps h =
       left_long = length-Shuffled (parts.0) ∙ length-take-le half s.sorted fits;
       right_long = omega (arith, length-Shuffled (parts.1), length-drop half s.sorted, length-Shuffled s.order, fits);
       left_distinct = distinct-Shuffled (turned_round (parts.0)) (distinct-take s.sorted half distinct);
-      right_distinct = distinct-Shuffled (turned_round (parts.1)) (distinct-drop s.sorted half distinct)
+      right_distinct = distinct-Shuffled (turned_round (parts.1)) (distinct-drop s.sorted half distinct);
     }

@@ -1,11 +1,10 @@
 -- The shape over a list of sinks: each sink once, its nodes, its depth.
-use Rattle.std.proofs.Common.{◌≡◌, ℕ, zero, suc, ◌+◌, ◌-◌, ◌*◌, ◌^◌, ◌<◌, ◌≤◌, ◌==◌, cond, List, [], ◌∷◌, ◌++◌, map, length, All, count_by, Option, Some, None, refl, sym, ap, subst, ◌∙◌, arith}
+use Rattle.std.proofs.Common.{◌≡◌, ℕ, zero, suc, ◌+◌, ◌*◌, ◌^◌, ◌<◌, ◌≤◌, ◌==◌, cond, List, [], ◌∷◌, ◌++◌, map, length, count_by, Some, refl, sym, ap, ◌∙◌, arith}
 use Rattle.std.specs.List.{AllByRecursion}
 use Rattle.std.proofs.lemmas.List.Elements.{All-from_recursion}
-use Rattle.std.proofs.lemmas.List.Sums.{sum_by-cons}
 use Rattle.std.proofs.lemmas.Bool.Decides.{nat_tests}
 use Rattle.cts_units.specs.declared.params.Sink.{Sink}
-use Rattle.cts_postorder.specs.BinaryTree.{BinaryTree, size, depth, labels, IsNumbered}
+use Rattle.cts_postorder.specs.BinaryTree.{depth, labels, IsNumbered}
 use Rattle.cts_postorder.specs.PostOrder.{IsPostOrder, root_of}
 use Rattle.cts_postorder.proofs.Sizes.{length-labels}
 use Rattle.cts_postorder.proofs.Spelling.{IsPostOrder-labels}
@@ -14,11 +13,12 @@ use Rattle.cts_topo.specs.declared.shape.ShapeNode.{ShapeNode}
 use Rattle.cts_topo.specs.declared.pin.Pin.{Pin}
 use Rattle.cts_topo.specs.Shape.{children, leaf_sinks, IsShapeOver}
 use Rattle.cts_topo.specs.Sinks.{AreSinks}
+use Rattle.cts_topo.specs.Laws.{IsDivided, ShapesAreDivided, ShapesNameEachSink, ShapesAreShallow}
 use Rattle.cts_topo.specs.Pins.{HasDistinctIds}
-use Rattle.cts_topo.specs.Topology.{pin_of, pins_from, division, topology_of, shape_of}
+use Rattle.cts_topo.specs.Topology.{pins_from, division, topology_of, shape_of}
 use Rattle.cts_topo.proofs.Shuffles.{Shuffled, same, skip, turn, chain, sum_by-Shuffled}
 use Rattle.cts_topo.proofs.Ranks.{count_by-cons}
-use Rattle.cts_topo.proofs.Divisions.{IsNumbered-division, size-division, leaf_sinks-division, depth-division}
+use Rattle.cts_topo.proofs.Divisions.{IsNumbered-division, size-division, leaf_sinks-division, depth-division, IsDivided-division}
 use Rattle.cts_topo.proofs.PinsFrom.{length-pins_from, distinct_pins}
 
 all-Shuffled : {X : Type 0} (P : X → Type 0) {xs ys : List X} → Shuffled xs ys → AllByRecursion P xs → AllByRecursion P ys
@@ -50,8 +50,12 @@ once_each k zero place (s ∷ sinks) is h =
     omega (arith, count_by-cons (λ j. j == k) place (places (place + 1) sinks), test, not_before k (place + 1) sinks (omega arith))
 once_each k (suc i) place (s ∷ sinks) is h =
     let test : ◌≡◌ {A = ℕ} (cond (place == k) 1 0) 0 = grind (arith, nat_tests) in
-    omega (arith, count_by-cons (λ j. j == k) place (places (place + 1) sinks), test,
-      once_each k i (place + 1) sinks (omega arith) (omega arith))
+    omega (
+      arith,
+      count_by-cons (λ j. j == k) place (places (place + 1) sinks),
+      test,
+      once_each k i (place + 1) sinks (omega arith) (omega arith),
+    )
 
 module _ (sinks : List Sink) (are : AreSinks sinks) where
   pins_some : 0 < length (pins_from 0 sinks)
@@ -75,9 +79,12 @@ module _ (sinks : List Sink) (are : AreSinks sinks) where
   pub length-shape_of : length (shape_of sinks) + 1 ≡ 2 * length sinks
   unfolding shape_of topology_of
   length-shape_of =
-      omega (arith, length-labels (topology_of sinks),
+      omega (
+        arith,
+        length-labels (topology_of sinks),
         size-division (length sinks) 0 (pins_from 0 sinks) pins_some (omega (arith, length-pins_from 0 sinks)) pins_apart,
-        length-pins_from 0 sinks)
+        length-pins_from 0 sinks,
+      )
 
   leaves : Shuffled (places 0 sinks) (leaf_sinks (shape_of sinks))
   unfolding shape_of topology_of
@@ -88,14 +95,29 @@ module _ (sinks : List Sink) (are : AreSinks sinks) where
   shape_is_over = record {
     post_order = shape_is_post_order;
     within = All-from_recursion (λ k. k < length sinks) (leaf_sinks (shape_of sinks))
-      (all-Shuffled (λ k. k < length sinks) leaves (places_below 0 (length sinks) sinks (omega arith)));
-    once = λ k h. sym (sum_by-Shuffled (λ j. cond (j == k) 1 0) leaves) ∙ once_each k k 0 sinks (omega arith) h
+        (all-Shuffled (λ k. k < length sinks) leaves (places_below 0 (length sinks) sinks (omega arith)));
+    once = λ k h. sym (sum_by-Shuffled (λ j. cond (j == k) 1 0) leaves) ∙ once_each k k 0 sinks (omega arith) h;
   }
 
   pub depth-topology_of : (d : ℕ) → length sinks ≤ 2 ^ d → depth (topology_of sinks) ≤ d
   unfolding topology_of
   depth-topology_of d h =
       depth-division d (length sinks) 0 (pins_from 0 sinks) (omega (arith, length-pins_from 0 sinks)) pins_apart
+
+  pub IsDivided-topology_of : IsDivided (pins_from 0 sinks) (topology_of sinks)
+  unfolding topology_of
+  IsDivided-topology_of =
+      IsDivided-division (length sinks) 0 (pins_from 0 sinks) pins_some (omega (arith, length-pins_from 0 sinks)) pins_apart
+
+-- the public laws
+pub shapes_are_divided_lem : ShapesAreDivided
+shapes_are_divided_lem sinks are = (root_of_shape sinks are, IsDivided-topology_of sinks are)
+
+pub shapes_name_each_sink_lem : ShapesNameEachSink
+shapes_name_each_sink_lem sinks are = (shape_is_over sinks are, length-shape_of sinks are)
+
+pub shapes_are_shallow_lem : ShapesAreShallow
+shapes_are_shallow_lem sinks are = (depth-topology_of sinks are, depth-topology_of sinks are 16 are.few)
 
 -- what the code divides is the shape of the definition
 pub divided_is_shape : (sinks : List Sink) (pins : List Pin) (before nodes : List ShapeNode) → pins ≡ pins_from 0 sinks → before ≡ []

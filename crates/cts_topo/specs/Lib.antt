@@ -2,3 +2,4 @@ pub mod Shape
 pub mod Sinks
 pub mod Pins
 pub mod Topology
+pub mod Laws

@@ -1,5 +1,5 @@
 -- The sinks that a topology is made for.
-use Rattle.std.specs.Prelude.{◌≡◌, ◌≢◌, ℕ, ◌^◌, ◌<◌, ◌≤◌, ◌≤ℤ◌, pos, List, length, All, AllPairs}
+use Rattle.std.specs.Prelude.{◌≢◌, ◌^◌, ◌<◌, ◌≤◌, ◌≤ℤ◌, pos, List, length, All, AllPairs}
 use Rattle.cts_units.specs.declared.params.Sink.{Sink}
 
 -- a sink's coordinates are from 0 to 10^8 nm

@@ -4,6 +4,7 @@ ghost use Rattle.std.specs.Prelude.{◌≡◌, ℕ, ◌+◌, ◌*◌, ◌^◌, �
 ghost use Rattle.std.specs.List.Sorted.{IsPermutation, IsSortedBy};
 ghost use Rattle.cts_postorder.specs.BinaryTree.{labels};
 ghost use Rattle.cts_topo.specs.Pins.{HasDistinctIds};
+ghost use Rattle.cts_topo.specs.Shape.{IsShapeOver};
 ghost use Rattle.cts_topo.specs.Sinks.{AreSinks, IsPlaced};
 ghost use Rattle.cts_topo.specs.Topology.{is_before, division, pins_from, shape_of};
 ghost use Rattle.cts_topo.specs.Topology.{is_wide as spec_is_wide, pin_of as spec_pin_of};
@@ -20,10 +21,12 @@ use std::alloc::Global;
 /// and else along y: the half of them, rounded up, that comes first by that coordinate, then the
 /// other one, then the id, is the left part. Each part is divided in the same way. A leaf names
 /// its sink by its place in the list. Takes 1 to 65,536 sinks with distinct ids and coordinates
-/// from 0 to 10^8 nm.
+/// from 0 to 10^8 nm. Answers `NoMemory` where an allocation fails.
 pub fn topology(alloc: Global, sinks: &[Sink]) -> Result<Shape, NoMemory>
     requires { AreSinks sinks.now }
-    ensures { IfOk result (λ shape. shape ≡ shape_of sinks.now) }
+    ensures definition { IfOk result (λ shape. shape ≡ shape_of sinks.now) }
+    ensures each_sink_once { IfOk result (IsShapeOver (length sinks.now)) }
+    ensures count { IfOk result (λ shape. length shape + 1 ≡ 2 * length sinks.now) }
 {
     let mut pins = pins_of(alloc, sinks)?;
     let mut nodes = Vec::with_capacity(alloc, 2 * sinks.len() - 1)?;
@@ -63,10 +66,8 @@ fn divide(pins: &mut [Pin], nodes: &mut Vec<ShapeNode>) -> Result<(), NoMemory>
     requires distinct { HasDistinctIds pins.old }
     requires room { vec_len nodes.old + 2 * length pins.old ≤ 2 ^ 32 }
     ensures count { OnOk result (vec_len nodes.new + 1 ≡ vec_len nodes.old + 2 * length pins.old) }
-    ensures nodes {
-        OnOk result ((limit : ℕ) → length pins.old ≤ limit
-            → nodes.new.items ≡ nodes.old.items ++ labels (division limit (length nodes.old.items) pins.old))
-    }
+    ensures nodes { OnOk result ((limit : ℕ) → length pins.old ≤ limit
+        → nodes.new.items ≡ nodes.old.items ++ labels (division limit (length nodes.old.items) pins.old)) }
 {
     if pins.len() == 1 {
         nodes.push(ShapeNode::Leaf { sink: pins[0].sink })?;
@@ -110,3 +111,6 @@ fn sort_along(pins: &mut [Pin], wide: bool)
         pins.sort_unstable_by(|p, q| p.y.cmp(&q.y).then(p.x.cmp(&q.x)).then(p.id.cmp(&q.id)));
     }
 }
+
+#[cfg(test)]
+mod tests;

@@ -3,7 +3,7 @@
 use std::marker::Model;
 
 /// A node of a shape.
-#[derive(Clone, Copy)]
+#[derive(Clone, Copy, Debug, PartialEq, Eq)]
 pub enum ShapeNode {
     /// A sink, by its place in the list of sinks.
     Leaf { sink: u32 },

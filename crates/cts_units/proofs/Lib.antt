@@ -1,1 +1,2 @@
+pub mod BufferDelay
 pub mod WireDelay

@@ -1,10 +1,10 @@
-//! Doubled delays of wires, and the slew of a stage.
+//! Doubled delays of wires and buffers, and the slew of a stage.
 
-ghost use Rattle.std.specs.Prelude.{◌≡◌, ◌*◌, ◌^◌, ◌<◌, ◌≤◌};
-ghost use Rattle.cts_units.specs.Delay.{wire_delay_of, slew_of};
-ghost use Rattle.cts_units.specs.Limits.{IsWire};
+ghost use Rattle.std.specs.Prelude.{◌≡◌, ◌+◌, ◌*◌, ◌^◌, ◌<◌, ◌≤◌};
+ghost use Rattle.cts_units.specs.Delay.{wire_delay_of, buffer_delay_of, slew_of};
+ghost use Rattle.cts_units.specs.Limits.{IsWire, IsBuffer};
 
-use crate::params::Wire;
+use crate::params::{Buffer, Wire};
 
 /// The doubled Elmore delay, in 10^-27 s, of a wire of `length` nm into a load of `load` zF:
 /// the wire's resistance into half of its own capacitance and all of the load, taken twice.
@@ -32,6 +32,29 @@ fn wide_delay(r: u128, c: u128, length: u128, load: u128) -> u128
     r * length * (c * length + 2 * load)
 }
 
+/// The doubled delay, in 10^-27 s, of a linear buffer that drives a load of `load` zF: its intrinsic
+/// delay, and its output resistance into the load, both taken twice.
+#[tactic(auto, unfolding(crate::specs::Delay::buffer_delay_of))]
+pub fn buffer_delay(buffer: Buffer, load: u64) -> u128
+    requires buffer { IsBuffer buffer }
+    requires load { load ≤ 2 ^ 56 }
+    ensures value { result ≡ buffer_delay_of buffer load }
+    ensures bound { result ≤ 2 ^ 118 }
+{
+    wide_buffer_delay(buffer.intrinsic as u128, buffer.rout as u128, load as u128)
+}
+
+#[tactic(auto, using(crate::proofs::BufferDelay::buffer_delay_le))]
+fn wide_buffer_delay(intrinsic: u128, resistance: u128, load: u128) -> u128
+    requires intrinsic { intrinsic < 10 ^ 18 }
+    requires resistance { resistance < 10 ^ 18 }
+    requires load { load ≤ 2 ^ 56 }
+    ensures value { result ≡ 2 * intrinsic + 2 * resistance * load }
+    ensures bound { result ≤ 2 ^ 118 }
+{
+    2 * intrinsic + 2 * resistance * load
+}
+
 /// The slew in 10^-28 s of a stage whose doubled delay is `stage`, in 10^-27 s: eleven tenths
 /// of the doubled delay.
 pub fn slew_tenths(stage: u128) -> u128
@@ -43,8 +66,8 @@ pub fn slew_tenths(stage: u128) -> u128
 
 #[cfg(test)]
 mod tests {
-    use super::{slew_tenths, wire_delay};
-    use crate::params::Wire;
+    use super::{buffer_delay, slew_tenths, wire_delay};
+    use crate::params::{Buffer, Wire};
 
     #[test]
     fn delays_of_worked_wires(rt: HostRuntime) {
@@ -70,6 +93,24 @@ mod tests {
             wire_delay(metal, 1_500_000, 35_000_000),
             55_500_000_000_000_000
         );
+    }
+
+    #[test]
+    fn delays_of_worked_buffers(rt: HostRuntime) {
+        // 1 µΩ into 20 zF: worked by hand.
+        let unit = Buffer {
+            cin: 3,
+            rout: 1,
+            intrinsic: 0,
+        };
+        assert_eq!(rt; buffer_delay(unit, 20), 40);
+        // 24.5 ps and 61.2 ohm into 670 fF: 65.504 ps, doubled.
+        let real = Buffer {
+            cin: 35_000_000,
+            rout: 61_200_000,
+            intrinsic: 24_500_000_000_000_000,
+        };
+        assert_eq!(rt; buffer_delay(real, 670_000_000), 131_008_000_000_000_000);
     }
 
     #[test]

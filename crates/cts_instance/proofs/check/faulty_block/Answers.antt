@@ -13,15 +13,15 @@ loop-block-init c = search rules
 pub returns-in-Some : goal.returns-in-Some
 returns-in-Some c =
     found (λ b l. block_line _ _ _ _ b l) _ _ c.loop-block.block-index _ _ c.loop-block.invariant.lines_left (omega arith)
-        (c.in-Some.ensures ∙ block_line-at _ _ _ _ _ _ _ c.loop-block.invariant.counted)
+    (c.in-Some.ensures ∙ block_line-at _ _ _ _ _ _ _ c.loop-block.invariant.counted)
     ∙ first_of-at _ _ _ _ _ _ _ (to_z-of_z w64 c.args.x c.ranges.x) (to_z-of_z w64 c.args.y c.ranges.y)
 
 pub loop-block-preserved : goal.loop-block-preserved
 loop-block-preserved c = record {
-    lines_left = passed (λ b l. block_line _ _ _ _ b l) _ _ c.loop-block.block-index _ c.loop-block.invariant.lines_left (omega arith)
-        (c.in_default.ensures ∙ block_line-at _ _ _ _ _ _ _ c.loop-block.invariant.counted);
-    counted = counts_of-more _ _ _ _ _ c.with-counts.ensures c.loop-block.invariant.counted (omega arith);
-    counts_add_up = rw c.with-counts.ensures (rw counts_with-total (omega arith))
+  lines_left = passed (λ b l. block_line _ _ _ _ b l) _ _ c.loop-block.block-index _ c.loop-block.invariant.lines_left (omega arith)
+      (c.in_default.ensures ∙ block_line-at _ _ _ _ _ _ _ c.loop-block.invariant.counted);
+  counted = counts_of-more _ _ _ _ _ c.with-counts.ensures c.loop-block.invariant.counted (omega arith);
+  counts_add_up = rw c.with-counts.ensures (rw counts_with-total (omega arith));
 }
 
 pub returns : goal.returns

@@ -14,9 +14,9 @@ returns-in-Some c =
 
 pub loop-sink-preserved : goal.loop-sink-preserved
 loop-sink-preserved c = record {
-    lines_left = passed (sink_line c.args.die.now) _ _ c.loop-sink.sink-index _ c.loop-sink.invariant.lines_left (omega arith)
-        (sym c.in_default.is ∙ c.in_ok-fault.ensures.fault ∙ sink_line-at _ _ _ _ c.loop-sink.invariant.ids_seen);
-    ids_seen = ids-more _ _ _ _ _ (c.in_ok-fault.ensures.added c.in_default.is) c.loop-sink.invariant.ids_seen (omega arith)
+  lines_left = passed (sink_line c.args.die.now) _ _ c.loop-sink.sink-index _ c.loop-sink.invariant.lines_left (omega arith)
+      (sym c.in_default.is ∙ c.in_ok-fault.ensures.fault ∙ sink_line-at _ _ _ _ c.loop-sink.invariant.ids_seen);
+  ids_seen = ids-more _ _ _ _ _ (c.in_ok-fault.ensures.added c.in_default.is) c.loop-sink.invariant.ids_seen (omega arith);
 }
 
 pub returns : goal.returns

@@ -1,5 +1,4 @@
 use Rattle.std.proofs.Common.{◌≡◌, ℕ, ◌-◌, ◌<◌, ◌≤◌, length, slice_index}
-use Rattle.std.specs.Char.{IsAsciiDigit}
 use Rattle.cts_num.proofs.read.check_tail.Given as goal
 
 abbrev pub invariant-loop-fine : goal.invariant-loop-fine

@@ -6,7 +6,7 @@ abbrev pub invariant-loop-at : goal.invariant-loop-at
 invariant-loop-at l = record {
   from : l.from ≤ l.at;
   to : l.at ≤ l.to;
-  digits : (k : ℕ) → l.from ≤ k → k < l.at → IsAsciiDigit (slice_index l.text k)
+  digits : (k : ℕ) → l.from ≤ k → k < l.at → IsAsciiDigit (slice_index l.text k);
 }
 
 abbrev pub decreases-loop-at : goal.decreases-loop-at

@@ -1,33 +1,35 @@
-use Rattle.std.proofs.Common.{◌≡◌, suc, ◌+◌, ◌-◌, arith, append-nil, mod-lt}
-use Rattle.std.proofs.lemmas.List.{drop-set, drop_all}
-use Rattle.cts_num.proofs.Texts.{length-whole_text-le, whole_part-lt, ten_pos, decimal_text-zero, decimal_text-some}
+use Rattle.std.proofs.Common.{◌^◌, ◌≤◌, arith}
+use Rattle.cts_num.proofs.Texts.{parts_fit, whole_part-lt, length-whole_text-le, length-fraction_text-le, decimal_text-parts, decimal_text-cut}
 use Rattle.cts_num.proofs.write.write_decimal.Goals as goal
 
+pub write_word-requires-clause-room : goal.write_word-requires-clause-room
+write_word-requires-clause-room c =
+    let f = c.write_fraction-whole.ensures in
+    let fit = parts_fit c.args.places c.args.value c.requires.places c.requires.value in
+    rw f.whole (omega (arith, f.end))
+
+pub returns-then-value-from-clause-written : goal.returns-then-value-from-clause-written
+returns-then-value-from-clause-written c =
+    let f = c.write_fraction-whole.ensures in
+    rw (decimal_text-parts c.args.places c.args.value) (rw (f.whole, f.written) at c.write_word.ensures.written)
+
+pub write_low-requires-clause-room : goal.write_low-requires-clause-room
+write_low-requires-clause-room c =
+    omega (arith, c.write_fraction-rest.ensures.end, length-fraction_text-le c.args.places c.split-high.result.1)
+
+pub overflow_sub-end : goal.overflow_sub-end
+overflow_sub-end c =
+    omega (arith, c.write_fraction-rest.ensures.end, length-fraction_text-le c.args.places c.split-high.result.1)
+
 pub write_whole-requires-clause-room : goal.write_whole-requires-clause-room
-write_whole-requires-clause-room c = omega (arith, length-whole_text-le 37 c.args.value c.requires.value)
-
-pub returns-then-places-eq0-clause-written : goal.returns-then-places-eq0-clause-written
-returns-then-places-eq0-clause-written c =
-    rw (c.if-places-eq0.true, decimal_text-zero c.args.value) (rw (drop_all 39 c.args.buffer.now (omega arith), append-nil) at c.write_whole.ensures.written)
-
-pub write_padded-requires-clause-number : goal.write_padded-requires-clause-number
-write_padded-requires-clause-number c = rw c.split-whole.ensures.fraction (mod-lt c.args.value (ten_pos c.args.places))
-
-pub write_whole-requires-2-clause-room : goal.write_whole-requires-2-clause-room
-write_whole-requires-2-clause-room c =
-    let p = c.args.places in
-    let bound = whole_part-lt 38 p c.args.value (omega arith) c.requires.value in
-    let e : 38 - p ≡ suc (37 - p) = omega arith in
-    let long = length-whole_text-le (37 - p) _ (rw e at bound) in
-    rw c.split-whole.ensures.whole (omega arith)
+write_whole-requires-clause-room c =
+    let long = length-whole_text-le 21 _ (whole_part-lt 38 16 c.args.value (omega arith) c.requires.value) in
+    rw c.split-high.ensures.chunks (omega (arith, c.write_fraction-rest.ensures.end, length-fraction_text-le c.args.places c.split-high.result.1))
 
 pub returns-clause-written : goal.returns-clause-written
 returns-clause-written c =
-    let p = c.args.places in
-    let buffer = c.write_padded.new.buffer in
-    let point = 39 - p - 1 in
-    let e : point + 1 ≡ 39 - p = omega arith in
-    let fraction = drop-set buffer point 46 (omega arith) in
-    let padded = rw (drop_all 39 c.args.buffer.now (omega arith), append-nil) at c.write_padded.ensures in
-    rw (decimal_text-some p c.args.value (omega arith))
-    (rw (fraction, e, padded, c.split-whole.ensures.whole, c.split-whole.ensures.fraction) at c.write_whole-2.ensures.written)
+    let s = c.split-high.ensures in
+    let f = c.write_fraction-rest.ensures in
+    let big : 10 ^ 16 ≤ c.args.value = omega (arith, c.if-value-from.false, c.from.ensures) in
+    rw (decimal_text-cut c.args.places c.args.value c.requires.places big)
+    (rw (c.write_low.ensures.written, f.written, f.whole, s.chunks, s.low) at c.write_whole.ensures.written)

@@ -1,5 +1,5 @@
-use Rattle.std.proofs.Common.{refl, sym, arith, subst}
-use Rattle.cts_topo.proofs.Extents.{Scanned, scanned_none, scanned_more, scanned_order, scanned_all}
+use Rattle.std.proofs.Common.{sym, arith}
+use Rattle.cts_topo.proofs.Extents.{scanned_none, scanned_more, scanned_order, scanned_all}
 use Rattle.cts_topo.proofs.divide.is_wide.Goals as goal
 
 pub loop-pin-init : goal.loop-pin-init

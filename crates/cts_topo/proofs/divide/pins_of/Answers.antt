@@ -1,4 +1,4 @@
-use Rattle.std.proofs.Common.{◌≡◌, ◌++◌, ◌∷◌, [], sym, ap, ap₂, ◌∙◌, arith}
+use Rattle.std.proofs.Common.{◌++◌, ◌∷◌, [], sym, ap₂, ◌∙◌}
 use Rattle.cts_topo.proofs.PinsFrom.{pins_from_more}
 use Rattle.cts_topo.proofs.divide.pins_of.Goals as goal
 

@@ -1,5 +1,5 @@
 -- Each call of the closure compares by the order of pins, so the sort is by it.
-use Rattle.std.proofs.Common.{◌≡◌, true, false, sym, subst, rules, is_lt}
+use Rattle.std.proofs.Common.{true, false, sym, subst, rules}
 use Rattle.std.specs.List.Sorted.{IsSortedBy}
 use Rattle.std.proofs.lemmas.List.Sorted.{answers_always}
 use Rattle.cts_topo.specs.Topology.{is_before}

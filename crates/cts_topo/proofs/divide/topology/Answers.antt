@@ -1,6 +1,6 @@
-use Rattle.std.proofs.Common.{◌≡◌, ◌<◌, ℕ, map, length, sym, ap, subst, ◌∙◌, arith}
+use Rattle.std.proofs.Common.{◌≡◌, ◌+◌, ◌*◌, map, length, sym, ap, subst, ◌∙◌, arith}
 use Rattle.cts_postorder.specs.PostOrder.{IsPostOrder}
-use Rattle.cts_topo.specs.Shape.{children}
+use Rattle.cts_topo.specs.Shape.{children, IsShapeOver}
 use Rattle.cts_topo.specs.Pins.{HasDistinctIds}
 use Rattle.cts_topo.proofs.PinsFrom.{length-pins_from, distinct_pins}
 use Rattle.cts_topo.proofs.Whole.{divided_is_shape, shape_is_post_order, shape_is_over, length-shape_of}
@@ -26,4 +26,9 @@ of-requires c =
 
 pub returns : goal.returns
 returns c =
-    c.of.ensures ∙ divided_is_shape _ _ _ _ (c.as_mut_slice.ensures.value ∙ c.in_ok-pins.ensures) c.in_ok-nodes.ensures.items c.in_ok-divide.ensures.nodes
+    let is = c.of.ensures ∙ divided_is_shape _ _ _ _ (c.as_mut_slice.ensures.value ∙ c.in_ok-pins.ensures) c.in_ok-nodes.ensures.items c.in_ok-divide.ensures.nodes in
+    record {
+      definition = is;
+      each_sink_once = subst (IsShapeOver (length c.args.sinks.now)) (sym is) (shape_is_over _ c.requires);
+      count = subst (λ ns. length ns + 1 ≡ 2 * length c.args.sinks.now) (sym is) (length-shape_of _ c.requires);
+    }

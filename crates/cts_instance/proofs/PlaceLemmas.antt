@@ -1,0 +1,56 @@
+-- The places of valid parts, in the geometry and among the blocks.
+use Rattle.std.proofs.Common.{◌≡◌, ◌^◌, ◌≤◌, ℤ, pos, neg_ℤ, ◌*ℤ◌, ◌≤ℤ◌, ◌<ℤ◌, All, arith}
+use Rattle.std.proofs.lemmas.Int.{ints}
+use Rattle.cts_geom.specs.declared.bounds.Die.{Die}
+use Rattle.cts_geom.specs.Coordinate.{IsCoordinate}
+use Rattle.cts_block.specs.declared.blocks.Block.{Block}
+use Rattle.cts_block.specs.FreePoints.{StopsWires, IsInDie as IsHalfInDie, IsInside as IsHalfInside, IsFreeForWire}
+use Rattle.cts_instance.specs.declared.parts.Parts.{Parts}
+use Rattle.cts_instance.specs.Places.{IsInDie, IsInside}
+use Rattle.cts_instance.specs.Validity.{IsDie, IsValid}
+use Rattle.cts_instance.specs.Laws.{half_at, HasCoordinates, HasFreePlaces}
+
+coordinate : (low z high : ℤ) → pos 0 ≤ℤ low → low ≤ℤ z → z ≤ℤ high → high ≤ℤ pos (10 ^ 8) → IsCoordinate z
+coordinate low z high a b c d = record { low = omega (arith, ints); high = omega (arith, ints) }
+
+twice_le : (a b : ℤ) → a ≤ℤ b → (pos 2 *ℤ a) ≤ℤ (pos 2 *ℤ b)
+twice_le a b h = omega (arith, ints)
+
+half_lt : (a b : ℤ) → (pos 2 *ℤ a) <ℤ (pos 2 *ℤ b) → a <ℤ b
+half_lt a b h = omega (arith, ints)
+
+pub half_in_die : (die : Die) (x y : ℤ) → IsInDie die x y → IsHalfInDie die (half_at x y)
+half_in_die die x y p = record {
+  x = record { at_least = twice_le _ _ p.west; at_most = twice_le _ _ p.east };
+  y = record { at_least = twice_le _ _ p.south; at_most = twice_le _ _ p.north };
+}
+
+pub half_inside : (block : Block) (x y : ℤ) → IsHalfInside block (half_at x y) → IsInside block x y
+half_inside block x y p = record {
+  west = half_lt _ _ p.x.above;
+  east = half_lt _ _ p.x.below;
+  south = half_lt _ _ p.y.above;
+  north = half_lt _ _ p.y.below;
+}
+
+pub has_coordinates : (parts : Parts) → IsValid parts → HasCoordinates parts
+has_coordinates parts v = record {
+  source_x = coordinate parts.die.x1 parts.source_x parts.die.x2 v.die.x_low v.source.west v.source.east v.die.x_high;
+  source_y = coordinate parts.die.y1 parts.source_y parts.die.y2 v.die.y_low v.source.south v.source.north v.die.y_high;
+  sinks_x = λ k d inside. let s = (v.sinks k d inside).in_die in coordinate _ _ _ v.die.x_low s.west s.east v.die.x_high;
+  sinks_y = λ k d inside. let s = (v.sinks k d inside).in_die in coordinate _ _ _ v.die.y_low s.south s.north v.die.y_high;
+}
+
+pub has_free_places : (parts : Parts) → IsValid parts → HasFreePlaces parts
+has_free_places parts v = record {
+  source = record {
+    in_die = half_in_die parts.die parts.source_x parts.source_y v.source;
+    clear = λ k d inside stops within.
+        (v.clear k d inside).of_source stops (half_inside _ parts.source_x parts.source_y within);
+  };
+  sinks = λ k d inside. record {
+    in_die = half_in_die parts.die _ _ (v.sinks k d inside).in_die;
+    clear = λ j e within stops strictly.
+        (v.clear j e within).of_sinks stops k d inside (half_inside _ _ _ strictly);
+  };
+}

@@ -1,0 +1,24 @@
+-- Of the last place at which the first side is not slower and the next one, the nearer is the least pair.
+use Rattle.std.proofs.Common.{◌+◌, ◌-◌, ◌≤◌, arith}
+use Rattle.cts_merge.specs.Side.{delay_through}
+use Rattle.cts_merge.proofs.SideDelays.{delay_rises}
+use Rattle.cts_merge.proofs.MergePairs.{taps_at, spans_low, spans_high}
+use Rattle.cts_merge.proofs.lengths.tapped.Goals as goal
+
+pub returns-then-short_by-long_by-clause-least : goal.returns-then-short_by-long_by-clause-least
+returns-then-short_by-long_by-clause-least c =
+    let f = delay_through c.args.wire c.args.a.now in
+    let g = delay_through c.args.wire c.args.b.now in
+    spans_low f g (delay_rises c.args.wire c.args.a.now c.requires.wire) (delay_rises c.args.wire c.args.b.now c.requires.wire)
+    c.args.gap c.tap-low.result (c.args.gap - (c.tap-low.result + 1)) (omega arith) (omega arith)
+    (taps_at f g c.args.gap c.tap-low.result c.tap-low.ensures.below c.tap-low.ensures.here c.tap-low.ensures.next)
+    (omega arith)
+
+pub returns-clause-least : goal.returns-clause-least
+returns-clause-least c =
+    let f = delay_through c.args.wire c.args.a.now in
+    let g = delay_through c.args.wire c.args.b.now in
+    spans_high f g (delay_rises c.args.wire c.args.a.now c.requires.wire) (delay_rises c.args.wire c.args.b.now c.requires.wire)
+    c.args.gap c.tap-low.result (c.args.gap - (c.tap-low.result + 1)) (omega arith) (omega arith)
+    (taps_at f g c.args.gap c.tap-low.result c.tap-low.ensures.below c.tap-low.ensures.here c.tap-low.ensures.next)
+    (omega arith)

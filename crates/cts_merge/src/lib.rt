@@ -1,0 +1,21 @@
+//! Merging of two subtrees of a clock tree, with whole lengths of wire: the least pair, the merging
+//! region, the buffer choice, and the lengths of a balance over given routes.
+//!
+//! A layer above hands in two sides and takes what [`merge`] makes of them, or [`Beyond`]; it cites
+//! the definitions of `specs/`: `LeastPair` for the order of pairs of lengths and for which pairs are
+//! admissible, `Merge` and `Balance` for what the calls answer. They range over all lengths, without a
+//! limit.
+//!
+//! Lengths are in nm, loads in zF, and delays are doubled, in 10^-27 s. No call takes memory.
+#![tactic(auto)]
+
+mod balance;
+mod lengths;
+mod merging;
+mod side;
+mod steps;
+
+pub use balance::choose;
+pub use merging::{leaf, merge};
+pub use side::{Beyond, Finished, Side};
+pub use steps::Steps;

@@ -1,0 +1,164 @@
+//! One step of the upward pass: a sink, and a pair of sides.
+
+ghost use Rattle.std.specs.Prelude.{◌≡◌, ◌+◌, ◌-◌, ◌*◌, ◌^◌, ◌≤◌, ◌+ℤ◌, ◌-ℤ◌, ◌↔◌, IfOk, IfErr};
+ghost use Rattle.cts_geom.specs.Coordinate.{IsCoordinate};
+ghost use Rattle.cts_geom.specs.declared.points.Spot.{Spot};
+ghost use Rattle.cts_geom.specs.Regions.{ContainsSpot, IsRegionInRange};
+ghost use Rattle.cts_units.specs.Choice.{IsBufferChoice, added_delay_of, seen_load_of};
+ghost use Rattle.cts_units.specs.Limits.{IsParams, IsWire};
+ghost use Rattle.cts_merge.specs.Merge.{IsLeaf, IsMergePair, IsMerged, IsBeyond};
+ghost use Rattle.cts_merge.specs.Side.{IsSideInRange};
+
+use crate::lengths::{delay_through, least_pair};
+use crate::side::{Beyond, Finished, Side};
+use crate::steps::Steps;
+use cts_geom::{Region, Spot, gap, meet, spot_of};
+use cts_units::{MAX_DELAY, MAX_LOAD, Params, Sink, Wire, buffer_delay, choose_buffer};
+use std::sync::ledger::Ledger;
+
+/// The region of one spot.
+fn point(at: Spot) -> Region
+    ensures spots { (p : Spot) → ContainsSpot result p ↔ (p ≡ at) }
+    ensures u1 { result.u1 ≡ at.u }
+    ensures u2 { result.u2 ≡ at.u }
+    ensures v1 { result.v1 ≡ at.v }
+    ensures v2 { result.v2 ≡ at.v }
+{
+    Region {
+        u1: at.u,
+        u2: at.u,
+        v1: at.v,
+        v2: at.v,
+    }
+}
+
+/// The node of a sink: no delay, its capacitance as load, and its own point as region.
+pub fn leaf(sink: &Sink) -> Finished
+    requires x { IsCoordinate sink.now.x }
+    requires y { IsCoordinate sink.now.y }
+    requires cap { sink.now.cap ≤ 2 ^ 56 }
+    ensures leaf { IsLeaf sink.now result }
+    ensures in_range { IsSideInRange result.side }
+    ensures u1 { result.side.region.u1 ≡ sink.now.x +ℤ sink.now.y }
+    ensures u2 { result.side.region.u2 ≡ sink.now.x +ℤ sink.now.y }
+    ensures v1 { result.side.region.v1 ≡ sink.now.x -ℤ sink.now.y }
+    ensures v2 { result.side.region.v2 ≡ sink.now.x -ℤ sink.now.y }
+{
+    Finished {
+        side: Side {
+            greatest: 0,
+            load: sink.cap,
+            region: point(spot_of(sink.x, sink.y)),
+        },
+        ea: 0,
+        eb: 0,
+        buffer: None,
+    }
+}
+
+/// The capacitance of a wire of this length, in zF.
+fn wire_load(wire: Wire, length: u64) -> u64
+    requires wire { IsWire wire }
+    requires length { length ≤ 2 ^ 32 }
+    ensures value { result ≡ wire.c * length }
+    ensures bound { result ≤ 2 ^ 52 }
+{
+    wire.c * length
+}
+
+/// The delay that a node's buffer adds over a load, and the load that is seen from above it.
+fn buffered(params: &Params, buffer: Option<u16>, load: u64) -> (u128, u64)
+    requires params { IsParams params.now }
+    requires load { load ≤ 2 ^ 56 }
+    requires choice { IsBufferChoice params.now load buffer }
+    ensures added { result.0 ≡ added_delay_of params.now.library buffer load }
+    ensures added_bound { result.0 ≤ 2 ^ 118 }
+    ensures seen { result.1 ≡ seen_load_of params.now.library buffer load }
+    ensures seen_bound { result.1 ≤ 2 ^ 56 }
+{
+    match buffer {
+        Some(index) => {
+            let chosen = params.library.items()[index as usize];
+            (buffer_delay(chosen, load), chosen.cin)
+        }
+        None => (0, load),
+    }
+}
+
+/// The pair of two sides with wires of these lengths, its least pair.
+fn join(params: &Params, a: &Side, ea: u64, b: &Side, eb: u64) -> Result<Finished, Beyond>
+    requires params { IsParams params.now }
+    requires a { IsSideInRange a.now }
+    requires b { IsSideInRange b.now }
+    requires a_region { IsRegionInRange a.now.region }
+    requires b_region { IsRegionInRange b.now.region }
+    requires least { IsMergePair params.now.wire a.now b.now ea eb }
+    requires ea { ea ≤ 2 ^ 31 - 1 }
+    requires eb { eb ≤ 2 ^ 31 - 1 }
+    ensures merged { IfOk result (λ pair. IsMerged params.now a.now b.now pair) }
+    ensures in_range { IfOk result (λ pair. IsSideInRange pair.side) }
+    ensures beyond { IfErr result (λ _. IsBeyond params.now a.now b.now) }
+{
+    let load = a.load + b.load + wire_load(params.wire, ea + eb);
+    if load > MAX_LOAD {
+        return Err(Beyond);
+    }
+    let buffer = choose_buffer(params, load);
+    let (added, seen) = buffered(params, buffer, load);
+    let through_a = delay_through(params.wire, a, ea);
+    let through_b = delay_through(params.wire, b, eb);
+    let greatest = through_a.max(through_b) + added;
+    if greatest > MAX_DELAY {
+        return Err(Beyond);
+    }
+    Ok(Finished {
+        side: Side {
+            greatest,
+            load: seen,
+            region: meet(&a.region, ea, &b.region, eb),
+        },
+        ea,
+        eb,
+        buffer,
+    })
+}
+
+/// The pair of two sides.
+fn pair_of(params: &Params, a: &Side, b: &Side) -> Result<Finished, Beyond>
+    requires params { IsParams params.now }
+    requires a { IsSideInRange a.now }
+    requires b { IsSideInRange b.now }
+    requires a_region { IsRegionInRange a.now.region }
+    requires b_region { IsRegionInRange b.now.region }
+    ensures merged { IfOk result (λ pair. IsMerged params.now a.now b.now pair) }
+    ensures in_range { IfOk result (λ pair. IsSideInRange pair.side) }
+    ensures beyond { IfErr result (λ _. IsBeyond params.now a.now b.now) }
+{
+    let (ea, eb) = least_pair(params.wire, a, b, gap(&a.region, &b.region))?;
+    join(params, a, ea, b, eb)
+}
+
+/// The pair of two sides: the least pair of lengths over the gap of their regions, the region in which
+/// its node may stand, its buffer, and what is seen of it from above. It counts one merge.
+///
+/// `Beyond` exactly where a length is above 2^31 - 1 nm, the load before the buffer is above 2^56 zF, or
+/// the greatest doubled delay after the buffer is above 2^104 of 10^-27 s.
+pub fn merge<L: Ledger>(
+    params: &Params,
+    a: &Side,
+    b: &Side,
+    steps: &mut Steps<L>,
+) -> Result<Finished, Beyond>
+    requires params { IsParams params.now }
+    requires a { IsSideInRange a.now }
+    requires b { IsSideInRange b.now }
+    requires a_region { IsRegionInRange a.now.region }
+    requires b_region { IsRegionInRange b.now.region }
+    ensures merged { IfOk result (λ pair. IsMerged params.now a.now b.now pair) }
+    ensures in_range { IfOk result (λ pair. IsSideInRange pair.side) }
+    ensures beyond { IfErr result (λ _. IsBeyond params.now a.now b.now) }
+    ensures tick { steps.new ≡ steps.old + 1 }
+{
+    steps.tick();
+    pair_of(params, a, b)
+}
