@@ -1,6 +1,7 @@
 -- Lines that are skipped, and the next one that is not.
 use Rattle.std.proofs.Common.{◌≡◌, ℕ, ◌+◌, Bool, true, false, List, [], ◌∷◌, length, Ok, refl, sym, ap, ◌∙◌, arith, cond}
-use Rattle.cts_io.specs.Lines.{LinesLeft, lines_of}
+use Rattle.cts_io.specs.Lines.{lines_of}
+use Rattle.cts_read.specs.Place.{Place}
 use Rattle.cts_read.specs.Lines.{is_skipped}
 use Rattle.cts_read.specs.Grammar.{Left, content, left_of, line_at, first_line}
 
@@ -16,7 +17,7 @@ missing_next : (n m k : ℕ) → m ≡ k + 1 → n + m + 1 ≡ n + 1 + k + 1
 missing_next n m k e = omega arith
 
 -- a line that is skipped leaves the same lines
-pub left_skip : (s t : LinesLeft) (l : List ℕ) → lines_of s.rest ≡ l ∷ lines_of t.rest → t.line ≡ s.line + 1 → is_skipped l ≡ true → left_of t ≡ left_of s
+pub left_skip : (s t : Place) (l : List ℕ) → lines_of s.rest ≡ l ∷ lines_of t.rest → t.line ≡ s.line + 1 → is_skipped l ≡ true → left_of t ≡ left_of s
 unfolding left_of
 left_skip s t l e n h =
     let lines : content t.line (lines_of t.rest) ≡ content s.line (lines_of s.rest) =
@@ -26,7 +27,7 @@ left_skip s t l e n h =
     cc
 
 -- a line that is not is the next
-pub left_next : (s t : LinesLeft) (l : List ℕ) → lines_of s.rest ≡ l ∷ lines_of t.rest → t.line ≡ s.line + 1 → is_skipped l ≡ false
+pub left_next : (s t : Place) (l : List ℕ) → lines_of s.rest ≡ l ∷ lines_of t.rest → t.line ≡ s.line + 1 → is_skipped l ≡ false
     → line_at (left_of s) ≡ Ok ((t.line, l), left_of t)
 unfolding left_of line_at
 left_next s t l e n h =
@@ -37,10 +38,10 @@ left_next s t l e n h =
     rw (lines, missing, n) refl
 
 -- no line is left
-pub left_none : (s : LinesLeft) → lines_of s.rest ≡ [] → (left_of s).lines ≡ []
+pub left_none : (s : Place) → lines_of s.rest ≡ [] → (left_of s).lines ≡ []
 unfolding left_of content
 left_none s e = rw e refl
 
-pub missing_none : (s : LinesLeft) → lines_of s.rest ≡ [] → (left_of s).missing ≡ s.line + 1
+pub missing_none : (s : Place) → lines_of s.rest ≡ [] → (left_of s).missing ≡ s.line + 1
 unfolding left_of
 missing_none s e = omega (arith, ap length e)

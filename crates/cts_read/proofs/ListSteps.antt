@@ -1,5 +1,8 @@
 -- Lines of a list, one after another.
-use Rattle.std.proofs.Common.{◌≡◌, ℕ, ◌+◌, ◌-◌, ◌<◌, ◌≤◌, zero, suc, List, [], ◌∷◌, ◌++◌, length, Result, Ok, Err, refl, sym, ap, ◌∙◌, arith, subst}
+use Rattle.std.proofs.Common.{◌≡◌, ℕ, ◌+◌, ◌-◌, ◌<◌, ◌≤◌, zero, suc, List, [], ◌∷◌, ◌++◌, length, Option, None, Result, Ok, Err, refl, sym, ap, ◌∙◌, arith, subst}
+use Rattle.cts_instance.specs.FirstFault.{first_of}
+use Rattle.cts_instance.specs.declared.fault.Fault.{Fault}
+use Rattle.cts_instance.proofs.FirstFaultLemmas.{first_of-nil, first_of-cons, first_of-append}
 use Rattle.cts_read.specs.declared.stop.Cause.{Cause}
 use Rattle.cts_read.specs.declared.stop.ReadStop.{ReadStop}
 use Rattle.cts_read.specs.declared.stop.ReadStop.TheVariants.{Refused, NoMemory}
@@ -34,3 +37,9 @@ module _ {A : Type 0} (read : List A → List ℕ → Result A Cause) where
   list_done count k before left e =
       let none : count - k ≡ 0 = omega arith in
       ap (λ n. list_at read n before left) none
+
+-- one more line without a fault
+pub sound_push : {A : Type 0} (ask : List A → A → Option Fault) (lines : List A) (line : A) → first_of ask [] lines ≡ None → ask lines line ≡ None
+    → first_of ask [] (lines ++ line ∷ []) ≡ None
+sound_push ask lines line e f =
+    rw (first_of-append, e, first_of-cons, f, first_of-nil) refl

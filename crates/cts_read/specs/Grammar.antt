@@ -1,7 +1,7 @@
 -- The lines of a text against the lines of a grammar.
 use Rattle.std.specs.Prelude.{◌≡◌, ℕ, ◌+◌, Bool, not, nat_eq, if◌then◌else◌, List, [], ◌∷◌, length, Option, None, Some, Result, Ok, Err}
 use Rattle.std.specs.Str.{bytes_eq}
-use Rattle.cts_io.specs.Lines.{LinesLeft, lines_of}
+use Rattle.cts_io.specs.Lines.{lines_of}
 use Rattle.cts_num.specs.declared.read.DecimalFault.{DecimalFault}
 use Rattle.cts_num.specs.Reading.{reading_of}
 use Rattle.cts_instance.specs.declared.fault.Fault.{Fault as InstanceFault}
@@ -9,6 +9,7 @@ use Rattle.cts_read.specs.declared.stop.Cause.{Cause}
 use Rattle.cts_read.specs.declared.stop.Cause.TheVariants.{NotAscii, Word, Count, Number, Missing, Fault}
 use Rattle.cts_read.specs.declared.stop.ReadStop.{ReadStop}
 use Rattle.cts_read.specs.declared.stop.ReadStop.TheVariants.{Refused, NoMemory}
+use Rattle.cts_read.specs.Place.{Place}
 use Rattle.cts_read.specs.Lines.{is_printable, is_skipped, words_of}
 
 -- The lines that are left and are not skipped, each with its number in the input, and the number that a line after all
@@ -22,7 +23,7 @@ unfoldable pub content : ℕ → List (List ℕ) → List (ℕ × List ℕ)
 content line [] = []
 content line (l ∷ ls) = if is_skipped l then content (line + 1) ls else (line + 1, l) ∷ content (line + 1) ls
 
-unfoldable pub left_of : LinesLeft → Left
+unfoldable pub left_of : Place → Left
 left_of s = record { lines = content s.line (lines_of s.rest); missing = s.line + length (lines_of s.rest) + 1 }
 
 -- the number of the line that offends first, and its first cause

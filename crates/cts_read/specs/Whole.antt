@@ -1,10 +1,11 @@
 -- A whole instance, line by line, and what may follow it.
-use Rattle.std.specs.Prelude.{◌≡◌, ℕ, List, [], ◌∷◌, if◌then◌else◌, Result, Ok, Err}
+use Rattle.std.specs.Prelude.{◌≡◌, ℕ, List, [], ◌∷◌, if◌then◌else◌, None, Result, Ok, Err}
 use Rattle.cts_geom.specs.declared.bounds.Die.{Die}
 use Rattle.cts_units.specs.declared.params.Sink.{Sink}
 use Rattle.cts_units.specs.declared.params.Buffer.{Buffer}
 use Rattle.cts_block.specs.declared.blocks.Block.{Block}
 use Rattle.cts_instance.specs.declared.parts.Parts.{Parts}
+use Rattle.cts_instance.specs.FirstFault.{die_fault, source_fault, wire_fault, limits_fault, buffers_fault, sinks_fault, blocks_fault}
 use Rattle.cts_read.specs.declared.read.Head.{Head}
 use Rattle.cts_read.specs.declared.read.Lists.{Lists}
 use Rattle.cts_read.specs.declared.stop.Cause.TheVariants.{NotAscii, Word}
@@ -40,3 +41,43 @@ lists_at head left = do
   block_count ← item_at block_count_of sinks.1
   blocks ← list_at (block_of head.die head.source.x head.source.y sinks.0) block_count.0 [] block_count.1
   Ok (record { buffers = buffers.0; sinks = sinks.0; blocks = blocks.0 }, blocks.1)
+
+-- none of the lines before the lists has a fault
+pub record IsSoundHead (head : Head) : Type 0 where
+  pub die : die_fault head.die ≡ None
+  pub source : source_fault head.die head.source.x head.source.y head.source.r ≡ None
+  pub wire : wire_fault head.wire ≡ None
+  pub limits : limits_fault head.limits.insert_at head.limits.load head.limits.slew ≡ None
+
+-- none of the lines of the lists has a fault
+pub record IsSoundLists (head : Head) (lists : Lists) : Type 0 where
+  pub buffers : buffers_fault lists.buffers ≡ None
+  pub sinks : sinks_fault head.die lists.sinks ≡ None
+  pub blocks : blocks_fault head.die head.source.x head.source.y lists.sinks lists.blocks ≡ None
+
+-- the parts of an instance that these lines are
+abbrev pub parts_of : Head → Lists → Parts
+parts_of head lists = record {
+  die = head.die;
+  source_x = head.source.x;
+  source_y = head.source.y;
+  source_r = head.source.r;
+  params = record { wire = head.wire; library = lists.buffers; insert_at = head.limits.insert_at };
+  load_limit = head.limits.load;
+  slew_limit = head.limits.slew;
+  sinks = lists.sinks;
+  blocks = lists.blocks;
+}
+
+-- an instance, the number of its last line, and the lines left after it; or the first line that offends, with its first cause
+unfoldable pub instance_at : Left → Result ((Parts × ℕ) × Left) Refusal
+instance_at left = do
+  head ← head_at left
+  lists ← lists_at head.0 head.1
+  end ← end_at lists.1
+  Ok ((parts_of head.0 lists.0, end.0), end.1)
+
+-- nothing but skipped lines may be left
+unfoldable pub rest_of : List (ℕ × List ℕ) → Result Unit Refusal
+rest_of [] = Ok tt
+rest_of (next ∷ others) = Err (next.0, if is_printable next.1 then Word else NotAscii)

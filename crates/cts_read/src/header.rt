@@ -1,6 +1,7 @@
 //! The lines before the lists: version, die, source, wire and limits.
 
-ghost use Rattle.std.specs.Prelude.{◌≡◌, IfOk};
+ghost use Rattle.std.specs.Prelude.{◌≡◌, None, IfOk};
+ghost use Rattle.cts_instance.specs.FirstFault.{die_fault, limits_fault, source_fault, wire_fault};
 ghost use Rattle.cts_read.specs.Grammar.{Finds};
 ghost use Rattle.cts_read.specs.Header.{die_of, limits_of, source_of, version_of, wire_of};
 
@@ -41,7 +42,8 @@ pub fn version_of(line: &[u8]) -> Result<(), Cause>
 
 #[tactic(auto, unfolding(crate::specs::Header::die_of))]
 pub fn die_of(line: &[u8]) -> Result<Die, Cause>
-    ensures { result ≡ die_of line.now }
+    ensures read { result ≡ die_of line.now }
+    ensures sound { IfOk result (λ die. die_fault die ≡ None) }
 {
     let rest = fields(b"die", 4, line)?;
     let (x1, rest) = number(3, rest)?;
@@ -60,7 +62,8 @@ pub fn die_of(line: &[u8]) -> Result<Die, Cause>
 
 #[tactic(auto, unfolding(crate::specs::Header::source_of))]
 pub fn source_of(die: &Die, line: &[u8]) -> Result<Source, Cause>
-    ensures { result ≡ source_of die.now line.now }
+    ensures read { result ≡ source_of die.now line.now }
+    ensures sound { IfOk result (λ source. source_fault die.now source.x source.y source.r ≡ None) }
 {
     let rest = fields(b"source", 3, line)?;
     let (x, rest) = number(3, rest)?;
@@ -77,7 +80,8 @@ pub fn source_of(die: &Die, line: &[u8]) -> Result<Source, Cause>
 
 #[tactic(auto, unfolding(crate::specs::Header::wire_of))]
 pub fn wire_of(line: &[u8]) -> Result<Wire, Cause>
-    ensures { result ≡ wire_of line.now }
+    ensures read { result ≡ wire_of line.now }
+    ensures sound { IfOk result (λ wire. wire_fault wire ≡ None) }
 {
     let rest = fields(b"wire", 2, line)?;
     let (r, rest) = number(3, rest)?;
@@ -89,7 +93,8 @@ pub fn wire_of(line: &[u8]) -> Result<Wire, Cause>
 
 #[tactic(auto, unfolding(crate::specs::Header::limits_of))]
 pub fn limits_of(line: &[u8]) -> Result<Limits, Cause>
-    ensures { result ≡ limits_of line.now }
+    ensures read { result ≡ limits_of line.now }
+    ensures sound { IfOk result (λ limits. limits_fault limits.insert_at limits.load limits.slew ≡ None) }
 {
     let rest = fields(b"limits", 3, line)?;
     let (insert_at, rest) = number(6, rest)?;

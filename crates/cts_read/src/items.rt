@@ -1,6 +1,7 @@
 //! The lines of the lists: buffers, sinks and blocks.
 
-ghost use Rattle.std.specs.Prelude.{◌≡◌, ◌-◌, ◌^◌, ◌<◌, IfOk};
+ghost use Rattle.std.specs.Prelude.{◌≡◌, ◌-◌, ◌^◌, ◌<◌, None, IfOk};
+ghost use Rattle.cts_instance.specs.FirstFault.{block_count_fault, buffer_count_fault, sink_count_fault};
 ghost use Rattle.cts_read.specs.Grammar.{Finds};
 ghost use Rattle.cts_read.specs.Items.{block_count_of, block_numbers, buffer_count_of, buffer_numbers, count_of, end_of, kind_of, sink_count_of, sink_numbers};
 ghost use Rattle.cts_read.specs.Lines.{words_of};
@@ -25,6 +26,7 @@ fn count_of(key: &[u8], line: &[u8]) -> Result<usize, Cause>
 #[tactic(auto, unfolding(crate::specs::Items::buffer_count_of), using(crate::proofs::Counts::buffer_count_small))]
 pub fn buffer_count_of(line: &[u8]) -> Result<usize, Cause>
     ensures read { result ≡ buffer_count_of line.now }
+    ensures sound { IfOk result (λ count. buffer_count_fault count ≡ None) }
     ensures bound { IfOk result (λ count. count < 2 ^ 32) }
 {
     let count = count_of(b"buffers", line)?;
@@ -35,6 +37,7 @@ pub fn buffer_count_of(line: &[u8]) -> Result<usize, Cause>
 #[tactic(auto, unfolding(crate::specs::Items::sink_count_of), using(crate::proofs::Counts::sink_count_small))]
 pub fn sink_count_of(line: &[u8]) -> Result<usize, Cause>
     ensures read { result ≡ sink_count_of line.now }
+    ensures sound { IfOk result (λ count. sink_count_fault count ≡ None) }
     ensures bound { IfOk result (λ count. count < 2 ^ 32) }
 {
     let count = count_of(b"sinks", line)?;
@@ -45,6 +48,7 @@ pub fn sink_count_of(line: &[u8]) -> Result<usize, Cause>
 #[tactic(auto, unfolding(crate::specs::Items::block_count_of), using(crate::proofs::Counts::block_count_small))]
 pub fn block_count_of(line: &[u8]) -> Result<usize, Cause>
     ensures read { result ≡ block_count_of line.now }
+    ensures sound { IfOk result (λ count. block_count_fault count ≡ None) }
     ensures bound { IfOk result (λ count. count < 2 ^ 32) }
 {
     let count = count_of(b"blocks", line)?;

@@ -2,24 +2,24 @@
 
 ghost use Rattle.std.specs.Prelude.{◌≡◌, ◌<◌, ◌≤◌, ◌^◌, None, Ok, IfOk, length, drop, MatchResult};
 ghost use Rattle.cts_io.specs.Lines.{lines_of};
-ghost use Rattle.cts_instance.specs.FirstFault.{first_fault};
+ghost use Rattle.cts_instance.specs.FirstFault.{block_count_fault, buffer_count_fault, die_fault, first_fault, limits_fault, sink_count_fault, source_fault, wire_fault};
 ghost use Rattle.cts_read.specs.Grammar.{Gives, Refuses, item_at, left_of};
 ghost use Rattle.cts_read.specs.Header.{die_of, limits_of, source_of, version_of, wire_of};
 ghost use Rattle.cts_read.specs.Items.{block_count_of, buffer_count_of, sink_count_of};
-ghost use Rattle.cts_read.specs.Whole.{end_at, head_at, instance_at, lists_at, rest_of};
+ghost use Rattle.cts_read.specs.Whole.{IsSoundHead, IsSoundLists, end_at, head_at, instance_at, lists_at, parts_of, rest_of};
 
-use crate::cursor::next_line;
+use crate::cursor::{Cursor, next_line};
 use crate::header::{Limits, Source, die_of, limits_of, source_of, version_of, wire_of};
 use crate::items::{block_count_of, buffer_count_of, end_of, sink_count_of};
 use crate::lists::{at_line, read_blocks, read_buffers, read_sinks};
 use crate::stop::{Cause, ReadStop};
 use cts_geom::Die;
 use cts_instance::{Blocks, Instance, Parts, Sinks};
-use cts_io::Lines;
 use cts_units::{Library, Params, Wire};
 use std::alloc::Global;
 
 /// What comes before the lists.
+#[derive(Drop)]
 struct Head {
     die: Die,
     source: Source,
@@ -28,67 +28,82 @@ struct Head {
 }
 
 #[tactic(auto, unfolding(crate::specs::Grammar::item_at))]
-fn read_version(lines: &mut Lines<'_>) -> Result<(), ReadStop>
-    ensures { Gives (λ x. x) result (left_of lines.new) (item_at version_of (left_of lines.old)) }
+fn read_version(lines: &mut Cursor<'_>) -> Result<(), ReadStop>
+    ensures read { Gives (λ x. x) result (left_of lines.new) (item_at version_of (left_of lines.old)) }
+    ensures text { lines.new.text ≡ lines.old.text }
 {
     let (number, line) = next_line(lines)?;
     at_line(number, version_of(line))
 }
 
 #[tactic(auto, unfolding(crate::specs::Grammar::item_at))]
-fn read_die(lines: &mut Lines<'_>) -> Result<Die, ReadStop>
-    ensures { Gives (λ x. x) result (left_of lines.new) (item_at die_of (left_of lines.old)) }
+fn read_die(lines: &mut Cursor<'_>) -> Result<Die, ReadStop>
+    ensures read { Gives (λ x. x) result (left_of lines.new) (item_at die_of (left_of lines.old)) }
+    ensures sound { IfOk result (λ x. die_fault x ≡ None) }
+    ensures text { lines.new.text ≡ lines.old.text }
 {
     let (number, line) = next_line(lines)?;
     at_line(number, die_of(line))
 }
 
 #[tactic(auto, unfolding(crate::specs::Grammar::item_at))]
-fn read_source(lines: &mut Lines<'_>, die: &Die) -> Result<Source, ReadStop>
-    ensures { Gives (λ x. x) result (left_of lines.new) (item_at (source_of die.now) (left_of lines.old)) }
+fn read_source(lines: &mut Cursor<'_>, die: &Die) -> Result<Source, ReadStop>
+    ensures read { Gives (λ x. x) result (left_of lines.new) (item_at (source_of die.now) (left_of lines.old)) }
+    ensures sound { IfOk result (λ x. source_fault die.now x.x x.y x.r ≡ None) }
+    ensures text { lines.new.text ≡ lines.old.text }
 {
     let (number, line) = next_line(lines)?;
     at_line(number, source_of(die, line))
 }
 
 #[tactic(auto, unfolding(crate::specs::Grammar::item_at))]
-fn read_wire(lines: &mut Lines<'_>) -> Result<Wire, ReadStop>
-    ensures { Gives (λ x. x) result (left_of lines.new) (item_at wire_of (left_of lines.old)) }
+fn read_wire(lines: &mut Cursor<'_>) -> Result<Wire, ReadStop>
+    ensures read { Gives (λ x. x) result (left_of lines.new) (item_at wire_of (left_of lines.old)) }
+    ensures sound { IfOk result (λ x. wire_fault x ≡ None) }
+    ensures text { lines.new.text ≡ lines.old.text }
 {
     let (number, line) = next_line(lines)?;
     at_line(number, wire_of(line))
 }
 
 #[tactic(auto, unfolding(crate::specs::Grammar::item_at))]
-fn read_limits(lines: &mut Lines<'_>) -> Result<Limits, ReadStop>
-    ensures { Gives (λ x. x) result (left_of lines.new) (item_at limits_of (left_of lines.old)) }
+fn read_limits(lines: &mut Cursor<'_>) -> Result<Limits, ReadStop>
+    ensures read { Gives (λ x. x) result (left_of lines.new) (item_at limits_of (left_of lines.old)) }
+    ensures sound { IfOk result (λ x. limits_fault x.insert_at x.load x.slew ≡ None) }
+    ensures text { lines.new.text ≡ lines.old.text }
 {
     let (number, line) = next_line(lines)?;
     at_line(number, limits_of(line))
 }
 
 #[tactic(auto, unfolding(crate::specs::Grammar::item_at))]
-fn read_buffer_count(lines: &mut Lines<'_>) -> Result<usize, ReadStop>
+fn read_buffer_count(lines: &mut Cursor<'_>) -> Result<usize, ReadStop>
     ensures read { Gives (λ x. x) result (left_of lines.new) (item_at buffer_count_of (left_of lines.old)) }
+    ensures sound { IfOk result (λ count. buffer_count_fault count ≡ None) }
     ensures bound { IfOk result (λ count. count < 2 ^ 32) }
+    ensures text { lines.new.text ≡ lines.old.text }
 {
     let (number, line) = next_line(lines)?;
     at_line(number, buffer_count_of(line))
 }
 
 #[tactic(auto, unfolding(crate::specs::Grammar::item_at))]
-fn read_sink_count(lines: &mut Lines<'_>) -> Result<usize, ReadStop>
+fn read_sink_count(lines: &mut Cursor<'_>) -> Result<usize, ReadStop>
     ensures read { Gives (λ x. x) result (left_of lines.new) (item_at sink_count_of (left_of lines.old)) }
+    ensures sound { IfOk result (λ count. sink_count_fault count ≡ None) }
     ensures bound { IfOk result (λ count. count < 2 ^ 32) }
+    ensures text { lines.new.text ≡ lines.old.text }
 {
     let (number, line) = next_line(lines)?;
     at_line(number, sink_count_of(line))
 }
 
 #[tactic(auto, unfolding(crate::specs::Grammar::item_at))]
-fn read_block_count(lines: &mut Lines<'_>) -> Result<usize, ReadStop>
+fn read_block_count(lines: &mut Cursor<'_>) -> Result<usize, ReadStop>
     ensures read { Gives (λ x. x) result (left_of lines.new) (item_at block_count_of (left_of lines.old)) }
+    ensures sound { IfOk result (λ count. block_count_fault count ≡ None) }
     ensures bound { IfOk result (λ count. count < 2 ^ 32) }
+    ensures text { lines.new.text ≡ lines.old.text }
 {
     let (number, line) = next_line(lines)?;
     at_line(number, block_count_of(line))
@@ -96,8 +111,9 @@ fn read_block_count(lines: &mut Lines<'_>) -> Result<usize, ReadStop>
 
 /// The line `end`, and its number.
 #[tactic(auto, unfolding(crate::specs::Whole::end_at))]
-fn read_end(lines: &mut Lines<'_>) -> Result<u32, ReadStop>
-    ensures { Gives (λ x. x) result (left_of lines.new) (end_at (left_of lines.old)) }
+fn read_end(lines: &mut Cursor<'_>) -> Result<u32, ReadStop>
+    ensures read { Gives (λ x. x) result (left_of lines.new) (end_at (left_of lines.old)) }
+    ensures text { lines.new.text ≡ lines.old.text }
 {
     let (number, line) = next_line(lines)?;
     at_line(number, end_of(line))?;
@@ -106,8 +122,10 @@ fn read_end(lines: &mut Lines<'_>) -> Result<u32, ReadStop>
 
 /// The lines before the lists.
 #[tactic(auto, unfolding(crate::specs::Whole::head_at))]
-fn read_head(lines: &mut Lines<'_>) -> Result<Head, ReadStop>
-    ensures { Gives (λ x. x) result (left_of lines.new) (head_at (left_of lines.old)) }
+fn read_head(lines: &mut Cursor<'_>) -> Result<Head, ReadStop>
+    ensures read { Gives (λ x. x) result (left_of lines.new) (head_at (left_of lines.old)) }
+    ensures sound { IfOk result IsSoundHead }
+    ensures text { lines.new.text ≡ lines.old.text }
 {
     read_version(lines)?;
     let die = read_die(lines)?;
@@ -123,6 +141,7 @@ fn read_head(lines: &mut Lines<'_>) -> Result<Head, ReadStop>
 }
 
 /// The lists.
+#[derive(Drop)]
 struct Lists {
     buffers: Library,
     sinks: Sinks,
@@ -131,8 +150,10 @@ struct Lists {
 
 /// The lists, after what comes before them.
 #[tactic(auto, unfolding(crate::specs::Whole::lists_at))]
-fn read_lists(alloc: Global, lines: &mut Lines<'_>, head: &Head) -> Result<Lists, ReadStop>
-    ensures { Gives (λ x. x) result (left_of lines.new) (lists_at head.now (left_of lines.old)) }
+fn read_lists(alloc: Global, lines: &mut Cursor<'_>, head: &Head) -> Result<Lists, ReadStop>
+    ensures read { Gives (λ x. x) result (left_of lines.new) (lists_at head.now (left_of lines.old)) }
+    ensures sound { IfOk result (IsSoundLists head.now) }
+    ensures text { lines.new.text ≡ lines.old.text }
 {
     let buffer_count = read_buffer_count(lines)?;
     let buffers = read_buffers(alloc, lines, buffer_count)?;
@@ -144,5 +165,40 @@ fn read_lists(alloc: Global, lines: &mut Lines<'_>, head: &Head) -> Result<Lists
         buffers: Library::of(buffers),
         sinks: Sinks::of(sinks),
         blocks: Blocks::of(blocks),
+    })
+}
+
+/// An instance that was read.
+#[derive(Drop)]
+pub struct Taken {
+    /// The instance.
+    pub instance: Instance,
+    /// How many bytes it takes, the end of its last line included.
+    pub used: usize,
+    /// The number of its last line.
+    pub lines: u32,
+}
+
+/// The instance of these lines.
+#[tactic(auto, unfolding(cts_instance::specs::FirstFault::first_fault))]
+fn assembled(head: Head, lists: Lists) -> Instance
+    requires head { IsSoundHead head }
+    requires lists { IsSoundLists head lists }
+    ensures { result ≡ parts_of head lists }
+{
+    Instance::of(Parts {
+        die: head.die,
+        source_x: head.source.x,
+        source_y: head.source.y,
+        source_r: head.source.r,
+        params: Params {
+            wire: head.wire,
+            library: lists.buffers,
+            insert_at: head.limits.insert_at,
+        },
+        load_limit: head.limits.load,
+        slew_limit: head.limits.slew,
+        sinks: lists.sinks,
+        blocks: lists.blocks,
     })
 }
