@@ -1,15 +1,17 @@
 -- Lines that are skipped, and the next one that is not.
-use Rattle.std.proofs.Common.{◌≡◌, ℕ, ◌+◌, Bool, true, false, List, [], ◌∷◌, length, Ok, refl, sym, ap, ◌∙◌, arith, cond}
+use Rattle.std.proofs.Common.{◌≡◌, ℕ, ◌+◌, Bool, true, false, List, [], ◌∷◌, length, Ok, Err, refl, sym, ap, ◌∙◌, arith, cond}
 use Rattle.cts_io.specs.Lines.{lines_of}
 use Rattle.cts_read.specs.Place.{Place}
-use Rattle.cts_read.specs.Lines.{is_skipped}
+use Rattle.cts_read.specs.Lines.{is_skipped, is_printable}
+use Rattle.cts_read.specs.declared.stop.Cause.TheVariants.{NotAscii, Word}
+use Rattle.cts_read.specs.Whole.{rest_of}
 use Rattle.cts_read.specs.Grammar.{Left, content, left_of, line_at, first_line}
 
-content_skip : (n : ℕ) (l : List ℕ) (ls : List (List ℕ)) → is_skipped l ≡ true → content n (l ∷ ls) ≡ content (n + 1) ls
+pub content_skip : (n : ℕ) (l : List ℕ) (ls : List (List ℕ)) → is_skipped l ≡ true → content n (l ∷ ls) ≡ content (n + 1) ls
 unfolding content
 content_skip n l ls h = rw h refl
 
-content_keep : (n : ℕ) (l : List ℕ) (ls : List (List ℕ)) → is_skipped l ≡ false → content n (l ∷ ls) ≡ (n + 1, l) ∷ content (n + 1) ls
+pub content_keep : (n : ℕ) (l : List ℕ) (ls : List (List ℕ)) → is_skipped l ≡ false → content n (l ∷ ls) ≡ (n + 1, l) ∷ content (n + 1) ls
 unfolding content
 content_keep n l ls h = rw h refl
 
@@ -45,3 +47,13 @@ left_none s e = rw e refl
 pub missing_none : (s : Place) → lines_of s.rest ≡ [] → (left_of s).missing ≡ s.line + 1
 unfolding left_of
 missing_none s e = omega (arith, ap length e)
+
+-- what is left begins with a line that may not follow
+pub rest_refused : (n : ℕ) (l : List ℕ) (ls : List (List ℕ)) (printable : Bool) → is_skipped l ≡ false → is_printable l ≡ printable
+    → rest_of (content n (l ∷ ls)) ≡ Err (n + 1, cond printable Word NotAscii)
+unfolding rest_of
+rest_refused n l ls printable h p = ap rest_of (content_keep n l ls h) ∙ rw p refl
+
+pub rest_none : (n : ℕ) → rest_of (content n []) ≡ Ok tt
+unfolding rest_of content
+rest_none n = refl

@@ -15,7 +15,8 @@ buffer_count_small n e = let h = unless_none _ _ _ e in let t : nat_le n 16 ≡ 
 pub sink_count_small : (n : ℕ) → sink_count_fault n ≡ None → n < 2 ^ 32
 unfolding sink_count_fault
 sink_count_small n e =
-    let h = unless_none _ _ _ e in let k = unless_none _ _ _ h.1 in let t : nat_le n 65536 ≡ true = k.0 in grind (arith, nat_tests)
+    let t : nat_le n 65536 ≡ true = (unless_none _ _ _ (unless_none _ _ _ e).1).0 in
+    grind (arith, nat_tests)
 
 pub block_count_small : (n : ℕ) → block_count_fault n ≡ None → n < 2 ^ 32
 unfolding block_count_fault

@@ -1,5 +1,5 @@
 -- A whole instance, line by line, and what may follow it.
-use Rattle.std.specs.Prelude.{◌≡◌, ℕ, List, [], ◌∷◌, if◌then◌else◌, None, Result, Ok, Err}
+use Rattle.std.specs.Prelude.{◌≡◌, ℕ, List, [], ◌∷◌, drop, if◌then◌else◌, None, Result, Ok, Err}
 use Rattle.cts_geom.specs.declared.bounds.Die.{Die}
 use Rattle.cts_units.specs.declared.params.Sink.{Sink}
 use Rattle.cts_units.specs.declared.params.Buffer.{Buffer}
@@ -9,8 +9,11 @@ use Rattle.cts_instance.specs.FirstFault.{die_fault, source_fault, wire_fault, l
 use Rattle.cts_read.specs.declared.read.Head.{Head}
 use Rattle.cts_read.specs.declared.read.Lists.{Lists}
 use Rattle.cts_read.specs.declared.stop.Cause.TheVariants.{NotAscii, Word}
+use Rattle.cts_read.specs.declared.stop.ReadStop.{ReadStop}
+use Rattle.cts_read.specs.declared.stop.ReadStop.TheVariants.{Refused, NoMemory}
+use Rattle.cts_read.specs.Place.{Place}
 use Rattle.cts_read.specs.Lines.{is_printable}
-use Rattle.cts_read.specs.Grammar.{◌>>=◌, Left, Refusal, at_line, item_at, line_at}
+use Rattle.cts_read.specs.Grammar.{◌>>=◌, Left, Refusal, at_line, item_at, left_of, line_at}
 use Rattle.cts_read.specs.Header.{die_of, limits_of, source_of, version_of, wire_of}
 use Rattle.cts_read.specs.Items.{block_count_of, block_of, buffer_count_of, buffer_of, end_of, list_at, sink_count_of, sink_of}
 
@@ -81,3 +84,17 @@ instance_at left = do
 unfoldable pub rest_of : List (ℕ × List ℕ) → Result Unit Refusal
 rest_of [] = Ok tt
 rest_of (next ∷ others) = Err (next.0, if is_printable next.1 then Word else NotAscii)
+
+-- the place after so many bytes of a text, and so many lines
+abbrev pub place_at : List ℕ → ℕ → ℕ → Place
+place_at text used line = record { text = text; rest = drop used text; line = line }
+
+-- the instance at the front of a text
+unfoldable pub instance_of : List ℕ → Result ((Parts × ℕ) × Left) Refusal
+instance_of text = instance_at (left_of (record { text = text; rest = text; line = 0 }))
+
+-- what was answered is what the lines left say; memory can't run out
+abbrev pub Rests : Result Unit ReadStop → Result Unit Refusal → Type 0
+Rests (Ok _) read = read ≡ Ok tt
+Rests (Err (Refused line cause)) read = read ≡ Err (line, cause)
+Rests (Err NoMemory) read = ⊥

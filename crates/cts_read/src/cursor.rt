@@ -1,6 +1,6 @@
 //! A cursor over the lines that are not skipped.
 
-ghost use Rattle.std.specs.Prelude.{◌≡◌, ◌+◌, ◌-◌, ◌^◌, ◌<◌, ◌≤◌, ◌↔◌, [], ◌∷◌, length, drop, MatchOption, IsNone, IfNone, IfSome, Ok};
+ghost use Rattle.std.specs.Prelude.{◌≡◌, ◌+◌, ◌-◌, ◌^◌, ◌<◌, ◌≤◌, ◌↔◌, [], ◌∷◌, length, drop, MatchOption, IsNone, IfNone, IfSome, IfOk, Ok};
 ghost use Rattle.cts_io.specs.Lines.{lines_of};
 ghost use Rattle.cts_read.specs.Grammar.{Gives, left_of, line_at};
 
@@ -10,6 +10,7 @@ use cts_io::Lines;
 use std::marker::Model;
 
 /// A cursor over the lines of a text.
+#[derive(Drop)]
 pub struct Cursor<'a> {
     text: &'a [u8],
     lines: Lines<'a>,
@@ -77,6 +78,7 @@ fn content_line<'a>(lines: &mut Cursor<'a>) -> Option<(u32, &'a [u8])>
         ((left_of lines.old).lines ≡ [])
         (λ next. line_at (left_of lines.old) ≡ Ok ((next.0, next.1.now), left_of lines.new)) }
     ensures end { IfNone result ((left_of lines.old).missing ≡ lines.new.line + 1) }
+    ensures number { IfSome result (λ next. lines.new.line ≡ next.0) }
     ensures text { lines.new.text ≡ lines.old.text }
 {
     while let Some((number, line)) = lines.next() {
@@ -91,6 +93,7 @@ fn content_line<'a>(lines: &mut Cursor<'a>) -> Option<(u32, &'a [u8])>
 #[tactic(auto, unfolding(crate::specs::Grammar::line_at))]
 pub fn next_line<'a>(lines: &mut Cursor<'a>) -> Result<(u32, &'a [u8]), ReadStop>
     ensures read { Gives (λ next. (next.0, next.1.now)) result (left_of lines.new) (line_at (left_of lines.old)) }
+    ensures number { IfOk result (λ next. lines.new.line ≡ next.0) }
     ensures text { lines.new.text ≡ lines.old.text }
 {
     match content_line(lines) {

@@ -1,20 +1,22 @@
 //! A whole instance, and what may follow it.
 
-ghost use Rattle.std.specs.Prelude.{◌≡◌, ◌<◌, ◌≤◌, ◌^◌, None, Ok, IfOk, length, drop, MatchResult};
+ghost use Rattle.std.specs.Prelude.{◌≡◌, ◌<◌, ◌≤◌, ◌^◌, None, Ok, IfOk, IfErr, length, drop};
 ghost use Rattle.cts_io.specs.Lines.{lines_of};
 ghost use Rattle.cts_instance.specs.FirstFault.{block_count_fault, buffer_count_fault, die_fault, first_fault, limits_fault, sink_count_fault, source_fault, wire_fault};
-ghost use Rattle.cts_read.specs.Grammar.{Gives, Refuses, item_at, left_of};
+ghost use Rattle.cts_read.specs.Grammar.{Gives, Refuses, content, item_at, left_of};
 ghost use Rattle.cts_read.specs.Header.{die_of, limits_of, source_of, version_of, wire_of};
 ghost use Rattle.cts_read.specs.Items.{block_count_of, buffer_count_of, sink_count_of};
-ghost use Rattle.cts_read.specs.Whole.{IsSoundHead, IsSoundLists, end_at, head_at, instance_at, lists_at, parts_of, rest_of};
+ghost use Rattle.cts_read.specs.Whole.{IsSoundHead, IsSoundLists, Rests, end_at, head_at, instance_of, lists_at, parts_of, place_at, rest_of};
 
 use crate::cursor::{Cursor, next_line};
 use crate::header::{Limits, Source, die_of, limits_of, source_of, version_of, wire_of};
 use crate::items::{block_count_of, buffer_count_of, end_of, sink_count_of};
 use crate::lists::{at_line, read_blocks, read_buffers, read_sinks};
 use crate::stop::{Cause, ReadStop};
+use crate::words::{is_printable, is_skipped};
 use cts_geom::Die;
 use cts_instance::{Blocks, Instance, Parts, Sinks};
+use cts_io::Lines;
 use cts_units::{Library, Params, Wire};
 use std::alloc::Global;
 
@@ -113,6 +115,7 @@ fn read_block_count(lines: &mut Cursor<'_>) -> Result<usize, ReadStop>
 #[tactic(auto, unfolding(crate::specs::Whole::end_at))]
 fn read_end(lines: &mut Cursor<'_>) -> Result<u32, ReadStop>
     ensures read { Gives (λ x. x) result (left_of lines.new) (end_at (left_of lines.old)) }
+    ensures number { IfOk result (λ number. lines.new.line ≡ number) }
     ensures text { lines.new.text ≡ lines.old.text }
 {
     let (number, line) = next_line(lines)?;
@@ -201,4 +204,60 @@ fn assembled(head: Head, lists: Lists) -> Instance
         sinks: lists.sinks,
         blocks: lists.blocks,
     })
+}
+
+/// Reads the instance at the front of a text of at most 67,108,864 bytes.
+///
+/// - `Ok`: exactly where the lines of the text begin with those of an instance, each line that is
+///   not skipped against the next line of the grammar.
+/// - `Refused`: exactly the first line that offends, with its first cause.
+/// - `NoMemory`: an allocation failed.
+#[tactic(auto, unfolding(crate::specs::Whole::instance_of, crate::specs::Whole::instance_at))]
+pub fn read_instance(alloc: Global, bytes: &[u8]) -> Result<Taken, ReadStop>
+    requires { length bytes.now ≤ 67108864 }
+    ensures read { IfOk result (λ taken. instance_of bytes.now
+        ≡ Ok ((taken.instance, taken.lines), left_of (place_at bytes.now taken.used taken.lines))) }
+    ensures refused { IfErr result (λ stop. Refuses stop (instance_of bytes.now)) }
+
+    ensures within { IfOk result (λ taken. taken.used ≤ length bytes.now) }
+    ensures used { IfOk result (λ taken. lines_of (drop taken.used bytes.now) ≡ drop taken.lines (lines_of bytes.now)) }
+{
+    let mut lines = Cursor::new(bytes);
+    let head = read_head(&mut lines)?;
+    let lists = read_lists(alloc, &mut lines, &head)?;
+    let end = read_end(&mut lines)?;
+    let used = lines.used();
+    Ok(Taken {
+        instance: assembled(head, lists),
+        used,
+        lines: end,
+    })
+}
+
+/// Whether nothing but lines that are skipped is left after `lines` lines of an input. It takes no
+/// memory.
+///
+/// - `Ok`: exactly where only skipped lines are left.
+/// - `Refused`: the first other line, with `NotAscii` where it holds a byte that it can't, else with
+///   `Word`.
+pub fn read_rest(bytes: &[u8], lines: u32) -> Result<(), ReadStop>
+    requires bytes { length bytes.now ≤ 67108864 }
+    requires lines { lines ≤ 67108864 }
+    ensures { Rests result (rest_of (content lines (lines_of bytes.now))) }
+{
+    let mut left = Lines::new(bytes, lines);
+    while let Some((number, line)) = left.next() {
+        if !is_skipped(line) {
+            let cause = if is_printable(line) {
+                Cause::Word
+            } else {
+                Cause::NotAscii
+            };
+            return Err(ReadStop::Refused {
+                line: number,
+                cause,
+            });
+        }
+    }
+    Ok(())
 }
