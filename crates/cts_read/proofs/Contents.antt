@@ -23,9 +23,9 @@ pub left_skip : (s t : Place) (l : List ℕ) → lines_of s.rest ≡ l ∷ lines
 unfolding left_of
 left_skip s t l e n h =
     let lines : content t.line (lines_of t.rest) ≡ content s.line (lines_of s.rest) =
-      ap (λ k. content k (lines_of t.rest)) n ∙ sym (ap (content s.line) e ∙ content_skip s.line l (lines_of t.rest) h) in
+    ap (λ k. content k (lines_of t.rest)) n ∙ sym (ap (content s.line) e ∙ content_skip s.line l (lines_of t.rest) h) in
     let missing : t.line + length (lines_of t.rest) + 1 ≡ s.line + length (lines_of s.rest) + 1 =
-      omega (arith, ap length e) in
+    omega (arith, ap length e) in
     cc
 
 -- a line that is not is the next
@@ -34,9 +34,9 @@ pub left_next : (s t : Place) (l : List ℕ) → lines_of s.rest ≡ l ∷ lines
 unfolding left_of line_at
 left_next s t l e n h =
     let lines : content s.line (lines_of s.rest) ≡ (s.line + 1, l) ∷ content (s.line + 1) (lines_of t.rest) =
-      ap (content s.line) e ∙ content_keep s.line l (lines_of t.rest) h in
+    ap (content s.line) e ∙ content_keep s.line l (lines_of t.rest) h in
     let missing : s.line + length (lines_of s.rest) + 1 ≡ s.line + 1 + length (lines_of t.rest) + 1 =
-      omega (arith, ap length e) in
+    omega (arith, ap length e) in
     rw (lines, missing, n) refl
 
 -- no line is left

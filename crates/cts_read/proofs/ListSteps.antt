@@ -13,7 +13,6 @@ one_fewer : (count k : ℕ) → k < count → count - k ≡ suc (count - (k + 1)
 one_fewer count k h = omega arith
 
 module _ {A : Type 0} (read : List A → List ℕ → Result A Cause) where
-
   -- the next line is the next item
   pub list_step : (count k : ℕ) (before : List A) (left : Left) (item : A) (after : Left) → k < count → item_at (read before) left ≡ Ok (item, after)
       → list_at read (count - (k + 1)) (before ++ item ∷ []) after ≡ list_at read (count - k) before left

@@ -28,7 +28,7 @@ place_after text rest line l end rest' line' p e first next =
     record {
       within = omega (arith, p.within);
       rest = drop_front text (l ++ end) rest' (length text - length rest) (length text - length rest') (p.rest ∙ e)
-        (further (length text) (length rest) (length (l ++ end)) (length rest') p.within parts);
+          (further (length text) (length rest) (length (l ++ end)) (length rest') p.within parts);
       lines = sym (drop_front (lines_of text) (l ∷ []) (lines_of rest') line line' (sym p.lines ∙ first) next);
     }
 

@@ -3,9 +3,9 @@ use Rattle.std.specs.Prelude.{◌≡◌, ℕ, ◌-◌, ◌≤◌, List, length, 
 use Rattle.cts_io.specs.Lines.{lines_of}
 
 pub record Place : Type 0 where
-  pub text : List ℕ    -- the whole text
-  pub rest : List ℕ    -- the bytes of the lines that are left
-  pub line : ℕ         -- how many lines came before them
+  pub text : List ℕ  -- the whole text
+  pub rest : List ℕ  -- the bytes of the lines that are left
+  pub line : ℕ  -- how many lines came before them
 
 -- the rest is the end of the text, and its lines are the last lines of the text
 pub record IsPlace (place : Place) : Type 0 where

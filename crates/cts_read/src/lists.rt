@@ -72,14 +72,17 @@ fn read_block(
     requires { counts.buffer + counts.all < 2 ^ 32 }
     ensures read { (before : List Block) → counts ≡ counts_of before
         → Gives (λ x. x) result (left_of lines.new)
-            (item_at (block_of die.now source.now.x source.now.y sinks.now before) (left_of lines.old)) }
+        (item_at (block_of die.now source.now.x source.now.y sinks.now before) (left_of lines.old)) }
     ensures sound { (before : List Block) → counts ≡ counts_of before
         → IfOk result (λ block. block_line die.now source.now.x source.now.y sinks.now before block ≡ None) }
     ensures text { lines.new.text ≡ lines.old.text }
 {
     let (number, line) = next_line(lines)?;
     let block = at_line(number, block_numbers(line))?;
-    at_line(number, refuse(block_fault(die, source.x, source.y, sinks, counts, &block)))?;
+    at_line(
+        number,
+        refuse(block_fault(die, source.x, source.y, sinks, counts, &block)),
+    )?;
     Ok(block)
 }
 

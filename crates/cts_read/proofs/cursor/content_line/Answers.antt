@@ -9,7 +9,7 @@ returns-then-not-is_skipped-clause-next c =
     rw (← c.in-Some.ensures.after)
     (ap line_at (sym c.loop-number.invariant.left)
     ∙ left_next c.loop-number.lines c.next.new.self c.in-Some.line.now c.in-Some.ensures.first
-      (c.in-Some.ensures.after ∙ c.in-Some.ensures.number) (sym c.is_skipped.ensures ∙ c.if-not-is_skipped.true))
+    (c.in-Some.ensures.after ∙ c.in-Some.ensures.number) (sym c.is_skipped.ensures ∙ c.if-not-is_skipped.true))
 
 pub returns-then-not-is_skipped-clause-text : goal.returns-then-not-is_skipped-clause-text
 returns-then-not-is_skipped-clause-text c = c.in-Some.ensures.text ∙ c.loop-number.invariant.text
@@ -18,7 +18,7 @@ pub loop-number-preserved : goal.loop-number-preserved
 loop-number-preserved c = record {
   left = left_skip c.loop-number.lines c.next.new.self c.in-Some.line.now c.in-Some.ensures.first
       (c.in-Some.ensures.after ∙ c.in-Some.ensures.number) (sym c.is_skipped.ensures ∙ c.if-not-is_skipped.false)
-    ∙ c.loop-number.invariant.left;
+      ∙ c.loop-number.invariant.left;
   text = c.in-Some.ensures.text ∙ c.loop-number.invariant.text;
 }
 

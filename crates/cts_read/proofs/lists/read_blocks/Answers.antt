@@ -15,14 +15,14 @@ returns-in_err-block-clause-read c =
     rw (p.1, p.2)
     (rw (← c.loop.invariant.so_far)
     (list_refused (block_of c.args.die.now c.args.source.now.x c.args.source.now.y c.args.sinks.now) _ _ _ c.loop.blocks.items (left_of c.loop.lines) (omega arith)
-      (c.in_err-block.ensures.read c.loop.blocks.items c.loop.invariant.counts)))
+    (c.in_err-block.ensures.read c.loop.blocks.items c.loop.invariant.counts)))
 
 pub loop-preserved : goal.loop-preserved
 loop-preserved c = record {
   so_far = rw c.in_ok-push.ensures.items
-    (list_step (block_of c.args.die.now c.args.source.now.x c.args.source.now.y c.args.sinks.now) _ _ c.loop.blocks.items (left_of c.loop.lines) c.in_ok-block.block _ (omega arith)
+      (list_step (block_of c.args.die.now c.args.source.now.x c.args.source.now.y c.args.sinks.now) _ _ c.loop.blocks.items (left_of c.loop.lines) c.in_ok-block.block _ (omega arith)
       (c.in_ok-block.ensures.read c.loop.blocks.items c.loop.invariant.counts)
-    ∙ c.loop.invariant.so_far);
+      ∙ c.loop.invariant.so_far);
   counts = rw (c.with-counts.ensures, c.loop.invariant.counts, c.in_ok-push.ensures.items, counts_of-push) refl;
   many = rw (c.in_ok-push.ensures.items, length-append) (ap (λ n. n + 1) c.loop.invariant.many);
   total = rw c.with-counts.ensures (counts_with-total c.loop.counts c.in_ok-block.block.kind ∙ ap (λ n. n + 1) c.loop.invariant.total);

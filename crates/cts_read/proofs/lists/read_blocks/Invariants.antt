@@ -9,7 +9,7 @@ use Rattle.cts_read.proofs.lists.read_blocks.Given as goal
 abbrev pub invariant-loop : goal.invariant-loop
 invariant-loop l = record {
   so_far : list_at (block_of l.die l.source.x l.source.y l.sinks) (l.count - l.counter) l.blocks.items (left_of l.lines)
-    ≡ list_at (block_of l.die l.source.x l.source.y l.sinks) l.count [] (left_of l.fn.lines);
+      ≡ list_at (block_of l.die l.source.x l.source.y l.sinks) l.count [] (left_of l.fn.lines);
   counts : l.counts ≡ counts_of l.blocks.items;
   many : length l.blocks.items ≡ l.counter;
   total : l.counts.buffer + l.counts.all ≡ l.counter;

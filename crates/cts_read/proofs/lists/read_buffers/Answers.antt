@@ -17,8 +17,8 @@ returns-in_err-buffer-clause-read c =
 pub loop-preserved : goal.loop-preserved
 loop-preserved c = record {
   so_far = rw c.in_ok-push.ensures.items
-    (list_step buffer_of _ _ c.loop.buffers.items (left_of c.loop.lines) c.in_ok-buffer.buffer _ (omega arith) (rw c.deref.ensures.value at c.in_ok-buffer.ensures.read)
-    ∙ c.loop.invariant.so_far);
+      (list_step buffer_of _ _ c.loop.buffers.items (left_of c.loop.lines) c.in_ok-buffer.buffer _ (omega arith) (rw c.deref.ensures.value at c.in_ok-buffer.ensures.read)
+      ∙ c.loop.invariant.so_far);
   many = rw (c.in_ok-push.ensures.items, length-append) (ap (λ n. n + 1) c.loop.invariant.many);
   sound = rw c.in_ok-push.ensures.items (sound_push buffer_line c.loop.buffers.items c.in_ok-buffer.buffer c.loop.invariant.sound (rw c.deref.ensures.value at c.in_ok-buffer.ensures.sound));
   text = c.in_ok-buffer.ensures.text ∙ c.loop.invariant.text;

@@ -14,14 +14,14 @@ returns-in_err-sink-clause-read c =
     rw (p.1, p.2)
     (rw (← c.loop.invariant.so_far)
     (list_refused (sink_of c.args.die.now) _ _ _ c.loop.sinks.items (left_of c.loop.lines) (omega arith)
-      (c.in_err-sink.ensures.read c.loop.sinks.items c.loop.invariant.ids)))
+    (c.in_err-sink.ensures.read c.loop.sinks.items c.loop.invariant.ids)))
 
 pub loop-preserved : goal.loop-preserved
 loop-preserved c = record {
   so_far = rw c.in_ok-push.ensures.items
-    (list_step (sink_of c.args.die.now) _ _ c.loop.sinks.items (left_of c.loop.lines) c.in_ok-sink.sink _ (omega arith)
+      (list_step (sink_of c.args.die.now) _ _ c.loop.sinks.items (left_of c.loop.lines) c.in_ok-sink.sink _ (omega arith)
       (c.in_ok-sink.ensures.read c.loop.sinks.items c.loop.invariant.ids)
-    ∙ c.loop.invariant.so_far);
+      ∙ c.loop.invariant.so_far);
   ids = rw (c.in_ok-push.ensures.items, map-append, c.in_ok-sink.ensures.added, c.loop.invariant.ids) refl;
   many = rw (c.in_ok-push.ensures.items, length-append) (ap (λ n. n + 1) c.loop.invariant.many);
   sound = rw c.in_ok-push.ensures.items (sound_push (sink_line c.args.die.now) c.loop.sinks.items c.in_ok-sink.sink c.loop.invariant.sound (c.in_ok-sink.ensures.sound c.loop.sinks.items c.loop.invariant.ids));

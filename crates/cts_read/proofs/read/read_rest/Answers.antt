@@ -21,7 +21,7 @@ pub loop-number-preserved : goal.loop-number-preserved
 loop-number-preserved c =
     ap (λ n. content n (lines_of c.next.new.self.rest)) (c.in-Some.ensures.after ∙ c.in-Some.ensures.number)
     ∙ sym (ap (content c.loop-number.left.line) c.in-Some.ensures.first
-      ∙ content_skip c.loop-number.left.line c.in-Some.line.now (lines_of c.next.new.self.rest) (sym c.is_skipped.ensures ∙ c.if-not-is_skipped.false))
+    ∙ content_skip c.loop-number.left.line c.in-Some.line.now (lines_of c.next.new.self.rest) (sym c.is_skipped.ensures ∙ c.if-not-is_skipped.false))
     ∙ c.loop-number.invariant
 
 pub returns : goal.returns
