@@ -1,3 +1,4 @@
 pub mod IntervalLemmas
+pub mod MeetLemmas
 pub mod PointLemmas
 pub mod RegionLemmas

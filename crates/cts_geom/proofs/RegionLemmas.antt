@@ -233,10 +233,10 @@ nearest_one region to p = (
   λ e. let IsTheNearest : Spot → Type 0 = λ s. IsNearest region to s in subst IsTheNearest (sym e) (nearest_of-nearest region to),
 )
 
-low_corner-inside : (region : Region) → ContainsSpot region (record { u = region.u1; v = region.v1 })
+pub low_corner-inside : (region : Region) → ContainsSpot region (record { u = region.u1; v = region.v1 })
 low_corner-inside region = record { u_low = omega (arith, ints); u_high = region.u_ordered; v_low = omega (arith, ints); v_high = region.v_ordered }
 
-high_corner-inside : (region : Region) → ContainsSpot region (record { u = region.u2; v = region.v2 })
+pub high_corner-inside : (region : Region) → ContainsSpot region (record { u = region.u2; v = region.v2 })
 high_corner-inside region = record { u_low = region.u_ordered; u_high = omega (arith, ints); v_low = region.v_ordered; v_high = omega (arith, ints) }
 
 -- a region is its four numbers, since two proofs of an order are equal

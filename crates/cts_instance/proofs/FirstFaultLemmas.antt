@@ -1,9 +1,16 @@
 -- The first fault of a list of lines, and the lines one at a time.
-use Rattle.std.proofs.Common.{◌≡◌, ℕ, ◌+◌, ◌<◌, ◌≤◌, List, [], ◌∷◌, ◌++◌, length, get_or, take, drop, Option, None, Some, refl, sym, ap, ◌∙◌, append_assoc}
+use Rattle.std.proofs.Common.{◌≡◌, ℕ, ◌+◌, ◌<◌, ◌≤◌, List, [], ◌∷◌, ◌++◌, length, get_or, take, drop, Option, None, Some, refl, sym, ◌∙◌, append_assoc}
 use Rattle.std.proofs.lemmas.List.{append-nil, take_more, drop_more, drop_all}
 use Rattle.std.specs.Option.{option_or}
 use Rattle.cts_instance.specs.declared.fault.Fault.{Fault}
-use Rattle.cts_instance.specs.FirstFault.{first_of}
+use Rattle.cts_instance.specs.FirstFault.{◌or◌, first_of}
+
+-- where the first line has no fault, the later lines decide; where it has one, that is the answer
+pub or-later : (first later : Option Fault) → first ≡ None → (first or later) ≡ later
+or-later first later none = rw none refl
+
+pub or-first : (first later : Option Fault) (fault : Fault) → first ≡ Some fault → (first or later) ≡ Some fault
+or-first first later fault some = rw some refl
 
 -- the first of three
 pub or_assoc : (a b c : Option Fault) → option_or a (option_or b c) ≡ option_or (option_or a b) c

@@ -1,5 +1,5 @@
 -- The lines of a list, each with what the lines before it say of it.
-use Rattle.std.proofs.Common.{◌≡◌, ℕ, ◌+◌, ◌≤◌, ◌<◌, ℤ, List, [], ◌∷◌, ◌++◌, length, get_or, map, take, Option, refl, ap, ◌∙◌}
+use Rattle.std.proofs.Common.{◌≡◌, ℕ, ◌+◌, ◌≤◌, ◌<◌, ℤ, List, [], ◌∷◌, ◌++◌, length, get_or, map, take, refl, ap, ◌∙◌}
 use Rattle.std.proofs.lemmas.List.{length-take-le, take_more, map-append}
 use Rattle.cts_geom.specs.declared.bounds.Die.{Die}
 use Rattle.cts_units.specs.declared.params.Buffer.{Buffer}

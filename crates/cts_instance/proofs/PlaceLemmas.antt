@@ -1,13 +1,13 @@
 -- The places of valid parts, in the geometry and among the blocks.
-use Rattle.std.proofs.Common.{◌≡◌, ◌^◌, ◌≤◌, ℤ, pos, neg_ℤ, ◌*ℤ◌, ◌≤ℤ◌, ◌<ℤ◌, All, arith}
+use Rattle.std.proofs.Common.{◌^◌, ℤ, pos, ◌*ℤ◌, ◌≤ℤ◌, ◌<ℤ◌, arith}
 use Rattle.std.proofs.lemmas.Int.{ints}
 use Rattle.cts_geom.specs.declared.bounds.Die.{Die}
 use Rattle.cts_geom.specs.Coordinate.{IsCoordinate}
 use Rattle.cts_block.specs.declared.blocks.Block.{Block}
-use Rattle.cts_block.specs.FreePoints.{StopsWires, IsInDie as IsHalfInDie, IsInside as IsHalfInside, IsFreeForWire}
+use Rattle.cts_block.specs.FreePoints.{IsInDie as IsHalfInDie, IsInside as IsHalfInside}
 use Rattle.cts_instance.specs.declared.parts.Parts.{Parts}
 use Rattle.cts_instance.specs.Places.{IsInDie, IsInside}
-use Rattle.cts_instance.specs.Validity.{IsDie, IsValid}
+use Rattle.cts_instance.specs.Validity.{IsValid}
 use Rattle.cts_instance.specs.Laws.{half_at, HasCoordinates, HasFreePlaces}
 
 coordinate : (low z high : ℤ) → pos 0 ≤ℤ low → low ≤ℤ z → z ≤ℤ high → high ≤ℤ pos (10 ^ 8) → IsCoordinate z

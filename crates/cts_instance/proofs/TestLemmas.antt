@@ -1,8 +1,8 @@
 -- Each test of a line is true exactly where what it tests holds.
-use Rattle.std.proofs.Common.{◌≡◌, ◌≢◌, ℕ, ◌^◌, ◌<◌, ◌≤◌, Bool, true, false, not, ◌&&◌, ◌||◌, T, nat_eq, nat_le, nat_lt, ◌⊎◌, inl, inr, ℤ, pos, ◌≤ℤ◌, ◌<ℤ◌, int_le, int_lt, List, length, get_or, All, Decides, refl, sym, ◌∙◌, arith}
-use Rattle.std.specs.List.{list_any, list_all, HoldsAt}
-use Rattle.std.proofs.lemmas.Bool.{leb-true, le-leb, ltb-true, lt-ltb}
-use Rattle.std.proofs.lemmas.Bool.Decides.{Decides-eqb, Decides-like, Decides-not, Decides-and, Decides-or, Decides-ltb, Decides-by_and, Decides-by_or, nat_tests}
+use Rattle.std.proofs.Common.{◌≡◌, ◌≢◌, ℕ, ◌^◌, ◌≤◌, Bool, true, false, not, ◌||◌, T, nat_eq, nat_le, ℤ, pos, ◌≤ℤ◌, ◌<ℤ◌, int_le, int_lt, List, All, Decides, refl, sym, ◌∙◌}
+use Rattle.std.specs.List.{list_any, list_all}
+use Rattle.std.proofs.lemmas.Bool.{leb-true, le-leb}
+use Rattle.std.proofs.lemmas.Bool.Decides.{Decides-eqb, Decides-like, Decides-not, Decides-and, Decides-ltb, Decides-by_and, Decides-by_or}
 use Rattle.std.proofs.lemmas.Float.{T_from_true}
 use Rattle.std.proofs.lemmas.List.{get_or_default}
 use Rattle.cts_geom.specs.declared.bounds.Die.{Die}

@@ -1,5 +1,5 @@
 -- The parts have no fault exactly where they are valid, line by line.
-use Rattle.std.proofs.Common.{◌≡◌, ◌≢◌, ℕ, ◌+◌, ◌^◌, ◌<◌, ◌≤◌, Bool, true, false, cond, not, ℤ, ◌≤ℤ◌, List, [], ◌∷◌, ◌++◌, length, get_or, take, map, Option, None, Some, nat_le, nat_lt, nat_eq, Decides, All, AllPairs, count_by, refl, sym, ap, subst, ◌∙◌, arith}
+use Rattle.std.proofs.Common.{◌≡◌, ◌≢◌, ℕ, ◌^◌, ◌<◌, ◌≤◌, true, ℤ, ◌≤ℤ◌, List, [], length, get_or, take, map, None, Decides, All, AllPairs, count_by, refl, ◌∙◌}
 use Rattle.std.proofs.lemmas.Bool.Decides.{Decides-ltb}
 use Rattle.std.proofs.lemmas.Bool.{false≢true, ltb-true, lt-ltb}
 use Rattle.std.proofs.lemmas.List.{length-map, get_or-map}
@@ -19,7 +19,7 @@ use Rattle.cts_instance.specs.Validity.{IsDie, IsBounded, IsLimits, IsBuffer, Is
 use Rattle.cts_instance.specs.Tests.{has_room, stops_buffers, stops_wires}
 use Rattle.cts_instance.specs.FirstFault.{die_fault, source_fault, wire_fault, limits_fault, buffer_count_fault, buffer_fault, buffer_line, buffers_fault, sink_count_fault, sink_fault, sink_line, sinks_fault, block_count_fault, block_fault, block_line, blocks_fault, counts_of, first_of, first_fault}
 use Rattle.cts_instance.proofs.TestLemmas.{Decides-nat_le, Decides-absent, Decides-is_bounded, Decides-is_die, Decides-is_in_die, Decides-is_wire, Decides-is_limits, Decides-is_buffer, Decides-is_sink, Decides-is_upright, Decides-is_block_in_die, Decides-is_clear}
-use Rattle.cts_instance.proofs.AllowLemmas.{Allows, Allows-like, Allows-unless, Allows-last, Allows-or, EachLine, Allows-first_of, pairs_from_lines, lines_from_pairs, FindsRoom, count_from_lines, lines_from_count}
+use Rattle.cts_instance.proofs.AllowLemmas.{Allows, Allows-like, Allows-unless, Allows-last, Allows-or, Allows-first_of, pairs_from_lines, lines_from_pairs, count_from_lines, lines_from_count}
 
 pub Allows-die_fault : (die : Die) → Allows (die_fault die) (IsDie die)
 unfolding die_fault

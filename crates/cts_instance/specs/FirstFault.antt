@@ -17,7 +17,6 @@ use Rattle.cts_instance.specs.declared.fault.Fault.{Fault}
 use Rattle.cts_instance.specs.declared.fault.Fault.TheVariants.{NoSink, TwiceSink, Outside, InBlock, Range, TooMany}
 use Rattle.cts_instance.specs.declared.fault.CheckEnd.{CheckEnd}
 use Rattle.cts_instance.specs.declared.fault.CheckEnd.TheVariants.{Fault as told, NoMemory as out_of_memory}
-use Rattle.cts_instance.specs.declared.fault.Item.{Item}
 use Rattle.cts_instance.specs.declared.fault.Item.TheVariants as item
 use Rattle.cts_instance.specs.Tests.{is_die, is_in_die, is_bounded, is_wire, is_limits, is_buffer, is_sink, is_upright, is_block_in_die, has_room, is_clear, stops_buffers, stops_wires}
 

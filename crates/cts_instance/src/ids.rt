@@ -20,7 +20,7 @@ impl Model for SinkIds {
 }
 
 impl SinkIds {
-    ghost use Rattle.std.specs.Prelude.{◌≡◌, [], ◌∷◌, ◌++◌, length, nat_eq, not, IsTrue, IfOk};
+    ghost use Rattle.std.specs.Prelude.{◌≡◌, [], ◌∷◌, ◌++◌, length, nat_eq, not, if◌then◌else◌, IfOk, OnOk, OnErr};
     ghost use Rattle.std.specs.List.{list_any};
 
     /// No ids yet.
@@ -39,10 +39,13 @@ impl SinkIds {
         self.ids.len()
     }
 
-    /// Adds an id, and says whether it is new. One that is there already changes nothing.
+    /// Adds an id, and says whether it is new. One that is there already changes nothing, and nor
+    /// does want of memory.
     pub fn insert(&mut self, id: u32) -> Result<bool, NoMemory>
         ensures new { IfOk result (λ is_new. is_new ≡ not (list_any (nat_eq id) self.old)) }
-        ensures added { IfOk result (λ is_new. IsTrue is_new → self.new ≡ self.old ++ id ∷ []) }
+        ensures added { OnOk result (self.new
+            ≡ (if list_any (nat_eq id) self.old then self.old else self.old ++ id ∷ [])) }
+        ensures err { OnErr result (self.new ≡ self.old) }
     {
         let (_, is_new) = self.ids.insert_full(id)?;
         Ok(is_new)

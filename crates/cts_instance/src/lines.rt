@@ -124,7 +124,7 @@ pub fn sink_count_fault(count: usize) -> Option<Fault>
 /// `Range{Sink(k)}` where the id is above 999,999,999 or the capacitance above 10^12 zF, then
 /// `TwiceSink{id}` where an earlier sink has the id, then `Outside{Sink(k)}` where the place, in nm,
 /// is not in the closed die. The k earlier sinks have the ids `ids`, to which the call adds this
-/// sink's id where it has no fault.
+/// sink's id where it has no fault. After a fault it may have added it too.
 #[tactic(auto, unfolding(crate::specs::FirstFault::sink_fault))]
 pub fn sink_fault(die: &Die, ids: &mut SinkIds, sink: &Sink) -> Result<Option<Fault>, NoMemory>
     requires { length ids.old < 2 ^ 32 }

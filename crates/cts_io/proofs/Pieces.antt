@@ -1,12 +1,13 @@
 -- The first piece of a text, and the end of its line.
-use Rattle.std.proofs.Common.{◌≡◌, ℕ, suc, zero, ◌+◌, ◌-◌, ◌<◌, ◌≤◌, ◌⊎◌, inl, inr, Bool, true, false, cond, eqb, List, [], ◌∷◌, ◌++◌, length, get_or, take, drop, Some, None, refl, sym, ap, ◌∙◌, append_assoc, append-nil, add-one, arith, ltb, position}
+use Rattle.std.proofs.lemmas.List.{length-map}
+use Rattle.std.proofs.Common.{◌≡◌, ℕ, suc, zero, ◌+◌, ◌-◌, ◌<◌, ◌≤◌, ◌⊎◌, inl, inr, Bool, true, false, cond, eqb, List, [], ◌∷◌, ◌++◌, length, get_or, take, drop, Some, None, refl, sym, ap, ◌∙◌, append_assoc, append-nil, add-one, arith, ltb, position, ◌≢◌}
 use Rattle.std.proofs.lemmas.List.Quantifiers.{position-Some}
 use Rattle.std.proofs.lemmas.List.Sums.{fails_before_first}
-use Rattle.std.proofs.lemmas.Bool.{eqb-true, lt-ltb, cases_lt}
+use Rattle.std.proofs.lemmas.Bool.{eqb-true, lt-ltb, cases_lt, ne_eqb}
 use Rattle.std.proofs.Math.Seq.{split_at}
 use Rattle.std.proofs.Math.ListN.{drop_of_length-le}
 use Rattle.std.specs.List.{position_or_len}
-use Rattle.cts_io.specs.Lines.{pieces_of, without_cr, lines_of, IsLineEnd}
+use Rattle.cts_io.specs.Lines.{pieces_of, without_cr, lines_of, IsLineEnd, HasNoLineFeed, onto_first}
 
 -- an LF at i, and none before it
 pub pieces_of-first : (xs : List ℕ) (i : ℕ) → i < length xs → eqb (get_or xs i 0) 10 ≡ true → ((k : ℕ) → k < i → eqb (get_or xs k 0) 10 ≡ false)
@@ -77,6 +78,38 @@ taken-first text line i p w =
 pub taken-last : (text line : List ℕ) → line ≡ without_cr text → (end : List ℕ) × IsLineEnd end [] × (text ≡ line ++ end ++ [])
 taken-last text line w =
     elim (cr_or_none text) [
-      | inl e ↦ ([], inr (inr (refl, inr refl)), e ∙ rw (w, append-nil, append-nil) refl)
+      | inl e ↦ ([], inr (inr (refl, inr refl)), e ∙ rw w (sym (append-nil (without_cr text ++ []) ∙ append-nil (without_cr text))))
       | inr e ↦ (13 ∷ [], inr (inr (refl, inl refl)), e ∙ rw (w, append-nil) refl)
     ]
+
+-- an LF behind a piece without LF
+pieces_of-append : (piece rest : List ℕ) → HasNoLineFeed piece → pieces_of (piece ++ 10 ∷ rest) ≡ piece ∷ pieces_of rest
+pieces_of-append [] rest h = refl
+pieces_of-append (b ∷ bs) rest h =
+    let here : eqb b 10 ≡ false = ne_eqb b 10 h.0 in
+    let after = pieces_of-append bs rest h.1 in
+    rw (here, after) refl
+
+pub line_comes_back : (line rest : List ℕ) → HasNoLineFeed line → get_or line (length line - 1) 0 ≢ 13 → lines_of (line ++ 10 ∷ rest) ≡ line ∷ lines_of rest
+line_comes_back line rest h n =
+    let last : eqb (get_or line (length line - 1) 0) 13 ≡ false = ne_eqb _ 13 n in
+    let after = pieces_of-append line rest h in
+    rw (after, last) refl
+
+length-onto_first : (b : ℕ) (pieces : List (List ℕ)) (n : ℕ) → length pieces ≤ n → length (onto_first b pieces) ≤ suc n
+length-onto_first b [] n h = omega arith
+length-onto_first b (piece ∷ pieces) n h = omega arith
+
+-- either way of one more byte
+cond_pieces : (c : Bool) (b : ℕ) (bs : List ℕ) → length (pieces_of bs) ≤ length bs → length (cond c ([] ∷ pieces_of bs) (onto_first b (pieces_of bs))) ≤ suc (length bs)
+cond_pieces true b bs h = omega arith
+cond_pieces false b bs h = length-onto_first b (pieces_of bs) (length bs) h
+
+length-pieces_of : (text : List ℕ) → length (pieces_of text) ≤ length text
+length-pieces_of [] = omega arith
+length-pieces_of (b ∷ bs) =
+    let rest = length-pieces_of bs in
+    cond_pieces (eqb b 10) b bs rest
+
+pub length-lines_of : (text : List ℕ) → length (lines_of text) ≤ length text
+length-lines_of text = rw length-map (length-pieces_of text)

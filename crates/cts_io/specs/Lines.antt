@@ -1,5 +1,5 @@
 -- The lines of a text.
-use Rattle.std.specs.Prelude.{◌≡◌, ℕ, ◌-◌, ◌⊎◌, ◌==◌, if◌then◌else◌, List, [], ◌∷◌, length, take, map, slice_index}
+use Rattle.std.specs.Prelude.{◌≡◌, ◌≢◌, ℕ, ◌-◌, ◌≤◌, ◌⊎◌, ◌++◌, ◌==◌, if◌then◌else◌, List, [], ◌∷◌, length, take, map, slice_index}
 
 -- a byte before the first of some pieces
 abbrev pub onto_first : ℕ → List (List ℕ) → List (List ℕ)
@@ -24,6 +24,19 @@ lines_of text = map without_cr (pieces_of text)
 -- these bytes end a line, where `rest` comes after them
 abbrev pub IsLineEnd : List ℕ → List ℕ → Type 0
 IsLineEnd end rest = (end ≡ 10 ∷ []) ⊎ ((end ≡ 13 ∷ 10 ∷ []) ⊎ ((rest ≡ []) × ((end ≡ 13 ∷ []) ⊎ (end ≡ []))))
+
+-- no byte is an LF
+abbrev pub HasNoLineFeed : List ℕ → Type 0
+HasNoLineFeed [] = Unit {0}
+HasNoLineFeed (b ∷ bs) = (b ≢ 10) × HasNoLineFeed bs
+
+-- a line without LF that does not end with CR comes back from a text in which an LF ends it
+abbrev pub LinesComeBack : Type 0
+LinesComeBack = (line rest : List ℕ) → HasNoLineFeed line → slice_index line (length line - 1) ≢ 13 → lines_of (line ++ 10 ∷ rest) ≡ line ∷ lines_of rest
+
+-- a text has no more lines than bytes
+abbrev pub NoMoreLinesThanBytes : Type 0
+NoMoreLinesThanBytes = (text : List ℕ) → length (lines_of text) ≤ length text
 
 -- what contracts see of a cursor over lines
 pub record LinesLeft : Type 0 where

@@ -1,5 +1,5 @@
 -- A text on its way to a sink.
-use Rattle.std.specs.Prelude.{◌≡◌, ℕ, ◌-◌, ◌^◌, ◌≤◌, min, true, false, List, ◌++◌, length, take, Option, Result, OnOk, OnErr, IfErr}
+use Rattle.std.specs.Prelude.{◌≡◌, ℕ, ◌-◌, ◌^◌, ◌<◌, ◌≤◌, min, true, false, List, ◌++◌, length, take, Option, Result, OnOk, OnErr, IfErr}
 use Rattle.std.specs.Io.KnownBytes.{Appends}
 use Rattle.cts_io.specs.Faults.{Rose}
 use Rattle.cts_io.specs.Pending.{Pending}
@@ -12,6 +12,11 @@ pub record IsCut (old new : Option (List ℕ)) (text : List ℕ) (written : ℕ)
   pub within : count ≤ length text
   pub told : written ≡ min count (2 ^ 64 - 1)
   pub taken : Appends old new (take count text)
+
+-- a text of less than 2^64 bytes that was cut: the sink took exactly its first `written` bytes
+abbrev pub CutIsExact : Type 0
+CutIsExact = (old new : Option (List ℕ)) (text : List ℕ) (written : ℕ) → length text < 2 ^ 64 → IsCut old new text written
+    → (written ≤ length text) × Appends old new (take written text)
 
 -- What a call that writes a text has done: after Ok the sink has taken all of it. An error comes only where the sink's
 -- count of faults rose in the call, and says how much of the text the sink has taken. The count never falls.

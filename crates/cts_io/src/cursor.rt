@@ -1,5 +1,5 @@
 // The lines of a text, by a cursor.
-ghost use Rattle.std.specs.Prelude.{◌≡◌, ℕ, List, [], ◌∷◌, ◌++◌, ◌+◌, ◌-◌, ◌^◌, ◌<◌, ◌≤◌, ◌↔◌, ◌==◌, length, position, IsNone, IfNone, IfSome};
+ghost use Rattle.std.specs.Prelude.{◌≡◌, ℕ, List, [], ◌∷◌, ◌++◌, ◌+◌, ◌^◌, ◌<◌, ◌≤◌, ◌↔◌, ◌==◌, length, position, IsNone, IfNone, IfSome};
 ghost use Rattle.cts_io.specs.Lines.{lines_of, pieces_of, IsLineEnd, without_cr as cut_line};
 
 use std::marker::Model;
@@ -16,14 +16,14 @@ pub struct Lines<'a> {
 }
 
 impl<'a> Model for Lines<'a> {
-    ghost use Rattle.std.specs.Prelude.{◌+◌, ◌-◌, ◌<◌, ◌^◌, length};
+    ghost use Rattle.std.specs.Prelude.{◌+◌, ◌≤◌, ◌^◌, length};
     ghost use Rattle.cts_io.specs.Lines.{LinesLeft};
 
     ghost Value = { LinesLeft };
 
     ghost view = { λ s. record { rest = s.rest.now; line = s.line } };
 
-    ghost invariant = { λ s. s.line + length s.rest.now < 2 ^ 32 - 1 };
+    ghost invariant = { λ s. s.line + length s.rest.now ≤ 2 ^ 31 };
 }
 
 impl<'a> Lines<'a> {
@@ -44,6 +44,7 @@ impl<'a> Lines<'a> {
         ensures first { IfSome result (λ next.
             lines_of self.old.rest ≡ next.1.now ∷ lines_of self.new.rest) }
         ensures number { IfSome result (λ next. next.0 ≡ self.old.line + 1) }
+        ensures bound { IfSome result (λ next. next.0 ≤ 2 ^ 31) }
         ensures after { IfSome result (λ next. self.new.line ≡ next.0) }
         ensures taken { IfSome result (λ next. (end : List ℕ) × IsLineEnd end self.new.rest
             × (self.old.rest ≡ next.1.now ++ end ++ self.new.rest)) }
@@ -67,8 +68,8 @@ impl<'a> Lines<'a> {
 
     /// The number of the line given last, or of the line before the first.
     pub fn line(&self) -> u32
-        ensures line { result ≡ self.now.line }
-        ensures bound { result < 2 ^ 32 - 1 }
+        ensures value { result ≡ self.now.line }
+        ensures bound { result + length self.now.rest ≤ 2 ^ 31 }
     {
         self.line
     }

@@ -28,8 +28,12 @@ impl Model for MemSource {
     ghost Value = { SourceState };
 
     ghost view = { λ s. record {
-        left = drop s.start s.bytes.items; failing = s.failing.items; most = s.most;
-        calls = s.calls; faults = s.faults } };
+      left = drop s.start s.bytes.items;
+      failing = s.failing.items;
+      most = s.most;
+      calls = s.calls;
+      faults = s.faults;
+    } };
 
     ghost invariant = { λ s. (s.start ≤ length s.bytes.items) × (0 < s.most) };
 }
@@ -83,9 +87,13 @@ impl ByteSource for MemSource {
         ensures count { IfOk result (λ n.
             n ≡ min self.old.most (min (length buf.new) (length self.old.left))) }
         ensures ok { IfOk result (λ n. self.new ≡ record self.old {
-            left = drop n self.old.left; calls = next_count self.old.calls }) }
+          left = drop n self.old.left;
+          calls = next_count self.old.calls;
+        }) }
         ensures err { OnErr result (self.new ≡ record self.old {
-            calls = next_count self.old.calls; faults = next_count self.old.faults }) }
+          calls = next_count self.old.calls;
+          faults = next_count self.old.faults;
+        }) }
     {
         let fails = self.failing.contains(&self.calls);
         self.calls = self.calls.saturating_add(1);
@@ -121,8 +129,13 @@ impl Model for MemSink {
     ghost Value = { SinkState };
 
     ghost view = { λ s. record {
-        held = s.bytes.items; room = s.room; failing = s.failing.items; most = s.most;
-        calls = s.calls; faults = s.faults } };
+      held = s.bytes.items;
+      room = s.room;
+      failing = s.failing.items;
+      most = s.most;
+      calls = s.calls;
+      faults = s.faults;
+    } };
 
     ghost invariant = { λ s. (vec_len s.bytes + s.room ≤ vec_capacity s.bytes) × (0 < s.most) };
 }
@@ -192,10 +205,14 @@ impl ByteSink for MemSink {
         ensures count { IfOk result (λ n.
             n ≡ min self.old.most (min (length bytes.now) self.old.room)) }
         ensures ok { IfOk result (λ n. self.new ≡ record self.old {
-            held = self.old.held ++ take n bytes.now; room = self.old.room - n;
-            calls = next_count self.old.calls }) }
+          held = self.old.held ++ take n bytes.now;
+          room = self.old.room - n;
+          calls = next_count self.old.calls;
+        }) }
         ensures err { OnErr result (self.new ≡ record self.old {
-            calls = next_count self.old.calls; faults = next_count self.old.faults }) }
+          calls = next_count self.old.calls;
+          faults = next_count self.old.faults;
+        }) }
     {
         let is_listed = self.failing.contains(&self.calls);
         let is_full = self.room == 0 && !bytes.is_empty();

@@ -146,11 +146,21 @@ fn put_line<K: ByteSink>(out: &mut SinkBuffer, sink: &mut K, name: &[u8], value:
 fn write_lines<K: ByteSink>(sink: &mut K, name: &[u8], value: &[u8]) -> Result<(), WriteEnd>
     ensures { Writes K.held K.faults sink.old sink.new
         (name.now ++ codes " " ++ value.now ++ codes "\n"
-            ++ (value.now ++ codes " " ++ name.now ++ codes "\n")) result }
+        ++ (value.now ++ codes " " ++ name.now ++ codes "\n")) result }
 {
     let mut out = SinkBuffer::new();
     put_line(&mut out, sink, name, value);
     put_line(&mut out, sink, value, name);
+    out.finish(sink)
+}
+
+/// 1,000 pieces of 42 bytes, and one that is longer than the buffer.
+fn write_many(sink: &mut MemSink, long: &[u8]) -> Result<(), WriteEnd> {
+    let mut out = SinkBuffer::new();
+    for _ in 0..1000 {
+        out.put(sink, TEXT);
+    }
+    out.put(sink, long);
     out.finish(sink)
 }
 
@@ -160,23 +170,18 @@ fn writes_through_a_buffer(rt: HostRuntime) -> Result<(), Fail> {
     write_lines(&mut sink, b"wire", b"1")?;
     assert_eq!(rt; sink.bytes(), b"wire 1\n1 wire\n".as_slice());
 
-    // 1,000 pieces of 42 bytes, and one that is longer than the buffer, in few writes.
     let long = vec![in rt.alloc(); b'x'; 20_000]?;
-    for (failing, written) in [(9, 62_000), (2, 16_380)] {
-        let failing = vec![in rt.alloc(); failing]?;
-        let mut sink = MemSink::new(rt.alloc(), 62_000, failing, 100_000)?;
-        let mut out = SinkBuffer::new();
-        for _ in 0..1000 {
-            out.put(&mut sink, TEXT);
-        }
-        out.put(&mut sink, &long);
-        match out.finish(&mut sink) {
-            Ok(()) => assert_eq!(rt; written, 62_000),
-            Err(end) => assert_eq!(rt; written, end.written()),
-        }
-        assert_eq!(rt; sink.bytes().len(), written);
-        assert!(rt; sink.calls() <= 7);
-    }
+    let mut sink = MemSink::new(rt.alloc(), 62_000, Vec::new(rt.alloc()), 100_000)?;
+    write_many(&mut sink, &long)?;
+    assert_eq!(rt; sink.bytes().len(), 62_000);
+    assert_eq!(rt; sink.calls(), 7);
+
+    let failing = vec![in rt.alloc(); 2]?;
+    let mut sink = MemSink::new(rt.alloc(), 62_000, failing, 100_000)?;
+    let end = write_many(&mut sink, &long);
+    assert!(rt; matches!(end, Err(WriteEnd::WriteFault { written: 16_380 })));
+    assert_eq!(rt; sink.bytes().len(), 16_380);
+    assert_eq!(rt; sink.calls(), 3);
     Ok(())
 }
 

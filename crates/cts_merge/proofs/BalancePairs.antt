@@ -1,8 +1,8 @@
 -- The least pair over two routes: the slower side keeps its route, and the other one is stretched.
-use Rattle.std.proofs.Common.{◌≡◌, ℕ, ◌+◌, ◌-◌, ◌<◌, ◌≤◌, inl, inr, refl, ap, arith}
+use Rattle.std.proofs.Common.{◌≡◌, ℕ, ◌≤◌, inl, inr, refl, ap, arith}
 use Rattle.std.proofs.lemmas.Bool.{cases_lt}
 use Rattle.std.specs.Int.{abs_diff}
-use Rattle.cts_merge.specs.LeastPair.{IsNoLater, IsLeastPair, HasLeastPair, Covers}
+use Rattle.cts_merge.specs.LeastPair.{IsLeastPair, HasLeastPair, Covers}
 use Rattle.cts_merge.specs.Stretch.{IsStretch}
 use Rattle.cts_merge.proofs.Rising.{Rises, order}
 use Rattle.cts_merge.proofs.Stretches.{stretch_exists}

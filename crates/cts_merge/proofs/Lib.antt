@@ -1,5 +1,8 @@
 pub mod BalancePairs
 pub mod MergePairs
+pub mod Merges
+pub mod Residue
+pub mod ResidueBounds
 pub mod Rising
 pub mod SideDelays
 pub mod Snakes

@@ -4,7 +4,7 @@ use Rattle.std.proofs.lemmas.Bool.{cases_lt}
 use Rattle.std.specs.Int.{abs_diff}
 use Rattle.cts_merge.specs.LeastPair.{IsNoLater, IsLeastPair, HasLeastPair, Spans}
 use Rattle.cts_merge.specs.Stretch.{IsStretch}
-use Rattle.cts_merge.proofs.Rising.{Rises, order, Crosses, crossing}
+use Rattle.cts_merge.proofs.Rising.{Rises, order, crossing}
 use Rattle.cts_merge.proofs.Stretches.{stretch_exists}
 
 -- the first side is no faster without a wire

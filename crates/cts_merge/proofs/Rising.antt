@@ -1,5 +1,5 @@
 -- Delays that rise with the length of the wire, and where one passes another.
-use Rattle.std.proofs.Common.{◌≡◌, ℕ, zero, suc, ◌+◌, ◌-◌, ◌<◌, ◌≤◌, ◌⊎◌, inl, inr, ap, add-zero, arith}
+use Rattle.std.proofs.Common.{◌≡◌, ℕ, zero, suc, ◌+◌, ◌<◌, ◌≤◌, ◌⊎◌, inl, inr, ap, add-zero, arith}
 use Rattle.std.proofs.lemmas.Bool.{cases_lt}
 
 pub record Rises (f : ℕ → ℕ) : Type 0 where

@@ -1,8 +1,7 @@
 -- A side's delay through a wire, as a function of the wire's length.
-use Rattle.std.proofs.Common.{◌≡◌, ℕ, ◌+◌, ◌*◌, ◌<◌, ◌≤◌, arith}
+use Rattle.std.proofs.Common.{◌≡◌, ℕ, ◌+◌, ◌*◌, arith}
 use Rattle.cts_units.specs.declared.params.Wire.{Wire}
 use Rattle.cts_units.specs.Limits.{IsWire}
-use Rattle.cts_units.specs.Delay.{wire_delay_of}
 use Rattle.cts_units.proofs.WireDelay.{wire_delay_rises, no_wire_no_delay, wire_delay_of-step}
 use Rattle.cts_merge.specs.declared.side.Side.{Side}
 use Rattle.cts_merge.specs.Side.{delay_through}

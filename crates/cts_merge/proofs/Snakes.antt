@@ -1,7 +1,7 @@
 -- Snakes and stretches as the code meets them: the target is a number that is equal to the other side's delay.
 use Rattle.std.proofs.Common.{◌≡◌, ℕ, ◌+◌, ◌-◌, ◌*◌, ◌^◌, ◌<◌, ◌≤◌, ◌⊎◌, Result, IfErr, Ok, Err, inl, inr, subst, arith}
 use Rattle.std.proofs.lemmas.Bool.{cases_lt}
-use Rattle.cts_merge.specs.LeastPair.{IsLeastPair, HasLeastPair, IsTooLong, Spans, Covers}
+use Rattle.cts_merge.specs.LeastPair.{IsLeastPair, IsTooLong, Spans, Covers}
 use Rattle.cts_merge.specs.Stretch.{IsStretch, IsLongStretch}
 use Rattle.cts_merge.proofs.Rising.{Rises}
 use Rattle.cts_merge.proofs.MergePairs.{spans_first, spans_second, spans_exists}

@@ -1,9 +1,9 @@
 -- The length at which a rising delay comes nearest to a target.
-use Rattle.std.proofs.Common.{◌≡◌, ℕ, zero, suc, ◌+◌, ◌-◌, ◌<◌, ◌≤◌, inl, inr, arith}
+use Rattle.std.proofs.Common.{ℕ, zero, suc, ◌+◌, ◌-◌, ◌<◌, ◌≤◌, inl, inr, arith}
 use Rattle.std.proofs.lemmas.Bool.{cases_lt}
 use Rattle.std.specs.Int.{abs_diff}
 use Rattle.cts_merge.specs.Stretch.{IsStretch}
-use Rattle.cts_merge.proofs.Rising.{Rises, order, Crosses, crossing}
+use Rattle.cts_merge.proofs.Rising.{Rises, order, crossing}
 
 -- the longest length at which the delay is at most the target, where it is no farther from it than the next one
 pub stretch_below : (f : ℕ → ℕ) → Rises f → (base target len : ℕ) → base ≤ len

@@ -1,4 +1,5 @@
 pub mod Balance
+pub mod Laws
 pub mod LeastPair
 pub mod Merge
 pub mod Side

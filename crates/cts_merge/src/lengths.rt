@@ -112,9 +112,9 @@ fn tapped(wire: Wire, a: &Side, b: &Side, gap: u64) -> (u64, u64)
 {
     let low = tap(wire, a, b, gap);
     let rest = gap - (low + 1);
-    let short_by = delay_through(wire, b, rest + 1) - delay_through(wire, a, low);
-    let long_by = delay_through(wire, a, low + 1) - delay_through(wire, b, rest);
-    if short_by <= long_by {
+    let at_low = delay_through(wire, b, rest + 1) - delay_through(wire, a, low);
+    let at_next = delay_through(wire, a, low + 1) - delay_through(wire, b, rest);
+    if at_low <= at_next {
         return (low, rest + 1);
     }
     (low + 1, rest)

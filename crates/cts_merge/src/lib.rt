@@ -4,12 +4,13 @@
 //! A layer above hands in two sides and takes what [`merge`] makes of them, or [`Beyond`]; it cites
 //! the definitions of `specs/`: `LeastPair` for the order of pairs of lengths and for which pairs are
 //! admissible, `Merge` and `Balance` for what the calls answer. They range over all lengths, without a
-//! limit.
+//! limit. `laws` says that they have one answer, and bounds the difference of delays that is left.
 //!
 //! Lengths are in nm, loads in zF, and delays are doubled, in 10^-27 s. No call takes memory.
 #![tactic(auto)]
 
 mod balance;
+pub mod laws;
 mod lengths;
 mod merging;
 mod side;

@@ -162,3 +162,6 @@ pub fn merge<L: Ledger>(
     steps.tick();
     pair_of(params, a, b)
 }
+
+#[cfg(test)]
+mod tests;

@@ -2,7 +2,7 @@
 use Rattle.std.proofs.Common.{◌≡◌, ℕ, List, [], ◌∷◌, ◌++◌, Option, Some, None, Result, subst, refl, append-nil, append_assoc, ap, sym, ◌∙◌, codes}
 use Rattle.std.specs.List.{flat_map}
 use Rattle.std.specs.Option.{option_to_list}
-use Rattle.cts_num.specs.Decimal.{decimal_text, whole_text, digits_text}
+use Rattle.cts_num.specs.Decimal.{decimal_text, whole_text, fraction_text, digits_text}
 use Rattle.cts_io.specs.Pending.{Pending, fresh}
 use Rattle.cts_io.specs.Text.{Puts, Finishes, Writes, IsGiven}
 use Rattle.cts_io.specs.declared.write.WriteEnd.{WriteEnd}
@@ -24,11 +24,11 @@ written {S} {held} {faults} {s} e p f =
     f.ends s _ (p.extends s [] (subst (λ b. IsGiven held faults s [] s b) (sym e) (given_none held faults s)))
 
 pub corners_one : (p : Point) → corners_text (option_to_list (Some p)) ≡ labelled (codes " via 1") (place_text p)
-unfolding corners_text labelled whole_number decimal_text whole_text digits_text
+unfolding corners_text labelled whole_number decimal_text whole_text fraction_text digits_text
 corners_one p = ap (λ t. codes " via 1" ++ t) (append-nil (place_text p))
 
 pub corners_none : corners_text (option_to_list None) ≡ codes " via 0"
-unfolding corners_text labelled whole_number decimal_text whole_text digits_text
+unfolding corners_text labelled whole_number decimal_text whole_text fraction_text digits_text
 corners_none = refl
 
 pub leaves_one : (leaf : Leaf) → leaves_text 0 (leaf ∷ []) ≡ leaf_text 0 leaf

@@ -3,3 +3,5 @@ pub mod Sinks
 pub mod Pins
 pub mod Topology
 pub mod Laws
+pub use Rattle.cts_postorder.specs.BinaryTree
+pub use Rattle.cts_postorder.specs.PostOrder

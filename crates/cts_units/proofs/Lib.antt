@@ -1,2 +1,3 @@
 pub mod BufferDelay
+pub mod Choices
 pub mod WireDelay

@@ -1,4 +1,4 @@
-use Rattle.std.proofs.Common.{◌≡◌, Option, w64, rules, ◌∙◌, ap, arith}
+use Rattle.std.proofs.Common.{w64, rules, ◌∙◌, arith}
 use Rattle.std.proofs.lemmas.Int.{to_z-of_z}
 use Rattle.cts_instance.proofs.FirstFaultLemmas.{found, passed, ended}
 use Rattle.cts_instance.proofs.LineLemmas.{block_line-at, first_of-at}

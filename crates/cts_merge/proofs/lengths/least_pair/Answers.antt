@@ -1,5 +1,5 @@
 -- A gap too wide, or a snake on the side that is faster with all of the gap.
-use Rattle.std.proofs.Common.{◌≤◌, arith}
+use Rattle.std.proofs.Common.{arith}
 use Rattle.cts_merge.specs.LeastPair.{IsTooLong, Spans}
 use Rattle.cts_merge.specs.Side.{delay_through}
 use Rattle.cts_merge.proofs.SideDelays.{delay_rises}

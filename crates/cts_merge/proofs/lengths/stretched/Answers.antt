@@ -1,6 +1,5 @@
 -- The longest length with at most that delay, or the next one, is nearest; past the bracket the nearest length is over the limit.
 use Rattle.std.proofs.Common.{◌+◌, ◌-◌, ◌^◌, ◌<◌, ◌≤◌, arith}
-use Rattle.cts_units.specs.Delay.{wire_delay_of}
 use Rattle.cts_merge.specs.Side.{delay_through}
 use Rattle.cts_merge.specs.Stretch.{IsLongest}
 use Rattle.cts_merge.proofs.SideDelays.{delay_rises}

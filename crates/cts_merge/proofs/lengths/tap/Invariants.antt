@@ -1,5 +1,5 @@
 -- The greatest length at which the first side is not slower lies from low on, and below high.
-use Rattle.std.proofs.Common.{ℕ, ◌-◌, ◌<◌, ◌≤◌}
+use Rattle.std.proofs.Common.{◌-◌, ◌<◌, ◌≤◌}
 use Rattle.cts_merge.specs.Side.{delay_through}
 use Rattle.cts_merge.proofs.lengths.tap.Given as goal
 

@@ -1,0 +1,303 @@
+ghost use Rattle.std.specs.Prelude.{◌≡◌, ◌^◌, ◌<◌, ◌≤◌, pos, ◌≤ℤ◌, IfOk};
+ghost use Rattle.cts_geom.specs.Regions.{IsRegionInRange};
+ghost use Rattle.cts_units.specs.Limits.{IsParams};
+ghost use Rattle.cts_merge.specs.Side.{IsSideInRange};
+
+use super::*;
+use cts_units::{Buffer, Library};
+use std::alloc::Global;
+use std::marker::Brand;
+use std::process::Abort;
+use std::sync::ledger::Blank;
+use std::test::Fail;
+
+/// A side of one point, in nm.
+fn side(greatest: u128, load: u64, x: i64, y: i64) -> Side
+    requires greatest { greatest ≤ 2 ^ 104 }
+    requires load { load ≤ 2 ^ 56 }
+    requires x_low { pos 0 ≤ℤ x }
+    requires x_high { x ≤ℤ pos (10 ^ 8) }
+    requires y_low { pos 0 ≤ℤ y }
+    requires y_high { y ≤ℤ pos (10 ^ 8) }
+    ensures in_range { IsSideInRange result }
+    ensures region { IsRegionInRange result.region }
+{
+    Side {
+        greatest,
+        load,
+        region: Region {
+            u1: x + y,
+            u2: x + y,
+            v1: x - y,
+            v2: x - y,
+        },
+    }
+}
+
+fn counted<L: Ledger>(blank: Blank, params: &Params, a: &Side, b: &Side) -> Result<Finished, Beyond>
+    requires name { blank.name ≡ L.name }
+    requires parts { blank.parts ≡ L.parts }
+    requires some { 0 < L.parts }
+    requires params { IsParams params.now }
+    requires a { IsSideInRange a.now }
+    requires b { IsSideInRange b.now }
+    requires a_region { IsRegionInRange a.now.region }
+    requires b_region { IsRegionInRange b.now.region }
+    ensures in_range { IfOk result (λ pair. IsSideInRange pair.side) }
+{
+    let mut steps = Steps::<L>::open(blank);
+    merge(params, a, b, &mut steps)
+}
+
+/// The pair of two sides, whose merge nobody counts.
+fn pair(params: &Params, a: &Side, b: &Side) -> Result<Finished, Beyond>
+    requires params { IsParams params.now }
+    requires a { IsSideInRange a.now }
+    requires b { IsSideInRange b.now }
+    requires a_region { IsRegionInRange a.now.region }
+    requires b_region { IsRegionInRange b.now.region }
+    ensures in_range { IfOk result (λ pair. IsSideInRange pair.side) }
+{
+    counted::<Brand>(Blank::new(1), params, a, b)
+}
+
+/// Parameters without a buffer.
+fn bare(alloc: Global, r: u64, c: u64) -> Params
+    requires r_low { 1 ≤ r }
+    requires r_high { r ≤ 10 ^ 6 }
+    requires c_low { 1 ≤ c }
+    requires c_high { c ≤ 10 ^ 6 }
+    ensures { IsParams result }
+{
+    Params {
+        wire: Wire { r, c },
+        library: Library::of(Vec::new(alloc)),
+        insert_at: 0,
+    }
+}
+
+/// Compares the pair of two sides with its lengths, its load and its greatest delay,
+/// or with `None` for beyond.
+fn compare(rt: &impl Abort, params: &Params, a: Side, b: Side, want: Option<(u64, u64, u64, u128)>)
+    requires params { IsParams params.now }
+    requires a { IsSideInRange a }
+    requires b { IsSideInRange b }
+    requires a_region { IsRegionInRange a.region }
+    requires b_region { IsRegionInRange b.region }
+{
+    let got = match pair(params, &a, &b) {
+        Ok(pair) => Some((pair.ea, pair.eb, pair.side.load, pair.side.greatest)),
+        Err(Beyond) => None,
+    };
+    assert_eq!(rt; got, want);
+}
+
+#[test]
+fn least_pairs_of_worked_merges(rt: HostRuntime) {
+    // In nm, zF and 10^-27 s.
+    let unit = bare(rt.alloc(), 1, 1);
+    // The second wire snakes: 27·37 = 999 leaves 1, and 28·38 = 1064 leaves 64.
+    compare(
+        &rt,
+        &unit,
+        side(1000, 5, 0, 0),
+        side(0, 5, 10, 0),
+        Some((0, 27, 37, 1000)),
+    );
+    compare(
+        &rt,
+        &unit,
+        side(0, 5, 0, 0),
+        side(1000, 5, 10, 0),
+        Some((27, 0, 37, 1000)),
+    );
+    // (5, 5) gives 75 and 85, (6, 4) would give 96 and 64.
+    compare(
+        &rt,
+        &unit,
+        side(0, 5, 0, 0),
+        side(0, 6, 10, 0),
+        Some((5, 5, 21, 85)),
+    );
+    // (2, 3) and (3, 2) leave 15 both.
+    compare(
+        &rt,
+        &unit,
+        side(0, 5, 0, 0),
+        side(0, 5, 5, 0),
+        Some((2, 3, 15, 39)),
+    );
+    // 1 ohm and 1 fF per um: 6 um and 4 um, with 96 fs doubled on both sides.
+    let metal = bare(rt.alloc(), 1000, 1000);
+    compare(
+        &rt,
+        &metal,
+        side(0, 5_000_000, 0, 0),
+        side(0, 10_000_000, 10_000, 0),
+        Some((6000, 4000, 25_000_000, 96_000_000_000_000)),
+    );
+    // Two sinks at one place.
+    compare(
+        &rt,
+        &metal,
+        side(0, 5_000_000, 3000, 4000),
+        side(0, 9_000_000, 3000, 4000),
+        Some((0, 0, 14_000_000, 0)),
+    );
+}
+
+#[test]
+fn pairs_at_the_limits(rt: HostRuntime) {
+    // A snake into no load has the delay r·L²: (2^31 - 1)² is within the limit, 2^62 is not.
+    let unit = bare(rt.alloc(), 1, 1);
+    let near = 4_611_686_014_132_420_609;
+    compare(
+        &rt,
+        &unit,
+        side(near, 0, 0, 0),
+        side(0, 0, 0, 0),
+        Some((0, 2_147_483_647, 2_147_483_647, near)),
+    );
+    compare(&rt, &unit, side(1 << 62, 0, 0, 0), side(0, 0, 0, 0), None);
+    compare(&rt, &unit, side(0, 0, 0, 0), side(1 << 62, 0, 0, 0), None);
+    compare(&rt, &unit, side(1 << 103, 5, 0, 0), side(0, 5, 0, 0), None);
+    // Halfway between 2·(2^31 - 1)² and 2^63 the shorter snake decides, and is within the limit.
+    let double = bare(rt.alloc(), 2, 1);
+    let halfway = 9_223_372_032_559_808_513;
+    compare(
+        &rt,
+        &double,
+        side(halfway, 0, 0, 0),
+        side(0, 0, 0, 0),
+        Some((0, 2_147_483_647, 2_147_483_647, halfway)),
+    );
+    compare(
+        &rt,
+        &double,
+        side(halfway + 1, 0, 0, 0),
+        side(0, 0, 0, 0),
+        None,
+    );
+    // A load of 2^56 and a delay of 2^104 are within the limits.
+    let half = 1 << 55;
+    compare(
+        &rt,
+        &unit,
+        side(0, half, 0, 0),
+        side(0, half, 0, 0),
+        Some((0, 0, 1 << 56, 0)),
+    );
+    compare(
+        &rt,
+        &unit,
+        side(0, half, 0, 0),
+        side(0, half + 1, 0, 0),
+        None,
+    );
+    let slow = 1 << 104;
+    compare(
+        &rt,
+        &unit,
+        side(slow, 5, 0, 0),
+        side(slow, 5, 0, 0),
+        Some((0, 0, 10, slow)),
+    );
+    compare(&rt, &unit, side(slow, 5, 0, 0), side(slow, 5, 2, 0), None);
+}
+
+#[test]
+fn merging_region_of_a_worked_pair(rt: HostRuntime) -> Result<(), Fail> {
+    // (0, 0) and (6, 4) in um with 5 fF each: the segment from (1, 4) to (5, 0).
+    let metal = bare(rt.alloc(), 1000, 1000);
+    let node = pair(
+        &metal,
+        &side(0, 5_000_000, 0, 0),
+        &side(0, 5_000_000, 6000, 4000),
+    )?;
+    assert_eq!(rt; (node.ea, node.eb), (5000, 5000));
+    assert_eq!(rt; node.side.load, 20_000_000);
+    assert_eq!(rt; node.side.greatest, 75_000_000_000_000);
+    let region = node.side.region;
+    assert_eq!(rt;
+        (region.u1, region.u2, region.v1, region.v2),
+        (5000, 5000, -3000, 5000)
+    );
+    Ok(())
+}
+
+#[test]
+fn leaves_and_buffers_of_worked_pairs(rt: HostRuntime) -> Result<(), Fail> {
+    // Sinks of 5 fF, 10 um apart, with a buffer of 3 fF and 1 ohm above a threshold of 15 or 20 fF.
+    let a = leaf(&Sink {
+        id: 1,
+        x: 0,
+        y: 0,
+        cap: 5_000_000,
+    });
+    let b = leaf(&Sink {
+        id: 2,
+        x: 10_000,
+        y: 0,
+        cap: 5_000_000,
+    });
+    assert_eq!(rt; (a.ea, a.eb, a.buffer), (0, 0, None));
+    assert_eq!(rt; (b.side.load, b.side.greatest), (5_000_000, 0));
+    for (insert_at, buffer, load, greatest) in [
+        (15_000_000, Some(0), 3_000_000, 115_000_000_000_000),
+        (20_000_000, None, 20_000_000, 75_000_000_000_000),
+    ] {
+        assert!(rt; insert_at <= 20_000_000);
+        let buffers = vec![in rt.alloc();
+            Buffer {
+                cin: 3_000_000,
+                rout: 1_000_000,
+                intrinsic: 0
+            },
+        ]?;
+        let params = Params {
+            wire: Wire { r: 1000, c: 1000 },
+            library: Library::of(buffers),
+            insert_at,
+        };
+        let node = pair(&params, &a.side, &b.side)?;
+        assert_eq!(rt; (node.ea, node.eb), (5000, 5000));
+        assert_eq!(rt; node.buffer, buffer, "above {insert_at} zF");
+        assert_eq!(rt; node.side.load, load);
+        assert_eq!(rt; node.side.greatest, greatest);
+    }
+    Ok(())
+}
+
+#[test]
+fn slow_buffer_puts_the_next_pair_beyond(rt: HostRuntime) -> Result<(), Fail> {
+    // 1,000,000 ohm into 20.001 fF: the third sink would need a snake of some 6.3·10^9 nm.
+    let buffers = vec![in rt.alloc();
+        Buffer {
+            cin: 1_000_000,
+            rout: 1_000_000_000_000,
+            intrinsic: 0
+        },
+    ]?;
+    let params = Params {
+        wire: Wire { r: 1, c: 1 },
+        library: Library::of(buffers),
+        insert_at: 15_000_000,
+    };
+    let node = pair(
+        &params,
+        &side(0, 10_000_000, 0, 0),
+        &side(0, 10_000_000, 1000, 0),
+    )?;
+    assert_eq!(rt; (node.ea, node.eb, node.buffer), (500, 500, Some(0)));
+    assert_eq!(rt; node.side.load, 1_000_000);
+    assert_eq!(rt; node.side.greatest, 40_002_000_010_000_250_000);
+    let region = node.side.region;
+    assert_eq!(rt;
+        (region.u1, region.u2, region.v1, region.v2),
+        (500, 500, 500, 500)
+    );
+    let below = side(40_002_000_010_000_250_000, 1_000_000, 500, 0);
+    let next = pair(&params, &below, &side(0, 5_000_000, 5000, 0));
+    assert!(rt; matches!(next, Err(Beyond)));
+    Ok(())
+}
