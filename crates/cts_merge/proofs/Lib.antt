@@ -1,6 +1,7 @@
 pub mod BalancePairs
 pub mod MergePairs
 pub mod Merges
+pub mod Regions
 pub mod Residue
 pub mod ResidueBounds
 pub mod Rising

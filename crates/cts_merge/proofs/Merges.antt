@@ -53,7 +53,7 @@ leaf_one sink p q hp hq =
     (hp.ea ∙ sym hq.ea) (hp.eb ∙ sym hq.eb) (hp.buffer ∙ sym hq.buffer)
 
 -- two merging regions of the same lengths are one
-meet_unique : (a b p q : Region) (ea eb xa xb : ℕ) → ea ≡ xa → eb ≡ xb → IsMeet a ea b eb p → IsMeet a xa b xb q → p ≡ q
+pub meet_unique : (a b p q : Region) (ea eb xa xb : ℕ) → ea ≡ xa → eb ≡ xb → IsMeet a ea b eb p → IsMeet a xa b xb q → p ≡ q
 meet_unique a b p q ea eb xa xb first second hp hq =
     let hq' : IsMeet a ea b eb q =
     subst (λ (x : ℕ). IsMeet a x b eb q) (sym first) (subst (λ (x : ℕ). IsMeet a xa b x q) (sym second) hq) in

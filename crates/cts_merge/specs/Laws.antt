@@ -1,6 +1,7 @@
 -- What the definitions of this crate say of one another.
-use Rattle.std.specs.Prelude.{◌≡◌, ℕ, ◌+◌, ◌*◌, ◌≤◌, max}
-use Rattle.std.specs.Int.{abs_diff}
+use Rattle.std.specs.Prelude.{◌≡◌, ℕ, ◌+◌, ◌*◌, ◌≤◌, max, pos, ◌+ℤ◌, ◌-ℤ◌}
+use Rattle.std.specs.Int.{abs_diff, int_min, int_max}
+use Rattle.cts_geom.specs.declared.regions.Region.{Region}
 use Rattle.cts_units.specs.declared.params.Sink.{Sink}
 use Rattle.cts_units.specs.declared.params.Wire.{Wire}
 use Rattle.cts_units.specs.declared.params.Params.{Params}
@@ -16,13 +17,14 @@ use Rattle.cts_merge.specs.Balance.{IsBalancePair, IsBeyondBalance, IsBalanced}
 abbrev pub residue_of : Wire → Side → Side → ℕ → ℕ → ℕ
 residue_of wire a b ea eb = abs_diff (delay_through wire a ea) (delay_through wire b eb)
 
--- twice what is left of a merge is at most what one unit more on both wires would add
+-- Twice the difference that a merge leaves has a bound that is below what one unit more on both wires would add.
 abbrev pub MergeResidueIsBounded : Type 0
 MergeResidueIsBounded =
     (wire : Wire) (a b : Side) (ea eb : ℕ) → IsMergePair wire a b ea eb → IsWire wire
     → 2 * residue_of wire a b ea eb ≤ wire.r * (wire.c * (2 * (ea + eb) + 1) + 2 * a.load + 2 * b.load)
 
--- twice what is left of a balance is at most what one unit more on the longer wire into the greater load would add
+-- Twice the difference that a balance leaves is at most what one unit more would add to a wire of the longer
+-- length into the greater load.
 abbrev pub BalanceResidueIsBounded : Type 0
 BalanceResidueIsBounded =
     (wire : Wire) (a b : Side) (la lb xa xb : ℕ) → IsBalancePair wire a la b lb xa xb → IsWire wire
@@ -66,3 +68,16 @@ abbrev pub BalancedIsNotBeyond : Type 0
 BalancedIsNotBeyond =
     (wire : Wire) (a : Side) (la : ℕ) (b : Side) (lb xa xb : ℕ) → IsBalanced wire a la b lb xa xb
     → IsBeyondBalance wire a la b lb → ⊥
+
+-- The four ends of a region: those of what two rectangles share, each widened by its length.
+pub record HasEnds (a : Region) (ea : ℕ) (b : Region) (eb : ℕ) (region : Region) : Type 0 where
+  pub u1 : region.u1 ≡ int_max (a.u1 -ℤ pos ea) (b.u1 -ℤ pos eb)
+  pub u2 : region.u2 ≡ int_min (a.u2 +ℤ pos ea) (b.u2 +ℤ pos eb)
+  pub v1 : region.v1 ≡ int_max (a.v1 -ℤ pos ea) (b.v1 -ℤ pos eb)
+  pub v2 : region.v2 ≡ int_min (a.v2 +ℤ pos ea) (b.v2 +ℤ pos eb)
+
+-- the merging region by its four ends
+abbrev pub MergedRegionHasEnds : Type 0
+MergedRegionHasEnds =
+    (params : Params) (a b : Side) (p : Finished) → IsMerged params a b p
+    → HasEnds a.region p.ea b.region p.eb p.side.region

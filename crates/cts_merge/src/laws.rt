@@ -11,6 +11,7 @@ ghost use Rattle.cts_merge.specs.Laws.{
   MergedIsOne,
   MergedIsNotBeyond,
   BalancedIsNotBeyond,
+  MergedRegionHasEnds,
 };
 
 /// Twice the difference of the two delays of a least pair (ea, eb) over a gap is at most
@@ -63,4 +64,9 @@ pub fn merged_is_not_beyond()
 /// Two sides that are balanced over two routes are not beyond.
 pub fn balanced_is_not_beyond()
     ensures { BalancedIsNotBeyond }
+{}
+
+/// The merging region of a pair is what the two regions share when each is widened by its length.
+pub fn merged_region_has_ends()
+    ensures { MergedRegionHasEnds }
 {}

@@ -34,8 +34,14 @@ length-instance_text : (i : Instance) → IsShortInstance i → length (instance
 unfolding instance_text
 length-instance_text i h =
     simp length-append
-    (omega (arith, length-die_text i.die h.die, length-source_text i.source h.source, length-wire_text i.wire h.wire,
-      length-limits_text i.limits h.limits, length-sink_text i.sink h.sink))
+    (omega (
+      arith,
+      length-die_text i.die h.die,
+      length-source_text i.source h.source,
+      length-wire_text i.wire h.wire,
+      length-limits_text i.limits h.limits,
+      length-sink_text i.sink h.sink,
+    ))
 
 -- an input that is too long is no instance that is served
 pub refused_too_long : (bytes : List ℕ) → input_limit < length bytes → IsRefused bytes

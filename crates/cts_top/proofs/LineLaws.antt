@@ -45,14 +45,14 @@ die_takes s x r e =
     option_and_then_some _ _ _ q2 (λ f3 p3 q3.
     option_and_then_some _ _ _ q3 (λ f4 p4 q4.
     option_and_then_some _ _ _ q4 (λ rest p5 q5.
-      let t1 = field_takes (codes "die ") s f1.0 f1.1 p1 in
-      let t2 = field_takes (codes " ") f1.1 f2.0 f2.1 p2 in
-      let t3 = field_takes (codes " ") f2.1 f3.0 f3.1 p3 in
-      let t4 = field_takes (codes " ") f3.1 f4.0 f4.1 p4 in
-      let t5 = piece_takes (codes "\n") f4.1 rest p5 in
-      let P : DieLine × List ℕ → Type 0 = λ y. (s ≡ die_text y.0 ++ y.1) × DieIsShort y.0 in
-      subst P (same_Some _ _ q5)
-      (joined4 (codes "die ") (number_text f1.0) (codes " ") (number_text f2.0) (codes " ") (number_text f3.0) (codes " ") (number_text f4.0) (codes "\n") s f1.1 f2.1 f3.1 f4.1 rest t1.0 t2.0 t3.0 t4.0 t5, record { x1 = t1.1; y1 = t2.1; x2 = t3.1; y2 = t4.1 }))))))
+    let t1 = field_takes (codes "die ") s f1.0 f1.1 p1 in
+    let t2 = field_takes (codes " ") f1.1 f2.0 f2.1 p2 in
+    let t3 = field_takes (codes " ") f2.1 f3.0 f3.1 p3 in
+    let t4 = field_takes (codes " ") f3.1 f4.0 f4.1 p4 in
+    let t5 = piece_takes (codes "\n") f4.1 rest p5 in
+    let P : DieLine × List ℕ → Type 0 = λ y. (s ≡ die_text y.0 ++ y.1) × DieIsShort y.0 in
+    subst P (same_Some _ _ q5)
+    (joined4 (codes "die ") (number_text f1.0) (codes " ") (number_text f2.0) (codes " ") (number_text f3.0) (codes " ") (number_text f4.0) (codes "\n") s f1.1 f2.1 f3.1 f4.1 rest t1.0 t2.0 t3.0 t4.0 t5, record { x1 = t1.1; y1 = t2.1; x2 = t3.1; y2 = t4.1 }))))))
 
 pub die_again : (x : DieLine) (r : List ℕ) → DieIsShort x → die_at (die_text x ++ r) ≡ Some (x, r)
 unfolding die_at die_text
@@ -71,13 +71,13 @@ source_takes s x r e =
     option_and_then_some _ _ _ q1 (λ f2 p2 q2.
     option_and_then_some _ _ _ q2 (λ f3 p3 q3.
     option_and_then_some _ _ _ q3 (λ rest p4 q4.
-      let t1 = field_takes (codes "source ") s f1.0 f1.1 p1 in
-      let t2 = field_takes (codes " ") f1.1 f2.0 f2.1 p2 in
-      let t3 = field_takes (codes " ") f2.1 f3.0 f3.1 p3 in
-      let t4 = piece_takes (codes "\n") f3.1 rest p4 in
-      let P : SourceLine × List ℕ → Type 0 = λ y. (s ≡ source_text y.0 ++ y.1) × SourceIsShort y.0 in
-      subst P (same_Some _ _ q4)
-      (joined3 (codes "source ") (number_text f1.0) (codes " ") (number_text f2.0) (codes " ") (number_text f3.0) (codes "\n") s f1.1 f2.1 f3.1 rest t1.0 t2.0 t3.0 t4, record { x = t1.1; y = t2.1; resistance = t3.1 })))))
+    let t1 = field_takes (codes "source ") s f1.0 f1.1 p1 in
+    let t2 = field_takes (codes " ") f1.1 f2.0 f2.1 p2 in
+    let t3 = field_takes (codes " ") f2.1 f3.0 f3.1 p3 in
+    let t4 = piece_takes (codes "\n") f3.1 rest p4 in
+    let P : SourceLine × List ℕ → Type 0 = λ y. (s ≡ source_text y.0 ++ y.1) × SourceIsShort y.0 in
+    subst P (same_Some _ _ q4)
+    (joined3 (codes "source ") (number_text f1.0) (codes " ") (number_text f2.0) (codes " ") (number_text f3.0) (codes "\n") s f1.1 f2.1 f3.1 rest t1.0 t2.0 t3.0 t4, record { x = t1.1; y = t2.1; resistance = t3.1 })))))
 
 pub source_again : (x : SourceLine) (r : List ℕ) → SourceIsShort x → source_at (source_text x ++ r) ≡ Some (x, r)
 unfolding source_at source_text
@@ -94,12 +94,12 @@ wire_takes s x r e =
     option_and_then_some _ _ _ e (λ f1 p1 q1.
     option_and_then_some _ _ _ q1 (λ f2 p2 q2.
     option_and_then_some _ _ _ q2 (λ rest p3 q3.
-      let t1 = field_takes (codes "wire ") s f1.0 f1.1 p1 in
-      let t2 = field_takes (codes " ") f1.1 f2.0 f2.1 p2 in
-      let t3 = piece_takes (codes "\n") f2.1 rest p3 in
-      let P : WireLine × List ℕ → Type 0 = λ y. (s ≡ wire_text y.0 ++ y.1) × WireIsShort y.0 in
-      subst P (same_Some _ _ q3)
-      (joined2 (codes "wire ") (number_text f1.0) (codes " ") (number_text f2.0) (codes "\n") s f1.1 f2.1 rest t1.0 t2.0 t3, record { resistance = t1.1; capacitance = t2.1 }))))
+    let t1 = field_takes (codes "wire ") s f1.0 f1.1 p1 in
+    let t2 = field_takes (codes " ") f1.1 f2.0 f2.1 p2 in
+    let t3 = piece_takes (codes "\n") f2.1 rest p3 in
+    let P : WireLine × List ℕ → Type 0 = λ y. (s ≡ wire_text y.0 ++ y.1) × WireIsShort y.0 in
+    subst P (same_Some _ _ q3)
+    (joined2 (codes "wire ") (number_text f1.0) (codes " ") (number_text f2.0) (codes "\n") s f1.1 f2.1 rest t1.0 t2.0 t3, record { resistance = t1.1; capacitance = t2.1 }))))
 
 pub wire_again : (x : WireLine) (r : List ℕ) → WireIsShort x → wire_at (wire_text x ++ r) ≡ Some (x, r)
 unfolding wire_at wire_text
@@ -116,13 +116,13 @@ limits_takes s x r e =
     option_and_then_some _ _ _ q1 (λ f2 p2 q2.
     option_and_then_some _ _ _ q2 (λ f3 p3 q3.
     option_and_then_some _ _ _ q3 (λ rest p4 q4.
-      let t1 = field_takes (codes "limits ") s f1.0 f1.1 p1 in
-      let t2 = field_takes (codes " ") f1.1 f2.0 f2.1 p2 in
-      let t3 = field_takes (codes " ") f2.1 f3.0 f3.1 p3 in
-      let t4 = piece_takes (codes "\n") f3.1 rest p4 in
-      let P : LimitsLine × List ℕ → Type 0 = λ y. (s ≡ limits_text y.0 ++ y.1) × LimitsAreShort y.0 in
-      subst P (same_Some _ _ q4)
-      (joined3 (codes "limits ") (number_text f1.0) (codes " ") (number_text f2.0) (codes " ") (number_text f3.0) (codes "\n") s f1.1 f2.1 f3.1 rest t1.0 t2.0 t3.0 t4, record { insert = t1.1; load = t2.1; slew = t3.1 })))))
+    let t1 = field_takes (codes "limits ") s f1.0 f1.1 p1 in
+    let t2 = field_takes (codes " ") f1.1 f2.0 f2.1 p2 in
+    let t3 = field_takes (codes " ") f2.1 f3.0 f3.1 p3 in
+    let t4 = piece_takes (codes "\n") f3.1 rest p4 in
+    let P : LimitsLine × List ℕ → Type 0 = λ y. (s ≡ limits_text y.0 ++ y.1) × LimitsAreShort y.0 in
+    subst P (same_Some _ _ q4)
+    (joined3 (codes "limits ") (number_text f1.0) (codes " ") (number_text f2.0) (codes " ") (number_text f3.0) (codes "\n") s f1.1 f2.1 f3.1 rest t1.0 t2.0 t3.0 t4, record { insert = t1.1; load = t2.1; slew = t3.1 })))))
 
 pub limits_again : (x : LimitsLine) (r : List ℕ) → LimitsAreShort x → limits_at (limits_text x ++ r) ≡ Some (x, r)
 unfolding limits_at limits_text
@@ -141,14 +141,14 @@ sink_takes s x r e =
     option_and_then_some _ _ _ q2 (λ f3 p3 q3.
     option_and_then_some _ _ _ q3 (λ f4 p4 q4.
     option_and_then_some _ _ _ q4 (λ rest p5 q5.
-      let t1 = field_takes (codes "sink ") s f1.0 f1.1 p1 in
-      let t2 = field_takes (codes " ") f1.1 f2.0 f2.1 p2 in
-      let t3 = field_takes (codes " ") f2.1 f3.0 f3.1 p3 in
-      let t4 = field_takes (codes " ") f3.1 f4.0 f4.1 p4 in
-      let t5 = piece_takes (codes "\n") f4.1 rest p5 in
-      let P : SinkLine × List ℕ → Type 0 = λ y. (s ≡ sink_text y.0 ++ y.1) × SinkIsShort y.0 in
-      subst P (same_Some _ _ q5)
-      (joined4 (codes "sink ") (number_text f1.0) (codes " ") (number_text f2.0) (codes " ") (number_text f3.0) (codes " ") (number_text f4.0) (codes "\n") s f1.1 f2.1 f3.1 f4.1 rest t1.0 t2.0 t3.0 t4.0 t5, record { id = t1.1; x = t2.1; y = t3.1; capacitance = t4.1 }))))))
+    let t1 = field_takes (codes "sink ") s f1.0 f1.1 p1 in
+    let t2 = field_takes (codes " ") f1.1 f2.0 f2.1 p2 in
+    let t3 = field_takes (codes " ") f2.1 f3.0 f3.1 p3 in
+    let t4 = field_takes (codes " ") f3.1 f4.0 f4.1 p4 in
+    let t5 = piece_takes (codes "\n") f4.1 rest p5 in
+    let P : SinkLine × List ℕ → Type 0 = λ y. (s ≡ sink_text y.0 ++ y.1) × SinkIsShort y.0 in
+    subst P (same_Some _ _ q5)
+    (joined4 (codes "sink ") (number_text f1.0) (codes " ") (number_text f2.0) (codes " ") (number_text f3.0) (codes " ") (number_text f4.0) (codes "\n") s f1.1 f2.1 f3.1 f4.1 rest t1.0 t2.0 t3.0 t4.0 t5, record { id = t1.1; x = t2.1; y = t3.1; capacitance = t4.1 }))))))
 
 pub sink_again : (x : SinkLine) (r : List ℕ) → SinkIsShort x → sink_at (sink_text x ++ r) ≡ Some (x, r)
 unfolding sink_at sink_text
@@ -181,28 +181,29 @@ instance_takes s i e =
     option_and_then_some _ _ _ q5 (λ s6 p6 q6.
     option_and_then_some _ _ _ q6 (λ sink p7 q7.
     option_and_then_some _ _ _ q7 (λ s8 p8 q8.
-      let done = cond_some _ _ _ q8 in
-      let at_end : s8 ≡ [] = nil_from_length s8 ((Decides-eqb _ _).0 done.0) in
-      let t1 = piece_takes (codes "cts 1\n") s s1 p1 in
-      let t2 = die_takes s1 die.0 die.1 p2 in
-      let t3 = source_takes die.1 source.0 source.1 p3 in
-      let t4 = wire_takes source.1 wire.0 wire.1 p4 in
-      let t5 = limits_takes wire.1 limits.0 limits.1 p5 in
-      let t6 = piece_takes (codes "buffers 0\nsinks 1\n") limits.1 s6 p6 in
-      let t7 = sink_takes s6 sink.0 sink.1 p7 in
-      let t8 = piece_takes (codes "blocks 0\nend\n") sink.1 s8 p8 in
-      let P : Instance → Type 0 = λ x. (s ≡ instance_text x) × IsShortInstance x in
-      subst P done.1
-      (joined_parts (codes "cts 1\n") (die_text die.0) (source_text source.0) (wire_text wire.0) (limits_text limits.0)
-        (codes "buffers 0\nsinks 1\n") (sink_text sink.0) (codes "blocks 0\nend\n")
-        s s1 die.1 source.1 wire.1 limits.1 s6 sink.1 s8 t1 t2.0 t3.0 t4.0 t5.0 t6 t7.0 t8 at_end,
-       record { die = t2.1; source = t3.1; wire = t4.1; limits = t5.1; sink = t7.1 })))))))))
+    let done = cond_some _ _ _ q8 in
+    let at_end : s8 ≡ [] = nil_from_length s8 ((Decides-eqb _ _).0 done.0) in
+    let t1 = piece_takes (codes "cts 1\n") s s1 p1 in
+    let t2 = die_takes s1 die.0 die.1 p2 in
+    let t3 = source_takes die.1 source.0 source.1 p3 in
+    let t4 = wire_takes source.1 wire.0 wire.1 p4 in
+    let t5 = limits_takes wire.1 limits.0 limits.1 p5 in
+    let t6 = piece_takes (codes "buffers 0\nsinks 1\n") limits.1 s6 p6 in
+    let t7 = sink_takes s6 sink.0 sink.1 p7 in
+    let t8 = piece_takes (codes "blocks 0\nend\n") sink.1 s8 p8 in
+    let P : Instance → Type 0 = λ x. (s ≡ instance_text x) × IsShortInstance x in
+    subst P done.1 (
+      joined_parts (codes "cts 1\n") (die_text die.0) (source_text source.0) (wire_text wire.0) (limits_text limits.0)
+          (codes "buffers 0\nsinks 1\n") (sink_text sink.0) (codes "blocks 0\nend\n")
+          s s1 die.1 source.1 wire.1 limits.1 s6 sink.1 s8 t1 t2.0 t3.0 t4.0 t5.0 t6 t7.0 t8 at_end,
+      record { die = t2.1; source = t3.1; wire = t4.1; limits = t5.1; sink = t7.1 },
+    )))))))))
 
 pub instance_again : (i : Instance) → IsShortInstance i → instance_at (instance_text i) ≡ Some i
 unfolding instance_at instance_text
 instance_again i h =
     ap instance_at (split_parts (codes "cts 1\n") (die_text i.die) (source_text i.source) (wire_text i.wire) (limits_text i.limits)
-        (codes "buffers 0\nsinks 1\n") (sink_text i.sink) (codes "blocks 0\nend\n"))
+    (codes "buffers 0\nsinks 1\n") (sink_text i.sink) (codes "blocks 0\nend\n"))
     ∙ then_at _ _ _ _ (piece_again (codes "cts 1\n") _)
     (then_at _ _ _ _ (die_again i.die _ h.die)
     (then_at _ _ _ _ (source_again i.source _ h.source)

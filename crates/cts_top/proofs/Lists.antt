@@ -14,6 +14,7 @@ pub two_words : {A : Type 0} (f : A → List ℕ) (xs : List A) (a b : A) (x y :
     → xs ≡ a ∷ b ∷ [] → f a ≡ x → Decides r (f b ≡ y)
     → (IsTrue r → map f xs ≡ x ∷ y ∷ []) × (map f xs ≡ x ∷ y ∷ [] → IsTrue r)
 two_words f xs a b x y r e p d =
-    let m : map f xs ≡ f a ∷ f b ∷ [] = ap (map f) e in
-    (λ t. let q : f b ≡ y = d.0 (search rules) in cc,
-     λ h. let q : f b ≡ y = cc in let t : r ≡ true = d.1 q in search rules)
+    let m : map f xs ≡ f a ∷ f b ∷ [] = ap (map f) e in (
+      λ t. let q : f b ≡ y = d.0 (search rules) in cc,
+      λ h. let q : f b ≡ y = cc in let t : r ≡ true = d.1 q in search rules,
+    )

@@ -65,11 +65,14 @@ pub record IsWritten (n : ℕ) (ds : List ℕ) : Type 0 where
 pub digits_of_number : (n : ℕ) → (ds : List ℕ) × IsWritten n ds
 unfolding number_text digits_text whole_text
 digits_of_number zero = (0 ∷ [], record { text = decimal_text-zero 0; below = (lit< tt, tt); value = refl })
-digits_of_number (suc n) = (digits_of 10 (suc n), record {
-  text = decimal_text-zero (suc n) ∙ whole_text-digits (suc n) (omega arith);
-  below = all_below_base_digits_of 10 (suc n) (lit≤ tt);
-  value = number_digits_of 10 (suc n) (lit≤ tt);
-})
+digits_of_number (suc n) = (
+  digits_of 10 (suc n),
+  record {
+    text = decimal_text-zero (suc n) ∙ whole_text-digits (suc n) (omega arith);
+    below = all_below_base_digits_of 10 (suc n) (lit≤ tt);
+    value = number_digits_of 10 (suc n) (lit≤ tt);
+  },
+)
 
 pub digits_at-number : (n : ℕ) (r : List ℕ) → digits_at r ≡ [] → digits_at (number_text n ++ r) ≡ number_text n
 digits_at-number n r e =
@@ -93,9 +96,10 @@ number_takes s n r e =
     let tests = and_parts _ _ parts.0 in
     let more = and_parts _ _ tests.1 in
     let text : digits_at s ≡ number_text (value_after 0 (digits_at s)) = (bytes_eq-Decides (digits_at s) _).0 more.1 in
-    let small : value_after 0 (digits_at s) < 10 ^ 5 = (Decides-ltb _ _).0 more.0 in
-    (digits_at-front s ∙ ap (λ t. digits_at s ++ t) same.1 ∙ ap (λ t. t ++ r) (text ∙ ap number_text same.0),
-     let P : ℕ → Type 0 = λ m. m < 10 ^ 5 in subst P same.0 small)
+    let small : value_after 0 (digits_at s) < 10 ^ 5 = (Decides-ltb _ _).0 more.0 in (
+      digits_at-front s ∙ ap (λ t. digits_at s ++ t) same.1 ∙ ap (λ t. t ++ r) (text ∙ ap number_text same.0),
+      let P : ℕ → Type 0 = λ m. m < 10 ^ 5 in subst P same.0 small,
+    )
 
 pub number_again : (n : ℕ) (r : List ℕ) → n < 10 ^ 5 → digits_at r ≡ [] → number_at (number_text n ++ r) ≡ Some (n, r)
 unfolding number_at
@@ -103,17 +107,17 @@ number_again n r h e =
     rw (digits_at-number n r e, value_after-number n)
     (rw (front_rest (number_text n ++ r) (number_text n) r refl)
     (let short : nat_le (length (number_text n)) 5 ≡ true = grind (arith, nat_tests, length-number_text n h) in
-     let small : nat_lt n (10 ^ 5) ≡ true = (Decides-ltb _ _).1 h in
-     let same : bytes_eq (number_text n) (number_text n) ≡ true = (bytes_eq-Decides (number_text n) _).1 refl in
-     rw (short, small, same) refl))
+    let small : nat_lt n (10 ^ 5) ≡ true = (Decides-ltb _ _).1 h in
+    let same : bytes_eq (number_text n) (number_text n) ≡ true = (bytes_eq-Decides (number_text n) _).1 refl in
+    rw (short, small, same) refl))
 
 pub field_takes : (lead s : List ℕ) (n : ℕ) (r : List ℕ) → field_at lead s ≡ Some (n, r) → (s ≡ lead ++ (number_text n ++ r)) × (n < 10 ^ 5)
 unfolding field_at
 field_takes lead s n r e =
     option_and_then_some number_at (piece_at lead s) (n, r) e
     (λ rest p q.
-      let read = number_takes rest n r q in
-      (piece_takes lead s rest p ∙ ap (λ t. lead ++ t) read.0, read.1))
+    let read = number_takes rest n r q in
+    (piece_takes lead s rest p ∙ ap (λ t. lead ++ t) read.0, read.1))
 
 -- the next step of a reading that goes on
 pub then_at : {A B : Type 0} (f : A → Option B) (o : Option A) (x : A) (y : Option B) → o ≡ Some x → f x ≡ y → option_and_then f o ≡ y

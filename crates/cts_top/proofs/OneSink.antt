@@ -37,7 +37,6 @@ plain_tree i = record {
   };
 }
 
-
 pub tree_of-plain : (i : Instance) → tree_of i ≡ plain_tree i
 unfolding tree_of
 tree_of-plain i = simp (zero-add, add-zero, mul-zero, max-zero, sub_self, and-true)

@@ -100,5 +100,5 @@ instance_at bytes = do
   sink ← sink_at middle
   rest ← piece_at (codes "blocks 0\nend\n") sink.1
   if nat_eq (length rest) 0
-    then Some (record { die = die.0; source = source.0; wire = wire.0; limits = limits.0; sink = sink.0 })
-    else None
+      then Some (record { die = die.0; source = source.0; wire = wire.0; limits = limits.0; sink = sink.0 })
+      else None

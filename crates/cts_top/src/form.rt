@@ -1,8 +1,6 @@
 //! The one form of an instance that is read so far: ten lines with one sink, each number in whole
 //! µm, ohm, fF or ps.
 
-
-
 /// The rectangle in which the tree lies, in µm.
 #[derive(Clone, Copy)]
 pub struct DieLine {
@@ -53,4 +51,3 @@ pub struct Instance {
     pub limits: LimitsLine,
     pub sink: SinkLine,
 }
-

@@ -106,7 +106,13 @@ fn wire_at(bytes: &[u8]) -> Option<(WireLine, &[u8])>
     let (resistance, rest) = field_at(b"wire ", bytes)?;
     let (capacitance, rest) = field_at(b" ", rest)?;
     let rest = piece_at(b"\n", rest)?;
-    Some((WireLine { resistance, capacitance }, rest))
+    Some((
+        WireLine {
+            resistance,
+            capacitance,
+        },
+        rest,
+    ))
 }
 
 /// The line `limits`, and the bytes after it.
@@ -131,7 +137,15 @@ fn sink_at(bytes: &[u8]) -> Option<(SinkLine, &[u8])>
     let (y, rest) = field_at(b" ", rest)?;
     let (capacitance, rest) = field_at(b" ", rest)?;
     let rest = piece_at(b"\n", rest)?;
-    Some((SinkLine { id, x, y, capacitance }, rest))
+    Some((
+        SinkLine {
+            id,
+            x,
+            y,
+            capacitance,
+        },
+        rest,
+    ))
 }
 
 /// The instance whose text the bytes are, as far as the grammar goes.
@@ -195,5 +209,4 @@ pub fn read_instance(bytes: &[u8]) -> Option<Instance>
 /// No bytes are the text of two instances that are served.
 pub fn one_instance()
     ensures { (bytes : List ℕ) (i j : Instance) → IsServed bytes i → IsServed bytes j → i ≡ j }
-{
-}
+{}

@@ -79,7 +79,13 @@ fn put_place<K: ByteSink>(out: &mut SinkBuffer, sink: &mut K, label: &[u8], plac
 
 /// A piece of text, and then a number of units of 10^-`places`.
 #[tactic(auto, unfolding(crate::specs::Report::labelled))]
-fn put_number<K: ByteSink>(out: &mut SinkBuffer, sink: &mut K, label: &[u8], value: u128, places: u32)
+fn put_number<K: ByteSink>(
+    out: &mut SinkBuffer,
+    sink: &mut K,
+    label: &[u8],
+    value: u128,
+    places: u32,
+)
     requires value { value < 10 ^ 38 }
     requires places { places ≤ 16 }
     ensures { Puts K.held K.faults sink.old out.old sink.new out.new (labelled label.now (decimal_text places value)) }

@@ -119,12 +119,12 @@ pub fn run_alone<R: Threads + Sync, S: ByteSource, K: ByteSink, N: ByteSink>(
     ensures complete { IsSynth words.now → (Rose (S.faults source.old) (S.faults source.new) → ⊥)
         → (Rose (K.faults sink.old) (K.faults sink.new) → ⊥)
         → IfSome (S.left source.old) (λ bytes. (i : Instance) → IsServed bytes i
-            → (result.status ≡ Status.Done) ⊎ (result.status ≡ Status.NoMemory)) }
+        → (result.status ≡ Status.Done) ⊎ (result.status ≡ Status.NoMemory)) }
 
     // .. and any other input is refused.
     ensures refuses { IsSynth words.now → (Rose (S.faults source.old) (S.faults source.new) → ⊥)
         → IfSome (S.left source.old) (λ bytes. IsRefused bytes
-            → (result.status ≡ Status.Refused) ⊎ (result.status ≡ Status.NoMemory)) }
+        → (result.status ≡ Status.Refused) ⊎ (result.status ≡ Status.NoMemory)) }
 
     ensures note { (Rose (N.faults notes.old) (N.faults notes.new) → ⊥)
         → (text : List ℕ) × IsNote (S.left source.old) result.status text × Appends (N.held notes.old) (N.held notes.new) text }

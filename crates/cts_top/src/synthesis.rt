@@ -73,18 +73,16 @@ fn totals(limits: &LimitsLine, leaf: &Leaf, source_load: u64) -> Totals
     requires load { limits.now.load < 10 ^ 5 }
     requires slew { limits.now.slew < 10 ^ 5 }
     requires stage { leaf.now.stage ≤ 2 ^ 111 }
-    ensures {
-        result ≡ record {
-            source_load = source_load;
-            wire_total = leaf.now.wire;
-            greatest = leaf.now.delay;
-            least = leaf.now.delay;
-            skew = 0;
-            bound = 0;
-            load_met = nat_le source_load (10 ^ 6 * limits.now.load);
-            slew_met = nat_le (slew_of leaf.now.stage) (10 * (10 ^ 15 * limits.now.slew));
-        }
-    }
+    ensures { result ≡ record {
+      source_load = source_load;
+      wire_total = leaf.now.wire;
+      greatest = leaf.now.delay;
+      least = leaf.now.delay;
+      skew = 0;
+      bound = 0;
+      load_met = nat_le source_load (10 ^ 6 * limits.now.load);
+      slew_met = nat_le (slew_of leaf.now.stage) (10 * (10 ^ 15 * limits.now.slew));
+    } }
 {
     let load_limit = UNITS_PER_OHM_OR_FF * u64::from(limits.load);
     let slew_limit = UNITS_PER_PS * u128::from(limits.slew);

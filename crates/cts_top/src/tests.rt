@@ -6,22 +6,29 @@ use std::alloc::{AllocError, Global};
 use std::test::Fail;
 use std::thread::Threads;
 
-const INPUT: &[u8] = b"cts 1\ndie 0 0 20 20\nsource 0 0 0\nwire 1 1\nlimits 100 100 100\nbuffers 0\nsinks 1\nsink 1 3 4 5\nblocks 0\nend\n";
+const INPUT: &[u8] =
+    b"cts 1\ndie 0 0 20 20\nsource 0 0 0\nwire 1 1\nlimits 100 100 100\nbuffers 0\nsinks 1\nsink 1 3 4 5\nblocks 0\nend\n";
 
-const REPORT: &[u8] = b"cts report 1\nnodes 1\nnode 0 leaf 1 at 3.0000 4.0000 load 5.000000 delay 0.0595000000000000 slew 0.1309000000000000 wire 7.000 via 1 3.0000 0.0000\nsource load 12.000000\nwire total 7.000\ndelay greatest 0.0595000000000000\ndelay least 0.0595000000000000\nskew 0.0000000000000000\nbound 0.0000000000000000\nload met yes\nslew met yes\nend\n";
+const REPORT: &[u8] =
+    b"cts report 1\nnodes 1\nnode 0 leaf 1 at 3.0000 4.0000 load 5.000000 delay 0.0595000000000000 slew 0.1309000000000000 wire 7.000 via 1 3.0000 0.0000\nsource load 12.000000\nwire total 7.000\ndelay greatest 0.0595000000000000\ndelay least 0.0595000000000000\nskew 0.0000000000000000\nbound 0.0000000000000000\nload met yes\nslew met yes\nend\n";
 
 // The source drives 12 fF through 2 ohm, which adds 48 to the doubled 119.
-const DRIVEN_INPUT: &[u8] = b"cts 1\ndie 0 0 20 20\nsource 0 0 2\nwire 1 1\nlimits 100 100 100\nbuffers 0\nsinks 1\nsink 1 3 4 5\nblocks 0\nend\n";
+const DRIVEN_INPUT: &[u8] =
+    b"cts 1\ndie 0 0 20 20\nsource 0 0 2\nwire 1 1\nlimits 100 100 100\nbuffers 0\nsinks 1\nsink 1 3 4 5\nblocks 0\nend\n";
 
-const DRIVEN_REPORT: &[u8] = b"cts report 1\nnodes 1\nnode 0 leaf 1 at 3.0000 4.0000 load 5.000000 delay 0.0835000000000000 slew 0.1837000000000000 wire 7.000 via 1 3.0000 0.0000\nsource load 12.000000\nwire total 7.000\ndelay greatest 0.0835000000000000\ndelay least 0.0835000000000000\nskew 0.0000000000000000\nbound 0.0000000000000000\nload met yes\nslew met yes\nend\n";
+const DRIVEN_REPORT: &[u8] =
+    b"cts report 1\nnodes 1\nnode 0 leaf 1 at 3.0000 4.0000 load 5.000000 delay 0.0835000000000000 slew 0.1837000000000000 wire 7.000 via 1 3.0000 0.0000\nsource load 12.000000\nwire total 7.000\ndelay greatest 0.0835000000000000\ndelay least 0.0835000000000000\nskew 0.0000000000000000\nbound 0.0000000000000000\nload met yes\nslew met yes\nend\n";
 
 // The sink stands at the source.
-const NEAR_INPUT: &[u8] = b"cts 1\ndie 0 0 20 20\nsource 0 0 0\nwire 1 1\nlimits 100 100 100\nbuffers 0\nsinks 1\nsink 1 0 0 5\nblocks 0\nend\n";
+const NEAR_INPUT: &[u8] =
+    b"cts 1\ndie 0 0 20 20\nsource 0 0 0\nwire 1 1\nlimits 100 100 100\nbuffers 0\nsinks 1\nsink 1 0 0 5\nblocks 0\nend\n";
 
-const NEAR_REPORT: &[u8] = b"cts report 1\nnodes 1\nnode 0 leaf 1 at 0.0000 0.0000 load 5.000000 delay 0.0000000000000000 slew 0.0000000000000000 wire 0.000 via 0\nsource load 5.000000\nwire total 0.000\ndelay greatest 0.0000000000000000\ndelay least 0.0000000000000000\nskew 0.0000000000000000\nbound 0.0000000000000000\nload met yes\nslew met yes\nend\n";
+const NEAR_REPORT: &[u8] =
+    b"cts report 1\nnodes 1\nnode 0 leaf 1 at 0.0000 0.0000 load 5.000000 delay 0.0000000000000000 slew 0.0000000000000000 wire 0.000 via 0\nsource load 5.000000\nwire total 0.000\ndelay greatest 0.0000000000000000\ndelay least 0.0000000000000000\nskew 0.0000000000000000\nbound 0.0000000000000000\nload met yes\nslew met yes\nend\n";
 
 // The source load of 12 fF and the slew of 0.1309 ps are above these limits.
-const OVER_INPUT: &[u8] = b"cts 1\ndie 0 0 20 20\nsource 0 0 0\nwire 1 1\nlimits 100 11 0\nbuffers 0\nsinks 1\nsink 1 3 4 5\nblocks 0\nend\n";
+const OVER_INPUT: &[u8] =
+    b"cts 1\ndie 0 0 20 20\nsource 0 0 0\nwire 1 1\nlimits 100 11 0\nbuffers 0\nsinks 1\nsink 1 3 4 5\nblocks 0\nend\n";
 
 const USAGE: &[u8] = b"usage: cts synth W, check, edit, make SEED N, job SEED N W\n";
 
@@ -55,12 +62,7 @@ struct Run {
 }
 
 fn sink(alloc: Global, failing: &[u64], most: usize) -> Result<MemSink, Fail> {
-    Ok(MemSink::new(
-        alloc,
-        4_096,
-        failing.to_vec(alloc)?,
-        most.max(1),
-    )?)
+    Ok(MemSink::new(alloc, 4_096, failing.to_vec(alloc)?, most.max(1))?)
 }
 
 fn run_over<R: AllocGlobal + Threads + Sync>(

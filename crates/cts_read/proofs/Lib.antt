@@ -1,0 +1,5 @@
+pub mod Contents
+pub mod Counts
+pub mod ListSteps
+pub mod Places
+pub mod WordLists

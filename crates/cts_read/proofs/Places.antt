@@ -1,0 +1,36 @@
+-- A place in a text, after one more line.
+use Rattle.std.proofs.Common.{◌≡◌, ℕ, ◌+◌, ◌-◌, ◌<◌, ◌≤◌, List, [], ◌∷◌, ◌++◌, length, drop, refl, sym, ap, ◌∙◌, arith, length-append, append_assoc}
+use Rattle.std.proofs.lemmas.List.{drop-drop}
+use Rattle.std.proofs.lemmas.List.Prefix.{front_rest}
+use Rattle.cts_io.specs.Lines.{lines_of}
+use Rattle.cts_read.specs.Place.{Place, IsPlace}
+
+pub place_at_start : (text : List ℕ) → IsPlace (record { text = text; rest = text; line = 0 })
+place_at_start text = record {
+  within = omega arith;
+  rest = ap (λ n. drop n text) (let none : length text - length text ≡ 0 = omega arith in none);
+  lines = refl;
+}
+
+-- the end of a list, after more of its front
+drop_front : {A : Type 0} (text front rest : List A) (k n : ℕ) → drop k text ≡ front ++ rest → n ≡ k + length front → drop n text ≡ rest
+drop_front text front rest k n e m =
+    rw m (sym (drop-drop (length front) k text) ∙ ap (drop (length front)) e ∙ front_rest (front ++ rest) front rest refl)
+
+further : (text rest front more : ℕ) → rest ≤ text → rest ≡ front + more → text - more ≡ text - rest + front
+further text rest front more h e = omega arith
+
+-- the place after one more line
+pub place_after : (text rest : List ℕ) (line : ℕ) (l end rest' : List ℕ) (line' : ℕ) → IsPlace (record { text = text; rest = rest; line = line })
+    → rest ≡ l ++ end ++ rest' → lines_of rest ≡ l ∷ lines_of rest' → line' ≡ line + 1 → IsPlace (record { text = text; rest = rest'; line = line' })
+place_after text rest line l end rest' line' p e first next =
+    let parts : length rest ≡ length (l ++ end) + length rest' = ap length e ∙ length-append (l ++ end) rest' in
+    record {
+      within = omega (arith, p.within);
+      rest = drop_front text (l ++ end) rest' (length text - length rest) (length text - length rest') (p.rest ∙ e)
+          (further (length text) (length rest) (length (l ++ end)) (length rest') p.within parts);
+      lines = sym (drop_front (lines_of text) (l ∷ []) (lines_of rest') line line' (sym p.lines ∙ first) next);
+    }
+
+pub place_same : (p q : Place) → q ≡ p → IsPlace p → IsPlace q
+place_same p q e h = rw e h

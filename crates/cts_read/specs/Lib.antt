@@ -1,0 +1,6 @@
+pub mod Place
+pub mod Lines
+pub mod Grammar
+pub mod Header
+pub mod Items
+pub mod Whole

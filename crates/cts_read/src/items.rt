@@ -1,0 +1,129 @@
+//! The lines of the lists: buffers, sinks and blocks.
+
+ghost use Rattle.std.specs.Prelude.{◌≡◌, ◌-◌, ◌^◌, ◌<◌, None, IfOk};
+ghost use Rattle.cts_instance.specs.FirstFault.{block_count_fault, buffer_count_fault, sink_count_fault};
+ghost use Rattle.cts_read.specs.Grammar.{Finds};
+ghost use Rattle.cts_read.specs.Items.{block_count_of, block_numbers, buffer_count_of, buffer_numbers, count_of, end_of, kind_of, sink_count_of, sink_numbers};
+ghost use Rattle.cts_read.specs.Lines.{words_of};
+
+use crate::fields::{fields, number, refuse};
+use crate::stop::Cause;
+use crate::words::word_at;
+use cts_block::{Block, Kind};
+use cts_instance::lines::{block_count_fault, buffer_count_fault, sink_count_fault};
+use cts_units::{Buffer, Sink};
+
+/// A line that says how many lines of a list follow.
+#[tactic(auto, unfolding(crate::specs::Items::count_of))]
+fn count_of(key: &[u8], line: &[u8]) -> Result<usize, Cause>
+    ensures { result ≡ count_of key.now line.now }
+{
+    let rest = fields(key, 1, line)?;
+    let (count, _) = number(0, rest)?;
+    Ok(count as usize)
+}
+
+#[tactic(auto, unfolding(crate::specs::Items::buffer_count_of), using(crate::proofs::Counts::buffer_count_small))]
+pub fn buffer_count_of(line: &[u8]) -> Result<usize, Cause>
+    ensures read { result ≡ buffer_count_of line.now }
+    ensures sound { IfOk result (λ count. buffer_count_fault count ≡ None) }
+    ensures bound { IfOk result (λ count. count < 2 ^ 32) }
+{
+    let count = count_of(b"buffers", line)?;
+    refuse(buffer_count_fault(count))?;
+    Ok(count)
+}
+
+#[tactic(auto, unfolding(crate::specs::Items::sink_count_of), using(crate::proofs::Counts::sink_count_small))]
+pub fn sink_count_of(line: &[u8]) -> Result<usize, Cause>
+    ensures read { result ≡ sink_count_of line.now }
+    ensures sound { IfOk result (λ count. sink_count_fault count ≡ None) }
+    ensures bound { IfOk result (λ count. count < 2 ^ 32) }
+{
+    let count = count_of(b"sinks", line)?;
+    refuse(sink_count_fault(count))?;
+    Ok(count)
+}
+
+#[tactic(auto, unfolding(crate::specs::Items::block_count_of), using(crate::proofs::Counts::block_count_small))]
+pub fn block_count_of(line: &[u8]) -> Result<usize, Cause>
+    ensures read { result ≡ block_count_of line.now }
+    ensures sound { IfOk result (λ count. block_count_fault count ≡ None) }
+    ensures bound { IfOk result (λ count. count < 2 ^ 32) }
+{
+    let count = count_of(b"blocks", line)?;
+    refuse(block_count_fault(count))?;
+    Ok(count)
+}
+
+#[tactic(auto, unfolding(crate::specs::Items::buffer_numbers))]
+pub fn buffer_numbers(line: &[u8]) -> Result<Buffer, Cause>
+    ensures { result ≡ buffer_numbers line.now }
+{
+    let rest = fields(b"buffer", 3, line)?;
+    let (cin, rest) = number(6, rest)?;
+    let (rout, rest) = number(6, rest)?;
+    let (intrinsic, _) = number(15, rest)?;
+    Ok(Buffer {
+        cin,
+        rout,
+        intrinsic,
+    })
+}
+
+#[tactic(auto, unfolding(crate::specs::Items::sink_numbers))]
+pub fn sink_numbers(line: &[u8]) -> Result<Sink, Cause>
+    ensures { result ≡ sink_numbers line.now }
+{
+    let rest = fields(b"sink", 4, line)?;
+    let (id, rest) = number(0, rest)?;
+    let (x, rest) = number(3, rest)?;
+    let (y, rest) = number(3, rest)?;
+    let (cap, _) = number(6, rest)?;
+    Ok(Sink {
+        id: id.min(u64::from(u32::MAX)) as u32,
+        x: x as i64,
+        y: y as i64,
+        cap,
+    })
+}
+
+/// The kind of a block, and what comes after it.
+#[tactic(auto, unfolding(crate::specs::Items::kind_of))]
+fn kind_of(words: &[u8]) -> Result<(Kind, &[u8]), Cause>
+    ensures { Finds (λ x. (x.0, words_of x.1.now)) result (kind_of (words_of words.now)) }
+{
+    match word_at(words) {
+        Some((word, rest)) if word == b"buffer".as_slice() => Ok((Kind::Buffer, rest)),
+        Some((word, rest)) if word == b"all".as_slice() => Ok((Kind::All, rest)),
+        _ => Err(Cause::Word),
+    }
+}
+
+#[tactic(auto, unfolding(crate::specs::Items::block_numbers))]
+pub fn block_numbers(line: &[u8]) -> Result<Block, Cause>
+    ensures { result ≡ block_numbers line.now }
+{
+    let rest = fields(b"block", 5, line)?;
+    let (kind, rest) = kind_of(rest)?;
+    let (x1, rest) = number(3, rest)?;
+    let (y1, rest) = number(3, rest)?;
+    let (x2, rest) = number(3, rest)?;
+    let (y2, _) = number(3, rest)?;
+    Ok(Block {
+        kind,
+        x1: x1 as i64,
+        y1: y1 as i64,
+        x2: x2 as i64,
+        y2: y2 as i64,
+    })
+}
+
+/// The line that ends an instance.
+#[tactic(auto, unfolding(crate::specs::Items::end_of))]
+pub fn end_of(line: &[u8]) -> Result<(), Cause>
+    ensures { result ≡ end_of line.now }
+{
+    fields(b"end", 0, line)?;
+    Ok(())
+}
