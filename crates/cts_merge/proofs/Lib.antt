@@ -1,4 +1,6 @@
 pub mod BalancePairs
+pub mod Boxes
+pub mod Flat
 pub mod MergePairs
 pub mod Merges
 pub mod Regions

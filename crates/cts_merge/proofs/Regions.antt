@@ -5,7 +5,8 @@ use Rattle.std.specs.Int.{int_min, int_max}
 use Rattle.cts_geom.specs.declared.regions.Region.{Region}
 use Rattle.cts_geom.specs.Regions.{IsMeet, gap_of}
 use Rattle.cts_geom.proofs.RegionLemmas.{IsReachedBoth, reached_from_gap, meet_is}
-use Rattle.cts_merge.specs.Laws.{HasEnds, MergedRegionHasEnds}
+use Rattle.cts_merge.specs.MergingRegion.{HasEnds}
+use Rattle.cts_merge.specs.Laws.{MergedRegionHasEnds}
 use Rattle.cts_merge.proofs.Merges.{meet_unique}
 
 ends_along : (a : Region) (ea : ℕ) (b : Region) (eb : ℕ) (box region : Region) → region ≡ box

@@ -1,7 +1,6 @@
 -- What the definitions of this crate say of one another.
-use Rattle.std.specs.Prelude.{◌≡◌, ℕ, ◌+◌, ◌*◌, ◌≤◌, max, pos, ◌+ℤ◌, ◌-ℤ◌}
-use Rattle.std.specs.Int.{abs_diff, int_min, int_max}
-use Rattle.cts_geom.specs.declared.regions.Region.{Region}
+use Rattle.std.specs.Prelude.{◌≡◌, ℕ, ◌+◌, ◌*◌, ◌≤◌, max, ℤ}
+use Rattle.std.specs.Int.{abs_diff}
 use Rattle.cts_units.specs.declared.params.Sink.{Sink}
 use Rattle.cts_units.specs.declared.params.Wire.{Wire}
 use Rattle.cts_units.specs.declared.params.Params.{Params}
@@ -10,6 +9,7 @@ use Rattle.cts_merge.specs.declared.side.Side.{Side}
 use Rattle.cts_merge.specs.declared.side.Finished.{Finished}
 use Rattle.cts_merge.specs.LeastPair.{HasLeastPair, Spans, Covers}
 use Rattle.cts_merge.specs.Side.{delay_through}
+use Rattle.cts_merge.specs.MergingRegion.{HasEnds, IsFlat, LiesInBox}
 use Rattle.cts_merge.specs.Merge.{IsLeaf, IsMergePair, IsMerged, IsBeyond}
 use Rattle.cts_merge.specs.Balance.{IsBalancePair, IsBeyondBalance, IsBalanced}
 
@@ -69,15 +69,21 @@ BalancedIsNotBeyond =
     (wire : Wire) (a : Side) (la : ℕ) (b : Side) (lb xa xb : ℕ) → IsBalanced wire a la b lb xa xb
     → IsBeyondBalance wire a la b lb → ⊥
 
--- The four ends of a region: those of what two rectangles share, each widened by its length.
-pub record HasEnds (a : Region) (ea : ℕ) (b : Region) (eb : ℕ) (region : Region) : Type 0 where
-  pub u1 : region.u1 ≡ int_max (a.u1 -ℤ pos ea) (b.u1 -ℤ pos eb)
-  pub u2 : region.u2 ≡ int_min (a.u2 +ℤ pos ea) (b.u2 +ℤ pos eb)
-  pub v1 : region.v1 ≡ int_max (a.v1 -ℤ pos ea) (b.v1 -ℤ pos eb)
-  pub v2 : region.v2 ≡ int_min (a.v2 +ℤ pos ea) (b.v2 +ℤ pos eb)
-
 -- the merging region by its four ends
 abbrev pub MergedRegionHasEnds : Type 0
 MergedRegionHasEnds =
     (params : Params) (a b : Side) (p : Finished) → IsMerged params a b p
     → HasEnds a.region p.ea b.region p.eb p.side.region
+
+-- merging keeps points and segments at 45 degrees to the axes
+abbrev pub MergingKeepsFlat : Type 0
+MergingKeepsFlat =
+    (params : Params) (a b : Side) (p : Finished) → IsMerged params a b p → IsFlat a.region → IsFlat b.region
+    → IsFlat p.side.region
+
+-- a merging region lies in every box that holds both regions
+abbrev pub MergingStaysInBox : Type 0
+MergingStaysInBox =
+    (params : Params) (a b : Side) (p : Finished) → IsMerged params a b p
+    → (x1 x2 y1 y2 : ℤ) → LiesInBox x1 x2 y1 y2 a.region → LiesInBox x1 x2 y1 y2 b.region
+    → LiesInBox x1 x2 y1 y2 p.side.region

@@ -2,5 +2,6 @@ pub mod Balance
 pub mod Laws
 pub mod LeastPair
 pub mod Merge
+pub mod MergingRegion
 pub mod Side
 pub mod Stretch

@@ -12,6 +12,8 @@ ghost use Rattle.cts_merge.specs.Laws.{
   MergedIsNotBeyond,
   BalancedIsNotBeyond,
   MergedRegionHasEnds,
+  MergingKeepsFlat,
+  MergingStaysInBox,
 };
 
 /// Twice the difference of the two delays of a least pair (ea, eb) over a gap is at most
@@ -69,4 +71,14 @@ pub fn balanced_is_not_beyond()
 /// The merging region of a pair is what the two regions share when each is widened by its length.
 pub fn merged_region_has_ends()
     ensures { MergedRegionHasEnds }
+{}
+
+/// The merging region of two points, or of segments at 45 degrees, is a point or such a segment.
+pub fn merging_keeps_flat()
+    ensures { MergingKeepsFlat }
+{}
+
+/// The merging region lies in every box of x and y that holds both regions.
+pub fn merging_stays_in_box()
+    ensures { MergingStaysInBox }
 {}

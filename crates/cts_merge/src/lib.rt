@@ -4,7 +4,8 @@
 //! A layer above hands in two sides and takes what [`merge`] makes of them, or [`Beyond`]; it cites
 //! the definitions of `specs/`: `LeastPair` for the order of pairs of lengths and for which pairs are
 //! admissible, `Merge` and `Balance` for what the calls answer. They range over all lengths, without a
-//! limit. `laws` says that they have one answer, and bounds the difference of delays that is left.
+//! limit. `laws` says that they have one answer, bounds the difference of delays that is left, and says
+//! how a merging region lies to the two regions.
 //!
 //! Lengths are in nm, loads in zF, and delays are doubled, in 10^-27 s. No call takes memory.
 #![tactic(auto)]
