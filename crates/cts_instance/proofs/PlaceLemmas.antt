@@ -2,16 +2,20 @@
 use Rattle.std.proofs.Common.{◌^◌, ℤ, pos, ◌*ℤ◌, ◌≤ℤ◌, ◌<ℤ◌, arith}
 use Rattle.std.proofs.lemmas.Int.{ints}
 use Rattle.cts_geom.specs.declared.bounds.Die.{Die}
+use Rattle.cts_units.specs.Limits.{IsParams}
 use Rattle.cts_geom.specs.Coordinate.{IsCoordinate}
 use Rattle.cts_block.specs.declared.blocks.Block.{Block}
 use Rattle.cts_block.specs.FreePoints.{IsInDie as IsHalfInDie, IsInside as IsHalfInside}
 use Rattle.cts_instance.specs.declared.parts.Parts.{Parts}
 use Rattle.cts_instance.specs.Places.{IsInDie, IsInside}
 use Rattle.cts_instance.specs.Validity.{IsValid}
-use Rattle.cts_instance.specs.Laws.{half_at, HasCoordinates, HasFreePlaces}
+use Rattle.cts_instance.specs.Laws.{half_at, IsOnChip, HasPlacesOnChip, HasCoordinates, HasFreePlaces}
 
-coordinate : (low z high : ℤ) → pos 0 ≤ℤ low → low ≤ℤ z → z ≤ℤ high → high ≤ℤ pos (10 ^ 8) → IsCoordinate z
-coordinate low z high a b c d = record { low = omega (arith, ints); high = omega (arith, ints) }
+on_chip : (low z high : ℤ) → pos 0 ≤ℤ low → low ≤ℤ z → z ≤ℤ high → high ≤ℤ pos (10 ^ 8) → IsOnChip z
+on_chip low z high a b c d = record { low = omega (arith, ints); high = omega (arith, ints) }
+
+coordinate : (z : ℤ) → IsOnChip z → IsCoordinate z
+coordinate z p = record { low = omega (arith, ints); high = omega (arith, ints) }
 
 twice_le : (a b : ℤ) → a ≤ℤ b → (pos 2 *ℤ a) ≤ℤ (pos 2 *ℤ b)
 twice_le a b h = omega (arith, ints)
@@ -33,12 +37,28 @@ half_inside block x y p = record {
   north = half_lt _ _ p.y.below;
 }
 
+pub has_places_on_chip : (parts : Parts) → IsValid parts → HasPlacesOnChip parts
+has_places_on_chip parts v = record {
+  source_x = on_chip _ _ _ v.die.x_low v.source.west v.source.east v.die.x_high;
+  source_y = on_chip _ _ _ v.die.y_low v.source.south v.source.north v.die.y_high;
+  sinks_x = λ k d inside. let s = (v.sinks k d inside).in_die in on_chip _ _ _ v.die.x_low s.west s.east v.die.x_high;
+  sinks_y = λ k d inside. let s = (v.sinks k d inside).in_die in on_chip _ _ _ v.die.y_low s.south s.north v.die.y_high;
+}
+
 pub has_coordinates : (parts : Parts) → IsValid parts → HasCoordinates parts
-has_coordinates parts v = record {
-  source_x = coordinate parts.die.x1 parts.source_x parts.die.x2 v.die.x_low v.source.west v.source.east v.die.x_high;
-  source_y = coordinate parts.die.y1 parts.source_y parts.die.y2 v.die.y_low v.source.south v.source.north v.die.y_high;
-  sinks_x = λ k d inside. let s = (v.sinks k d inside).in_die in coordinate _ _ _ v.die.x_low s.west s.east v.die.x_high;
-  sinks_y = λ k d inside. let s = (v.sinks k d inside).in_die in coordinate _ _ _ v.die.y_low s.south s.north v.die.y_high;
+has_coordinates parts v = let p = has_places_on_chip parts v in record {
+  source_x = coordinate _ p.source_x;
+  source_y = coordinate _ p.source_y;
+  sinks_x = λ k d inside. coordinate _ (p.sinks_x k d inside);
+  sinks_y = λ k d inside. coordinate _ (p.sinks_y k d inside);
+}
+
+pub params_in_range : (parts : Parts) → IsValid parts → IsParams parts.params
+params_in_range parts v = record {
+  wire = v.wire;
+  count = v.buffer_count;
+  buffers = v.buffers;
+  insert_at = v.limits.threshold;
 }
 
 pub has_free_places : (parts : Parts) → IsValid parts → HasFreePlaces parts

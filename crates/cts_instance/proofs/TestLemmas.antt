@@ -9,13 +9,13 @@ use Rattle.cts_geom.specs.declared.bounds.Die.{Die}
 use Rattle.cts_units.specs.declared.params.Sink.{Sink}
 use Rattle.cts_units.specs.declared.params.Wire.{Wire}
 use Rattle.cts_units.specs.declared.params.Buffer.{Buffer}
-use Rattle.cts_units.specs.Limits.{IsWire}
+use Rattle.cts_units.specs.Limits.{IsWire, IsBuffer}
 use Rattle.cts_block.specs.declared.blocks.Block.{Block}
 use Rattle.cts_block.specs.declared.blocks.Kind.{Kind}
 use Rattle.cts_block.specs.declared.blocks.Kind.TheVariants.{Buffer as of_buffers, All as of_all}
 use Rattle.cts_block.specs.FreePoints.{StopsWires}
 use Rattle.cts_instance.specs.Places.{IsInDie, IsInside}
-use Rattle.cts_instance.specs.Validity.{IsDie, IsBounded, IsLimits, IsBuffer, IsClear}
+use Rattle.cts_instance.specs.Validity.{IsDie, IsBounded, IsLimits, IsClear}
 use Rattle.cts_instance.specs.Tests.{is_between, is_strictly_between, is_in_die, is_inside, is_side, is_die, is_bounded, is_wire, is_limits, is_buffer, is_sink, is_upright, is_block_in_die, is_empty, is_clear, stops_wires}
 
 pub Decides-int_le : (a b : ℤ) → Decides (int_le a b) (a ≤ℤ b)

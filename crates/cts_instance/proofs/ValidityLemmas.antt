@@ -8,14 +8,14 @@ use Rattle.cts_geom.specs.declared.bounds.Die.{Die}
 use Rattle.cts_units.specs.declared.params.Sink.{Sink}
 use Rattle.cts_units.specs.declared.params.Wire.{Wire}
 use Rattle.cts_units.specs.declared.params.Buffer.{Buffer}
-use Rattle.cts_units.specs.Limits.{IsWire}
+use Rattle.cts_units.specs.Limits.{IsWire, IsBuffer}
 use Rattle.cts_block.specs.declared.blocks.Block.{Block}
 use Rattle.cts_block.specs.declared.blocks.Kind.{Kind}
 use Rattle.cts_block.specs.declared.blocks.Kind.TheVariants.{Buffer as of_buffers, All as of_all}
 use Rattle.cts_instance.specs.declared.counts.BlockCounts.{BlockCounts}
 use Rattle.cts_instance.specs.declared.parts.Parts.{Parts}
 use Rattle.cts_instance.specs.Places.{IsInDie}
-use Rattle.cts_instance.specs.Validity.{IsDie, IsBounded, IsLimits, IsBuffer, IsSink, IsBlock, IsClear, IsValid}
+use Rattle.cts_instance.specs.Validity.{IsDie, IsBounded, IsLimits, IsSink, IsBlock, IsClear, IsValid}
 use Rattle.cts_instance.specs.Tests.{has_room, stops_buffers, stops_wires}
 use Rattle.cts_instance.specs.FirstFault.{die_fault, source_fault, wire_fault, limits_fault, buffer_count_fault, buffer_fault, buffer_line, buffers_fault, sink_count_fault, sink_fault, sink_line, sinks_fault, block_count_fault, block_fault, block_line, blocks_fault, counts_of, first_of, first_fault}
 use Rattle.cts_instance.proofs.TestLemmas.{Decides-nat_le, Decides-absent, Decides-is_bounded, Decides-is_die, Decides-is_in_die, Decides-is_wire, Decides-is_limits, Decides-is_buffer, Decides-is_sink, Decides-is_upright, Decides-is_block_in_die, Decides-is_clear}

@@ -1,7 +1,8 @@
 -- What valid parts mean for the layers above.
-use Rattle.std.specs.Prelude.{◌≡◌, ℤ, pos, ◌*ℤ◌, ◌↔◌, None, All}
+use Rattle.std.specs.Prelude.{◌≡◌, ◌^◌, ℤ, pos, ◌*ℤ◌, ◌≤ℤ◌, ◌↔◌, None, All}
 use Rattle.cts_geom.specs.declared.points.Half.{Half}
 use Rattle.cts_geom.specs.Coordinate.{IsCoordinate}
+use Rattle.cts_units.specs.Limits.{IsParams}
 use Rattle.cts_block.specs.FreePoints.{IsFreeForWire}
 use Rattle.cts_instance.specs.declared.parts.Parts.{Parts}
 use Rattle.cts_instance.specs.Validity.{IsValid}
@@ -13,6 +14,24 @@ ValidPartsHaveNoFault = (parts : Parts) → (first_fault parts ≡ None) ↔ IsV
 -- the point (x, y) of whole nm, in half nm
 abbrev pub half_at : ℤ → ℤ → Half
 half_at x y = record { x = pos 2 *ℤ x; y = pos 2 *ℤ y }
+
+-- the parameters are those that the delays and the choice of a buffer ask for
+abbrev pub ParamsAreInRange : Type 0
+ParamsAreInRange = (parts : Parts) → IsValid parts → IsParams parts.params
+
+-- a coordinate from 0 to 10^8 nm
+pub record IsOnChip (z : ℤ) : Type 0 where
+  pub low : pos 0 ≤ℤ z
+  pub high : z ≤ℤ pos (10 ^ 8)
+
+pub record HasPlacesOnChip (parts : Parts) : Type 0 where
+  pub source_x : IsOnChip parts.source_x
+  pub source_y : IsOnChip parts.source_y
+  pub sinks_x : All (λ sink. IsOnChip sink.x) parts.sinks
+  pub sinks_y : All (λ sink. IsOnChip sink.y) parts.sinks
+
+abbrev pub PlacesAreOnChip : Type 0
+PlacesAreOnChip = (parts : Parts) → IsValid parts → HasPlacesOnChip parts
 
 -- the source and the sinks are where geometry can reckon with them
 pub record HasCoordinates (parts : Parts) : Type 0 where

@@ -2,8 +2,7 @@
 use Rattle.std.specs.Prelude.{◌≢◌, ℕ, ◌^◌, ◌≤◌, ◌<◌, ℤ, pos, ◌≤ℤ◌, List, length, All, AllPairs, count_by}
 use Rattle.cts_geom.specs.declared.bounds.Die.{Die}
 use Rattle.cts_units.specs.declared.params.Sink.{Sink}
-use Rattle.cts_units.specs.declared.params.Buffer.{Buffer}
-use Rattle.cts_units.specs.Limits.{IsWire}
+use Rattle.cts_units.specs.Limits.{IsWire, IsBuffer}
 use Rattle.cts_block.specs.declared.blocks.Block.{Block}
 use Rattle.cts_block.specs.FreePoints.{StopsWires}
 use Rattle.cts_instance.specs.declared.parts.Parts.{Parts}
@@ -28,11 +27,6 @@ pub record IsLimits (insert_at load slew : ℕ) : Type 0 where
   pub threshold : IsBounded insert_at
   pub loads : IsBounded load
   pub slews : IsBounded slew
-
-pub record IsBuffer (buffer : Buffer) : Type 0 where
-  pub cin : buffer.cin ≤ 10 ^ 12
-  pub rout : IsBounded buffer.rout
-  pub intrinsic : IsBounded buffer.intrinsic
 
 pub record IsSink (die : Die) (sink : Sink) : Type 0 where
   pub id : sink.id ≤ 999999999

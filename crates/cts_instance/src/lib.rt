@@ -4,7 +4,9 @@
 //! one by [`check_instance`], or checks the lines of a text one at a time by the calls of [`lines`]
 //! and then by [`Instance::of`]. `specs/FirstFault.antt` has the faults in their order,
 //! `specs/Validity.antt` what valid parts are, and [`laws`] says that the two agree, and what valid
-//! parts mean for the geometry and the blocks.
+//! parts mean for the geometry, the blocks and the delays. Every read call of an instance ensures
+//! that it is valid. A proof about lines that are read one by one finds what it needs in the files of
+//! `proofs/` on first faults, lines and counts.
 #![tactic(auto)]
 
 mod check;
