@@ -1,5 +1,5 @@
 -- The buffer choice is one.
-use Rattle.std.proofs.Common.{◌≡◌, ℕ, ◌<◌, ◌≤◌, List, [], Option, Some, None, slice_get, inl, inr, refl, sym, ap, ◌∙◌, arith}
+use Rattle.std.proofs.Common.{◌≡◌, ℕ, ◌≤◌, List, [], Option, Some, None, slice_get, inl, inr, refl, sym, ap, ◌∙◌, arith}
 use Rattle.std.proofs.lemmas.Option.{none-some}
 use Rattle.cts_units.specs.declared.params.Buffer.{Buffer}
 use Rattle.cts_units.specs.declared.params.Params.{Params}
@@ -22,9 +22,9 @@ least_buffer_unique library load i j p q =
 
 not_both : (params : Params) (load index : ℕ) → IsBufferChoice params load None → IsBufferChoice params load (Some index) → ⊥
 not_both params load index none some = elim none [
-    inl low ↦ absurd (omega (arith, some.0))
+  | inl low ↦ absurd (omega (arith, some.0))
   | inr empty ↦ no_least params.library load index empty some.1
-  ]
+]
 
 pub choice_unique : (params : Params) (load : ℕ) (p q : Option ℕ) → IsBufferChoice params load p → IsBufferChoice params load q → p ≡ q
 choice_unique params load None None hp hq = refl

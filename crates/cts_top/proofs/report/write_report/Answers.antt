@@ -7,5 +7,5 @@ unfolding tree_text nodes_text
 returns g c =
     rw leaves_one
     (written c.new-out.ensures
-      (c.put_whole.ensures ▸ c.put.ensures ▸ c.put_leaf.ensures ▸ c.put_totals.ensures ▸ c.put-2.ensures)
-      c.finish.ensures)
+    (c.put_whole.ensures ▸ c.put.ensures ▸ c.put_leaf.ensures ▸ c.put_totals.ensures ▸ c.put-2.ensures)
+    c.finish.ensures)
