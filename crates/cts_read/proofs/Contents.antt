@@ -5,7 +5,7 @@ use Rattle.cts_read.specs.Place.{Place}
 use Rattle.cts_read.specs.Lines.{is_skipped, is_printable}
 use Rattle.cts_read.specs.declared.stop.Cause.TheVariants.{NotAscii, Word}
 use Rattle.cts_read.specs.Whole.{rest_of}
-use Rattle.cts_read.specs.Grammar.{Left, content, left_of, line_at, first_line}
+use Rattle.cts_read.specs.Grammar.{content, left_of, line_at}
 
 pub content_skip : (n : ℕ) (l : List ℕ) (ls : List (List ℕ)) → is_skipped l ≡ true → content n (l ∷ ls) ≡ content (n + 1) ls
 unfolding content

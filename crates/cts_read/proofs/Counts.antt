@@ -1,5 +1,5 @@
 -- A list that is announced without a fault is short.
-use Rattle.std.proofs.Common.{◌≡◌, ℕ, ◌<◌, ◌≤◌, ◌^◌, Bool, true, false, cond, Option, Some, None, nat_le, nat_lt, arith, refl}
+use Rattle.std.proofs.Common.{◌≡◌, ℕ, ◌<◌, ◌^◌, Bool, true, false, Option, None, nat_le, arith, refl}
 use Rattle.std.proofs.lemmas.Bool.Decides.{nat_tests}
 use Rattle.cts_instance.specs.FirstFault.{unless, buffer_count_fault, sink_count_fault, block_count_fault}
 use Rattle.cts_instance.specs.declared.fault.Fault.{Fault}

@@ -1,12 +1,12 @@
 -- Lines of a list, one after another.
-use Rattle.std.proofs.Common.{◌≡◌, ℕ, ◌+◌, ◌-◌, ◌<◌, ◌≤◌, zero, suc, List, [], ◌∷◌, ◌++◌, length, Option, None, Result, Ok, Err, refl, sym, ap, ◌∙◌, arith, subst}
+use Rattle.std.proofs.Common.{◌≡◌, ℕ, ◌+◌, ◌-◌, ◌<◌, suc, List, [], ◌∷◌, ◌++◌, Option, None, Result, Ok, refl, sym, ap, ◌∙◌, arith}
 use Rattle.cts_instance.specs.FirstFault.{first_of}
 use Rattle.cts_instance.specs.declared.fault.Fault.{Fault}
 use Rattle.cts_instance.proofs.FirstFaultLemmas.{first_of-nil, first_of-cons, first_of-append}
 use Rattle.cts_read.specs.declared.stop.Cause.{Cause}
 use Rattle.cts_read.specs.declared.stop.ReadStop.{ReadStop}
 use Rattle.cts_read.specs.declared.stop.ReadStop.TheVariants.{Refused, NoMemory}
-use Rattle.cts_read.specs.Grammar.{◌>>=◌, Left, Refusal, Refuses, Gives, item_at}
+use Rattle.cts_read.specs.Grammar.{◌>>=◌, Left, Refusal, Refuses, item_at}
 use Rattle.cts_read.specs.Items.{list_at}
 
 one_fewer : (count k : ℕ) → k < count → count - k ≡ suc (count - (k + 1))

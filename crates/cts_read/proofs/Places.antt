@@ -1,5 +1,5 @@
 -- A place in a text, after one more line.
-use Rattle.std.proofs.Common.{◌≡◌, ℕ, ◌+◌, ◌-◌, ◌<◌, ◌≤◌, List, [], ◌∷◌, ◌++◌, length, drop, refl, sym, ap, ◌∙◌, arith, length-append, append_assoc}
+use Rattle.std.proofs.Common.{◌≡◌, ℕ, ◌+◌, ◌-◌, ◌≤◌, List, [], ◌∷◌, ◌++◌, length, drop, refl, sym, ap, ◌∙◌, arith, length-append, length-drop}
 use Rattle.std.proofs.lemmas.List.{drop-drop}
 use Rattle.std.proofs.lemmas.List.Prefix.{front_rest}
 use Rattle.cts_io.specs.Lines.{lines_of}
@@ -10,6 +10,7 @@ place_at_start text = record {
   within = omega arith;
   rest = ap (λ n. drop n text) (let none : length text - length text ≡ 0 = omega arith in none);
   lines = refl;
+  passed = omega arith;
 }
 
 -- the end of a list, after more of its front
@@ -19,6 +20,12 @@ drop_front text front rest k n e m =
 
 further : (text rest front more : ℕ) → rest ≤ text → rest ≡ front + more → text - more ≡ text - rest + front
 further text rest front more h e = omega arith
+
+-- an item after so many others is one more
+one_more : {A : Type 0} (items rest : List A) (item : A) (n n' : ℕ) → drop n items ≡ item ∷ rest → n' ≡ n + 1 → n' ≤ length items
+one_more items rest item n n' e next =
+    let left : length items - n ≡ length (item ∷ rest) = sym (length-drop n items) ∙ ap length e in
+    omega (arith, left, next)
 
 -- the place after one more line
 pub place_after : (text rest : List ℕ) (line : ℕ) (l end rest' : List ℕ) (line' : ℕ) → IsPlace (record { text = text; rest = rest; line = line })
@@ -30,6 +37,7 @@ place_after text rest line l end rest' line' p e first next =
       rest = drop_front text (l ++ end) rest' (length text - length rest) (length text - length rest') (p.rest ∙ e)
           (further (length text) (length rest) (length (l ++ end)) (length rest') p.within parts);
       lines = sym (drop_front (lines_of text) (l ∷ []) (lines_of rest') line line' (sym p.lines ∙ first) next);
+      passed = one_more (lines_of text) (lines_of rest') l line line' (sym p.lines ∙ first) next;
     }
 
 pub place_same : (p q : Place) → q ≡ p → IsPlace p → IsPlace q

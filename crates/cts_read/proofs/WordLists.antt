@@ -1,9 +1,9 @@
 -- The words of a line, from its front.
-use Rattle.std.proofs.Common.{◌≡◌, ℕ, ◌+◌, ◌<◌, ◌≤◌, Bool, true, false, not, cond, List, [], ◌∷◌, ◌++◌, length, take, drop, get_or, refl, sym, ap, ◌∙◌, arith, rules, take-append-drop, subst, filter, append-nil, drop-cons, add-one, add-zero, ◌==◌}
-use Rattle.std.specs.List.{slice_split, All}
+use Rattle.std.proofs.Common.{◌≡◌, ℕ, ◌+◌, ◌<◌, ◌≤◌, true, false, List, [], ◌∷◌, ◌++◌, length, take, drop, get_or, refl, sym, ap, ◌∙◌, arith, take-append-drop, subst, append-nil, drop-cons, add-one, add-zero, ◌==◌}
+use Rattle.std.specs.List.{All}
 use Rattle.std.proofs.lemmas.List.{length-take, length-drop, get_or-take, get_or-drop, get_or_default, drop_all}
 use Rattle.std.proofs.lemmas.List.Splits.{slice_split-cons_yes, slice_split_none, slice_split_at}
-use Rattle.cts_read.specs.Lines.{is_blank, is_some_word, is_skipped, words_of}
+use Rattle.cts_read.specs.Lines.{is_blank, is_skipped, words_of}
 
 -- a blank before the words changes nothing
 pub words_of_blank : (b : ℕ) (bs : List ℕ) → is_blank b ≡ true → words_of (b ∷ bs) ≡ words_of bs

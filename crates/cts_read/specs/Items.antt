@@ -1,5 +1,5 @@
 -- The lists of an instance: how many lines each has, what each line holds, or its first cause.
-use Rattle.std.specs.Prelude.{◌≡◌, ℕ, ◌+◌, ◌-◌, ◌^◌, min, zero, suc, ℤ, pos, List, [], ◌∷◌, ◌++◌, length, map, if◌then◌else◌, codes, Result, Ok, Err}
+use Rattle.std.specs.Prelude.{ℕ, ◌-◌, ◌^◌, min, zero, suc, ℤ, pos, List, [], ◌∷◌, ◌++◌, if◌then◌else◌, codes, Result, Ok, Err}
 use Rattle.std.specs.Str.{bytes_eq}
 use Rattle.cts_geom.specs.declared.bounds.Die.{Die}
 use Rattle.cts_units.specs.declared.params.Sink.{Sink}
@@ -7,7 +7,6 @@ use Rattle.cts_units.specs.declared.params.Buffer.{Buffer}
 use Rattle.cts_block.specs.declared.blocks.Block.{Block}
 use Rattle.cts_block.specs.declared.blocks.Kind.{Kind}
 use Rattle.cts_block.specs.declared.blocks.Kind.TheVariants as kind
-use Rattle.cts_instance.specs.declared.counts.BlockCounts.{BlockCounts}
 use Rattle.cts_instance.specs.FirstFault.{buffer_count_fault, sink_count_fault, block_count_fault, buffer_line, sink_line, block_line}
 use Rattle.cts_read.specs.declared.stop.Cause.{Cause}
 use Rattle.cts_read.specs.declared.stop.Cause.TheVariants.{Word}

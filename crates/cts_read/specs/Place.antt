@@ -12,3 +12,4 @@ pub record IsPlace (place : Place) : Type 0 where
   pub within : length place.rest ≤ length place.text
   pub rest : drop (length place.text - length place.rest) place.text ≡ place.rest
   pub lines : lines_of place.rest ≡ drop place.line (lines_of place.text)
+  pub passed : place.line ≤ length (lines_of place.text)

@@ -1,9 +1,5 @@
 -- A whole instance, line by line, and what may follow it.
 use Rattle.std.specs.Prelude.{◌≡◌, ℕ, List, [], ◌∷◌, drop, if◌then◌else◌, None, Result, Ok, Err}
-use Rattle.cts_geom.specs.declared.bounds.Die.{Die}
-use Rattle.cts_units.specs.declared.params.Sink.{Sink}
-use Rattle.cts_units.specs.declared.params.Buffer.{Buffer}
-use Rattle.cts_block.specs.declared.blocks.Block.{Block}
 use Rattle.cts_instance.specs.declared.parts.Parts.{Parts}
 use Rattle.cts_instance.specs.FirstFault.{die_fault, source_fault, wire_fault, limits_fault, buffers_fault, sinks_fault, blocks_fault}
 use Rattle.cts_read.specs.declared.read.Head.{Head}

@@ -67,6 +67,7 @@ impl<'a> Cursor<'a> {
         ensures within { result ≤ length self.now.text }
         ensures rest { drop result self.now.text ≡ self.now.rest }
         ensures lines { lines_of (drop result self.now.text) ≡ drop self.now.line (lines_of self.now.text) }
+        ensures passed { self.now.line ≤ length (lines_of self.now.text) }
     {
         self.text.len() - self.lines.rest().len()
     }

@@ -220,6 +220,7 @@ pub fn read_instance(alloc: Global, bytes: &[u8]) -> Result<Taken, ReadStop>
     ensures refused { IfErr result (λ stop. Refuses stop (instance_of bytes.now)) }
 
     ensures within { IfOk result (λ taken. taken.used ≤ length bytes.now) }
+    ensures lines { IfOk result (λ taken. taken.lines ≤ length (lines_of bytes.now)) }
     ensures used { IfOk result (λ taken. lines_of (drop taken.used bytes.now) ≡ drop taken.lines (lines_of bytes.now)) }
 {
     let mut lines = Cursor::new(bytes);

@@ -1,6 +1,5 @@
 -- A text that is put piece by piece.
-use Rattle.std.proofs.Common.{◌≡◌, ℕ, List, [], ◌∷◌, ◌++◌, Option, Some, None, Result, subst, refl, append-nil, append_assoc, ap, sym, ◌∙◌, codes}
-use Rattle.std.specs.List.{flat_map}
+use Rattle.std.proofs.Common.{◌≡◌, ℕ, List, [], ◌∷◌, ◌++◌, Option, Some, None, Result, subst, refl, append-nil, ap, sym, codes}
 use Rattle.std.specs.Option.{option_to_list}
 use Rattle.cts_num.specs.Decimal.{decimal_text, whole_text, fraction_text, digits_text}
 use Rattle.cts_io.specs.Pending.{Pending, fresh}

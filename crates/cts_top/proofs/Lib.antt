@@ -1,6 +1,5 @@
 pub mod Chains
-pub mod Lengths
+pub mod Endings
+pub mod Inputs
 pub mod Lists
-pub mod Numbers
 pub mod OneSink
-pub mod LineLaws

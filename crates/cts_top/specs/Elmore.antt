@@ -1,5 +1,5 @@
 -- Loads and Elmore delays, as sums over what is reached and over the paths of the sinks. Delays are doubled, in 10^-27 s.
-use Rattle.std.specs.Prelude.{ℕ, ◌+◌, ◌-◌, ◌*◌, Bool, ◌&&◌, nat_le, List, [], ◌∷◌, map, sum, sum_by, min, max}
+use Rattle.std.specs.Prelude.{ℕ, ◌+◌, ◌-◌, ◌*◌, Bool, nat_le, List, [], ◌∷◌, map, sum, sum_by, min, max}
 use Rattle.std.specs.List.{list_all}
 use Rattle.cts_units.specs.Delay.{wire_delay_of, slew_of}
 use Rattle.cts_units.specs.declared.params.Wire.{Wire}

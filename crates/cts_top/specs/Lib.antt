@@ -1,7 +1,7 @@
 pub mod Elmore
-pub mod Form
+pub mod Input
+pub mod Notes
 pub mod Outcome
-pub mod Reading
 pub mod Report
 pub mod Synthesis
 pub mod Words

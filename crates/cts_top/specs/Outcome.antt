@@ -1,20 +1,23 @@
--- Statuses, notes, and what a run did to its output.
-use Rattle.std.specs.Prelude.{◌≡◌, ℕ, ◌<◌, ◌≤◌, ◌⊎◌, List, [], ◌++◌, length, take, codes, Option, None, Some, Result, Ok, Err}
+-- Statuses, and what a run did to its output.
+use Rattle.std.specs.Prelude.{◌≡◌, ℕ, ◌<◌, ◌≤◌, ◌⊎◌, List, [], length, take, codes, Option, None, Some, Result, Ok, Err}
 use Rattle.std.specs.Io.KnownBytes.{Appends}
 use Rattle.cts_io.specs.declared.read.ReadEnd.{ReadEnd}
 use Rattle.cts_io.specs.declared.read.ReadEnd.TheVariants as reading
+use Rattle.cts_read.specs.declared.stop.Cause.{Cause}
+use Rattle.cts_read.specs.declared.stop.ReadStop.{ReadStop}
+use Rattle.cts_read.specs.declared.stop.ReadStop.TheVariants as text
+use Rattle.cts_instance.specs.declared.parts.Parts.{Parts}
+use Rattle.cts_top.specs.declared.stop.Answer.{Answer}
+use Rattle.cts_top.specs.declared.stop.Answer.TheVariants as answer
 use Rattle.cts_top.specs.declared.stop.Stop.{Stop}
 use Rattle.cts_top.specs.declared.stop.Stop.TheVariants as stop
 use Rattle.cts_top.specs.declared.outcome.Status.{Status}
 use Rattle.cts_top.specs.declared.outcome.Status.TheVariants as status
-use Rattle.cts_top.specs.declared.form.Instance.{Instance}
-use Rattle.cts_top.specs.Form.{IsServed}
+use Rattle.cts_top.specs.declared.tree.Tree.{Tree}
+use Rattle.cts_top.specs.Input.{IsServed, Spells, input_limit, input_of}
+use Rattle.cts_top.specs.Notes.{not_built_note, refusal_note, too_long_note, usage_note}
 use Rattle.cts_top.specs.Report.{tree_text}
-use Rattle.cts_top.specs.Synthesis.{tree_of}
-
--- the most bytes of an input that are accepted
-abbrev pub input_limit : ℕ
-input_limit = 67108864
+use Rattle.cts_top.specs.Synthesis.{synthesis_of}
 
 -- what a run stops at where reading its input ended so
 abbrev pub stop_of_read : ReadEnd → Stop
@@ -22,57 +25,64 @@ stop_of_read reading.ReadFault = stop.ReadFault
 stop_of_read reading.TooLong = stop.TooLong
 stop_of_read reading.NoMemory = stop.NoMemory
 
-abbrev pub status_of : Result Unit Stop → Status
-status_of (Ok _) = status.Done
+abbrev pub stop_of_text : ReadStop → Stop
+stop_of_text (text.Refused line cause) = stop.Refused line cause
+stop_of_text text.NoMemory = stop.NoMemory
+
+abbrev pub status_of : Result Answer Stop → Status
+status_of (Ok answer.Report) = status.Done
+status_of (Ok answer.NoTree) = status.NoTree
 status_of (Err stop.Words) = status.Words
 status_of (Err stop.TooLong) = status.Refused
+status_of (Err (stop.Refused line cause)) = status.Refused
 status_of (Err stop.NotBuilt) = status.Refused
 status_of (Err stop.ReadFault) = status.ReadFault
 status_of (Err stop.WriteFault) = status.WriteFault
 status_of (Err stop.NoMemory) = status.NoMemory
 
--- the lines of the notes
-abbrev pub usage_note : List ℕ
-usage_note = codes "usage: cts synth W, check, edit, make SEED N, job SEED N W\n"
+-- the text for an instance: the report of its tree, or one line where it has none
+unfoldable pub text_of : Option Tree → List ℕ
+text_of (Some tree) = tree_text tree
+text_of None = codes "no tree: beyond at node 0\n"
 
-abbrev pub too_long_note : List ℕ
-too_long_note = codes "refused: input longer than 67108864 bytes\n"
+-- which of the two it is
+abbrev pub answer_of : Option Tree → Answer
+answer_of (Some tree) = answer.Report
+answer_of None = answer.NoTree
 
-abbrev pub not_built_note : List ℕ
-not_built_note = codes "refused: not built\n"
+-- The output grew by exactly the text for the instance that the bytes spell, and it is that kind of text.
+abbrev pub Answers : Answer → Option (List ℕ) → Option (List ℕ) → List ℕ → Type 0
+Answers kind old new bytes = (i : Parts) × Spells bytes i × (kind ≡ answer_of (synthesis_of i)) × Appends old new (text_of (synthesis_of i))
 
-abbrev pub note_of : Result Unit Stop → List ℕ
-note_of (Ok _) = []
-note_of (Err stop.Words) = usage_note
-note_of (Err stop.TooLong) = too_long_note
-note_of (Err stop.NotBuilt) = not_built_note
-note_of (Err stop.ReadFault) = codes "read fault\n"
-note_of (Err stop.WriteFault) = codes "write fault\n"
-note_of (Err stop.NoMemory) = codes "no memory\n"
+-- the output grew by a front of that text
+abbrev pub AnswersInPart : Option (List ℕ) → Option (List ℕ) → List ℕ → Type 0
+AnswersInPart old new bytes = (i : Parts) × (count : ℕ) × Spells bytes i × Appends old new (take count (text_of (synthesis_of i)))
 
--- The note of a refused input says that it is too long exactly where it is, and else that it is not built. Where the
--- source tells no bytes, it is one of the two.
+-- What the bytes that were left must be where a run stops so: too long, refused at a line, or not served so far.
+abbrev pub Explains : Stop → List ℕ → Type 0
+Explains stop.Words bytes = Unit
+Explains stop.TooLong bytes = input_limit < length bytes
+Explains (stop.Refused line cause) bytes = (length bytes ≤ input_limit) × (input_of bytes ≡ Err (line, cause))
+Explains stop.NotBuilt bytes = (length bytes ≤ input_limit) × (i : Parts) × (input_of bytes ≡ Ok i) × (IsServed i → ⊥)
+Explains stop.ReadFault bytes = Unit
+Explains stop.WriteFault bytes = Unit
+Explains stop.NoMemory bytes = Unit
+
+-- The note of a refused input says that it is too long exactly where it is; else it names the first line that offends and
+-- its first cause, or says that the instance is not served so far. Where the source tells no bytes it is one of the three.
 abbrev pub IsRefusalNote : Option (List ℕ) → List ℕ → Type 0
-IsRefusalNote None text = (text ≡ too_long_note) ⊎ (text ≡ not_built_note)
-IsRefusalNote (Some bytes) text = ((input_limit < length bytes) × (text ≡ too_long_note)) ⊎ ((length bytes ≤ input_limit) × (text ≡ not_built_note))
+IsRefusalNote None note = (note ≡ too_long_note) ⊎ (note ≡ not_built_note) ⊎ ((line : ℕ) × (cause : Cause) × (note ≡ refusal_note line cause))
+IsRefusalNote (Some bytes) note =
+    ((input_limit < length bytes) × (note ≡ too_long_note))
+    ⊎ ((length bytes ≤ input_limit) × (i : Parts) × (input_of bytes ≡ Ok i) × (IsServed i → ⊥) × (note ≡ not_built_note))
+    ⊎ ((length bytes ≤ input_limit) × (line : ℕ) × (cause : Cause) × (input_of bytes ≡ Err (line, cause)) × (note ≡ refusal_note line cause))
 
 -- what the notes get for a status, where these bytes were left before: one line, or nothing
 abbrev pub IsNote : Option (List ℕ) → Status → List ℕ → Type 0
-IsNote left status.Done text = text ≡ []
-IsNote left status.Words text = text ≡ usage_note
-IsNote left status.Refused text = IsRefusalNote left text
-IsNote left status.ReadFault text = text ≡ codes "read fault\n"
-IsNote left status.WriteFault text = text ≡ codes "write fault\n"
-IsNote left status.NoMemory text = text ≡ codes "no memory\n"
-
--- the report of the one-sink synthesis of an instance
-abbrev pub report_of : Instance → List ℕ
-report_of i = tree_text (tree_of i)
-
--- the output grew by exactly the report of the instance that the bytes spell
-abbrev pub Reports : Option (List ℕ) → Option (List ℕ) → List ℕ → Type 0
-Reports old new bytes = (i : Instance) × IsServed bytes i × Appends old new (report_of i)
-
--- the output grew by a front of that report
-abbrev pub ReportsInPart : Option (List ℕ) → Option (List ℕ) → List ℕ → Type 0
-ReportsInPart old new bytes = (i : Instance) × (count : ℕ) × IsServed bytes i × Appends old new (take count (report_of i))
+IsNote left status.Done note = note ≡ []
+IsNote left status.NoTree note = note ≡ []
+IsNote left status.Words note = note ≡ usage_note
+IsNote left status.Refused note = IsRefusalNote left note
+IsNote left status.ReadFault note = note ≡ codes "read fault\n"
+IsNote left status.WriteFault note = note ≡ codes "write fault\n"
+IsNote left status.NoMemory note = note ≡ codes "no memory\n"

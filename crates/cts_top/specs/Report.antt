@@ -1,5 +1,5 @@
 -- The text of a report, over the places, routes and figures of a tree.
-use Rattle.std.specs.Prelude.{ℕ, ◌+◌, ◌*◌, ◌^◌, ◌≤◌, Bool, if◌then◌else◌, List, [], ◌∷◌, ◌++◌, length, codes, Option, None, Some}
+use Rattle.std.specs.Prelude.{ℕ, ◌+◌, ◌*◌, ◌^◌, ◌≤◌, Bool, if◌then◌else◌, List, [], ◌∷◌, ◌++◌, length, codes}
 use Rattle.std.specs.List.{flat_map}
 use Rattle.std.specs.Option.{option_to_list}
 use Rattle.cts_num.specs.Decimal.{decimal_text}
@@ -76,9 +76,9 @@ tree_text tree = nodes_text (tree.leaf ∷ []) tree.totals
 
 -- the delays are small enough to be written
 pub record FitsReport (tree : Tree) : Type 0 where
-  pub delay : tree.leaf.delay ≤ 2 ^ 111
-  pub stage : tree.leaf.stage ≤ 2 ^ 111
-  pub greatest : tree.totals.greatest ≤ 2 ^ 111
-  pub least : tree.totals.least ≤ 2 ^ 111
-  pub skew : tree.totals.skew ≤ 2 ^ 111
-  pub bound : tree.totals.bound ≤ 2 ^ 111
+  pub delay : tree.leaf.delay ≤ 2 ^ 112
+  pub stage : tree.leaf.stage ≤ 2 ^ 112
+  pub greatest : tree.totals.greatest ≤ 2 ^ 112
+  pub least : tree.totals.least ≤ 2 ^ 112
+  pub skew : tree.totals.skew ≤ 2 ^ 112
+  pub bound : tree.totals.bound ≤ 2 ^ 112

@@ -1,26 +1,23 @@
--- The synthesis of one sink: its route from the source, and its figures.
-use Rattle.std.specs.Prelude.{ℕ, ◌+◌, ◌*◌, ◌^◌, ◌||◌, nat_eq, if◌then◌else◌, List, [], ◌∷◌, sum, Option, None, Some}
+-- The synthesis of one sink: its route from the source, its figures, and whether it is within the limits.
+use Rattle.std.specs.Prelude.{ℕ, ◌+◌, ◌-◌, ◌^◌, Bool, ◌||◌, nat_eq, nat_lt, if◌then◌else◌, ℤ, unsigned_abs, List, [], ◌∷◌, sum, Option, None, Some}
 use Rattle.std.specs.Int.{abs_diff}
-use Rattle.cts_units.specs.declared.params.Wire.{Wire}
-use Rattle.cts_top.specs.declared.form.Instance.{Instance}
+use Rattle.cts_units.specs.declared.params.Sink.{Sink}
+use Rattle.cts_instance.specs.declared.parts.Parts.{Parts}
 use Rattle.cts_top.specs.declared.tree.Point.{Point}
 use Rattle.cts_top.specs.declared.tree.Leaf.{Leaf}
 use Rattle.cts_top.specs.declared.tree.Totals.{Totals}
 use Rattle.cts_top.specs.declared.tree.Tree.{Tree}
 use Rattle.cts_top.specs.Elmore.{PathWire, SinkPath, Driver, load_reached, delay_along, stage_along, delays_of, greatest_of, least_of, skew_of, bound_of, load_is_met, slew_is_met}
 
--- The text's µm are 1,000 nm; its ohm and fF 10^6 µΩ and zF; ohm and fF per µm 1,000 µΩ and zF per nm; its ps 10^15 of 10^-27 s.
-abbrev pub source_of : Instance → Point
-source_of i = record { x = 1000 * i.source.x; y = 1000 * i.source.y }
+-- a point of the die, whose coordinates are never below 0
+abbrev pub point_of : ℤ → ℤ → Point
+point_of x y = record { x = unsigned_abs x; y = unsigned_abs y }
 
-abbrev pub sink_of : Instance → Point
-sink_of i = record { x = 1000 * i.sink.x; y = 1000 * i.sink.y }
+abbrev pub source_of : Parts → Point
+source_of i = point_of i.source_x i.source_y
 
-abbrev pub wire_of : Instance → Wire
-wire_of i = record { r = 1000 * i.wire.resistance; c = 1000 * i.wire.capacitance }
-
-abbrev pub capacitance_of : Instance → ℕ
-capacitance_of i = 10 ^ 6 * i.sink.capacitance
+abbrev pub place_of : Sink → Point
+place_of sink = point_of sink.x sink.y
 
 -- The route between two points goes along x first: it turns once, at the x of its end and the y of its start, where both
 -- coordinates differ, and else not at all.
@@ -31,41 +28,57 @@ abbrev pub route_length : Point → Point → ℕ
 route_length start end = abs_diff start.x end.x + abs_diff start.y end.y
 
 -- the wire of the one sink has its route's length
-unfoldable pub length_of : Instance → ℕ
-length_of i = route_length (source_of i) (sink_of i)
+unfoldable pub length_of : Parts → Sink → ℕ
+length_of i sink = route_length (source_of i) (place_of sink)
 
-abbrev pub driver_of : Instance → Driver
-driver_of i = record { resistance = 10 ^ 6 * i.source.resistance; load = load_reached (wire_of i).c (capacitance_of i ∷ []) (length_of i ∷ []) }
+abbrev pub driver_of : Parts → Sink → Driver
+driver_of i sink = record { resistance = i.source_r; load = load_reached i.params.wire.c (sink.cap ∷ []) (length_of i sink ∷ []) }
 
 -- the paths of the sinks: here one wire, and no pair
-abbrev pub wires_of : Instance → List PathWire
-wires_of i = record { length = length_of i; load = capacitance_of i } ∷ []
+abbrev pub wires_of : Parts → Sink → List PathWire
+wires_of i sink = record { length = length_of i sink; load = sink.cap } ∷ []
 
-abbrev pub paths_of : Instance → List SinkPath
-paths_of i = record { wires = wires_of i; residues = [] } ∷ []
+abbrev pub paths_of : Parts → Sink → List SinkPath
+paths_of i sink = record { wires = wires_of i sink; residues = [] } ∷ []
 
-abbrev pub leaf_of : Instance → Leaf
-leaf_of i = record {
-  id = i.sink.id;
-  place = sink_of i;
-  load = load_reached (wire_of i).c (capacitance_of i ∷ []) [];
-  delay = delay_along (wire_of i) (driver_of i) (wires_of i);
-  stage = stage_along (wire_of i) (driver_of i) (wires_of i);
-  wire = length_of i;
-  corner = corner_of (source_of i) (sink_of i);
+abbrev pub leaf_of : Parts → Sink → Leaf
+leaf_of i sink = record {
+  id = sink.id;
+  place = place_of sink;
+  load = load_reached i.params.wire.c (sink.cap ∷ []) [];
+  delay = delay_along i.params.wire (driver_of i sink) (wires_of i sink);
+  stage = stage_along i.params.wire (driver_of i sink) (wires_of i sink);
+  wire = length_of i sink;
+  corner = corner_of (source_of i) (place_of sink);
 }
 
-abbrev pub totals_of : Instance → Totals
-totals_of i = record {
-  source_load = (driver_of i).load;
-  wire_total = sum (length_of i ∷ []);
-  greatest = greatest_of (delays_of (wire_of i) (driver_of i) (paths_of i));
-  least = least_of (delays_of (wire_of i) (driver_of i) (paths_of i));
-  skew = skew_of (delays_of (wire_of i) (driver_of i) (paths_of i));
-  bound = bound_of (paths_of i);
-  load_met = load_is_met (10 ^ 6 * i.limits.load) ((driver_of i).load ∷ []);
-  slew_met = slew_is_met (10 ^ 15 * i.limits.slew) (stage_along (wire_of i) (driver_of i) (wires_of i) ∷ []);
+abbrev pub totals_of : Parts → Sink → Totals
+totals_of i sink = record {
+  source_load = (driver_of i sink).load;
+  wire_total = sum (length_of i sink ∷ []);
+  greatest = greatest_of (delays_of i.params.wire (driver_of i sink) (paths_of i sink));
+  least = least_of (delays_of i.params.wire (driver_of i sink) (paths_of i sink));
+  skew = skew_of (delays_of i.params.wire (driver_of i sink) (paths_of i sink));
+  bound = bound_of (paths_of i sink);
+  load_met = load_is_met i.load_limit ((driver_of i sink).load ∷ []);
+  slew_met = slew_is_met i.slew_limit (stage_along i.params.wire (driver_of i sink) (wires_of i sink) ∷ []);
 }
 
-unfoldable pub tree_of : Instance → Tree
-tree_of i = record { leaf = leaf_of i; totals = totals_of i }
+unfoldable pub tree_of : Parts → Sink → Tree
+tree_of i sink = record { leaf = leaf_of i sink; totals = totals_of i sink }
+
+-- The root is beyond the limits where its wire is longer than 2^31 - 1 nm, where the source load is above 2^56 zF, or
+-- where the greatest delay is above 2^104.
+unfoldable pub is_beyond : Tree → Bool
+is_beyond tree = nat_lt (2 ^ 31 - 1) tree.leaf.wire || nat_lt (2 ^ 56) tree.totals.source_load || nat_lt (2 ^ 104) tree.totals.greatest
+
+-- the tree of the first sink, unless it is beyond
+abbrev pub within_limits : Tree → Option Tree
+within_limits tree = if is_beyond tree then None else Some tree
+
+abbrev pub synthesis_over : Parts → List Sink → Option Tree
+synthesis_over i [] = None
+synthesis_over i (sink ∷ others) = within_limits (tree_of i sink)
+
+unfoldable pub synthesis_of : Parts → Option Tree
+synthesis_of i = synthesis_over i i.sinks

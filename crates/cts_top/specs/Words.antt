@@ -1,7 +1,8 @@
 -- The words that are served.
-use Rattle.std.specs.Prelude.{◌≡◌, List, [], ◌∷◌, map, codes, String, string_bytes}
+use Rattle.std.specs.Prelude.{◌≡◌, ℕ, List, [], ◌∷◌, map, codes, String, string_bytes, Ok}
 use Rattle.std.specs.Global.{Global}
+use Rattle.cts_num.specs.Reading.{reading_of}
 
--- the two words `synth` and `1`
+-- the word `synth`, and a number of no decimal places that is 1
 abbrev pub IsSynth : List (String Global) → Type 0
-IsSynth words = map string_bytes words ≡ codes "synth" ∷ codes "1" ∷ []
+IsSynth words = (workers : List ℕ) × (map string_bytes words ≡ codes "synth" ∷ workers ∷ []) × (reading_of workers 0 ≡ Ok 1)

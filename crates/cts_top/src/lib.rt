@@ -1,14 +1,15 @@
 //! The program's one call: from words, an input and an output to a status.
 //!
 //! The layer above, the program, may use [`run_alone`] and the statuses. What stands beside it is
-//! private, and makes way for the crates of the layers below as they come: the reader of the one form
-//! of instance that is served (`form`, `read`), the synthesis of one sink (`tree`, `synthesis`) and
-//! the writer of its report (`report`).
+//! private: the words (`words`), the instance of an input (`input`), the synthesis of one sink
+//! (`tree`, `synthesis`), the writer of its report (`report`, `answer`) and the notes (`stop`,
+//! `notes`). The synthesis and the writer make way for crates of their own as those come.
 #![tactic(auto)]
 
-mod form;
+mod answer;
+mod input;
+mod notes;
 mod outcome;
-mod read;
 mod report;
 mod run;
 mod stop;

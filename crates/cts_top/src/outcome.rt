@@ -9,6 +9,8 @@ pub enum Status {
     Words = 2,
     /// The input is not served.
     Refused = 3,
+    /// The tree is beyond the limits; a line that says so was written whole.
+    NoTree = 4,
     /// Reading the input failed.
     ReadFault = 5,
     /// Writing the report failed.

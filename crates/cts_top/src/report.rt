@@ -26,8 +26,8 @@ pub fn write_report<K: ByteSink>(sink: &mut K, tree: &Tree) -> Result<(), WriteE
 }
 
 fn put_leaf<K: ByteSink>(out: &mut SinkBuffer, sink: &mut K, node: u32, leaf: &Leaf)
-    requires delay { leaf.now.delay ≤ 2 ^ 111 }
-    requires stage { leaf.now.stage ≤ 2 ^ 111 }
+    requires delay { leaf.now.delay ≤ 2 ^ 112 }
+    requires stage { leaf.now.stage ≤ 2 ^ 112 }
     ensures { Puts K.held K.faults sink.old out.old sink.new out.new (leaf_text node leaf.now) }
 {
     put_whole(out, sink, b"node ", node);
@@ -42,10 +42,10 @@ fn put_leaf<K: ByteSink>(out: &mut SinkBuffer, sink: &mut K, node: u32, leaf: &L
 }
 
 fn put_totals<K: ByteSink>(out: &mut SinkBuffer, sink: &mut K, totals: &Totals)
-    requires greatest { totals.now.greatest ≤ 2 ^ 111 }
-    requires least { totals.now.least ≤ 2 ^ 111 }
-    requires skew { totals.now.skew ≤ 2 ^ 111 }
-    requires bound { totals.now.bound ≤ 2 ^ 111 }
+    requires greatest { totals.now.greatest ≤ 2 ^ 112 }
+    requires least { totals.now.least ≤ 2 ^ 112 }
+    requires skew { totals.now.skew ≤ 2 ^ 112 }
+    requires bound { totals.now.bound ≤ 2 ^ 112 }
     ensures { Puts K.held K.faults sink.old out.old sink.new out.new (totals_text totals.now) }
 {
     put_capacitance(out, sink, b"source load ", totals.source_load);
@@ -124,7 +124,7 @@ fn put_capacitance<K: ByteSink>(out: &mut SinkBuffer, sink: &mut K, label: &[u8]
 
 #[tactic(auto, unfolding(crate::specs::Report::time_number))]
 fn put_time<K: ByteSink>(out: &mut SinkBuffer, sink: &mut K, label: &[u8], delay: u128)
-    requires { delay ≤ 2 ^ 111 }
+    requires { delay ≤ 2 ^ 112 }
     ensures { Puts K.held K.faults sink.old out.old sink.new out.new (labelled label.now (time_number delay)) }
 {
     put_number(out, sink, label, 5 * delay, 16);
@@ -132,7 +132,7 @@ fn put_time<K: ByteSink>(out: &mut SinkBuffer, sink: &mut K, label: &[u8], delay
 
 #[tactic(auto, unfolding(crate::specs::Report::slew_number))]
 fn put_slew<K: ByteSink>(out: &mut SinkBuffer, sink: &mut K, label: &[u8], stage: u128)
-    requires { stage ≤ 2 ^ 111 }
+    requires { stage ≤ 2 ^ 112 }
     ensures { Puts K.held K.faults sink.old out.old sink.new out.new (labelled label.now (slew_number stage)) }
 {
     put_number(out, sink, label, slew_tenths(stage), 16);

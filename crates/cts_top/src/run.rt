@@ -1,51 +1,49 @@
 //! The top call: words, an input and an output to a status.
 
-ghost use Rattle.std.specs.Prelude.{◌≡◌, ◌≢◌, ◌≤◌, ◌↔◌, ◌⊎◌, List, ℕ, IfSome, OnOk, IsErrOf, IfErr, length, ◌<◌};
+ghost use Rattle.std.specs.Prelude.{◌≡◌, ◌≢◌, ◌≤◌, ◌↔◌, ◌⊎◌, List, ℕ, IfSome, IfOk, IsErrOf, IfErr, Ok};
 ghost use Rattle.std.specs.Io.KnownBytes.{Appends, IsAtEnd};
 ghost use Rattle.cts_io.specs.Faults.{Rose};
-ghost use Rattle.cts_top.specs.Form.{IsServed, IsRefused};
-ghost use Rattle.cts_top.specs.Outcome.{IsNote, Reports, ReportsInPart, input_limit};
+ghost use Rattle.cts_instance.specs.declared.parts.Parts.{Parts};
+ghost use Rattle.cts_top.specs.Input.{IsRefused, Spells};
+ghost use Rattle.cts_top.specs.Outcome.{Answers, AnswersInPart, Explains, IsNote, answer_of, status_of};
+ghost use Rattle.cts_top.specs.Synthesis.{synthesis_of};
 ghost use Rattle.cts_top.specs.Words.{IsSynth};
-ghost use Rattle.cts_top.specs.declared.form.Instance.{Instance};
 
+use crate::answer::write_answer;
+use crate::input::read_input;
+use crate::notes::write_note;
 use crate::outcome::{Outcome, Status};
-use crate::read::read_instance;
-use crate::report::write_report;
-use crate::stop::{Stop, note_of, status_of};
+use crate::stop::{Answer, Stop, status_of};
 use crate::synthesis::synthesise;
 use crate::words::is_synth;
-use cts_io::{ByteSink, ByteSource, read_all, write_all};
+use cts_io::{ByteSink, ByteSource, read_all};
 use std::alloc::Global;
 use std::thread::Threads;
 
 /// The most bytes of an input that are accepted: 64 MiB.
 const INPUT_LIMIT: usize = 67_108_864;
 
-/// Reads an instance, and writes the report of its tree.
-#[tactic(auto, using(crate::proofs::Lengths::refused_too_long))]
+/// Reads an instance, and writes the report of its tree, or that there is none.
 fn serve<S: ByteSource, K: ByteSink>(
     alloc: Global,
     source: &mut S,
     sink: &mut K,
-) -> Result<(), Stop>
-    ensures done { OnOk result (IsAtEnd (S.left source.new)
-        × IfSome (S.left source.old) (Reports (K.held sink.old) (K.held sink.new))) }
+) -> Result<Answer, Stop>
+    ensures done { IfOk result (λ answer. IsAtEnd (S.left source.new)
+        × IfSome (S.left source.old) (Answers answer (K.held sink.old) (K.held sink.new))) }
     ensures write_fault { IsErrOf result Stop.WriteFault → IsAtEnd (S.left source.new)
         × Rose (K.faults sink.old) (K.faults sink.new)
-        × IfSome (S.left source.old) (ReportsInPart (K.held sink.old) (K.held sink.new)) }
+        × IfSome (S.left source.old) (AnswersInPart (K.held sink.old) (K.held sink.new)) }
     ensures read_fault { IsErrOf result Stop.ReadFault → Rose (S.faults source.old) (S.faults source.new) }
-    ensures too_long { IsErrOf result Stop.TooLong → IfSome (S.left source.old) (λ bytes. (input_limit < length bytes) × IsRefused bytes) }
-    ensures not_built { IsErrOf result Stop.NotBuilt → IfSome (S.left source.old)
-        (λ bytes. (length bytes ≤ input_limit) × IsRefused bytes) }
+    ensures explained { IfErr result (λ stop. IfSome (S.left source.old) (Explains stop)) }
     ensures words { IsErrOf result Stop.Words → ⊥ }
     ensures kept { IfErr result (λ stop. stop ≢ Stop.WriteFault → sink.new ≡ sink.old) }
     ensures source_counted { S.faults source.old ≤ S.faults source.new }
     ensures sink_counted { K.faults sink.old ≤ K.faults sink.new }
 {
     let bytes = read_all(alloc, source, INPUT_LIMIT)?;
-    let instance = read_instance(&bytes).ok_or(Stop::NotBuilt)?;
-    write_report(sink, &synthesise(&instance))?;
-    Ok(())
+    let instance = read_input(alloc, &bytes)?;
+    write_answer(sink, &synthesise(&instance))
 }
 
 /// Does what the words ask for.
@@ -54,18 +52,16 @@ fn answer<S: ByteSource, K: ByteSink>(
     words: &[String],
     source: &mut S,
     sink: &mut K,
-) -> Result<(), Stop>
+) -> Result<Answer, Stop>
     ensures served { IsErrOf result Stop.Words ↔ (IsSynth words.now → ⊥) }
     ensures untouched { IsErrOf result Stop.Words → source.new ≡ source.old }
-    ensures done { OnOk result (IsAtEnd (S.left source.new)
-        × IfSome (S.left source.old) (Reports (K.held sink.old) (K.held sink.new))) }
+    ensures done { IfOk result (λ answer. IsAtEnd (S.left source.new)
+        × IfSome (S.left source.old) (Answers answer (K.held sink.old) (K.held sink.new))) }
     ensures write_fault { IsErrOf result Stop.WriteFault → IsAtEnd (S.left source.new)
         × Rose (K.faults sink.old) (K.faults sink.new)
-        × IfSome (S.left source.old) (ReportsInPart (K.held sink.old) (K.held sink.new)) }
+        × IfSome (S.left source.old) (AnswersInPart (K.held sink.old) (K.held sink.new)) }
     ensures read_fault { IsErrOf result Stop.ReadFault → Rose (S.faults source.old) (S.faults source.new) }
-    ensures too_long { IsErrOf result Stop.TooLong → IfSome (S.left source.old) (λ bytes. (input_limit < length bytes) × IsRefused bytes) }
-    ensures not_built { IsErrOf result Stop.NotBuilt → IfSome (S.left source.old)
-        (λ bytes. (length bytes ≤ input_limit) × IsRefused bytes) }
+    ensures explained { IfErr result (λ stop. IfSome (S.left source.old) (Explains stop)) }
     ensures kept { IfErr result (λ stop. stop ≢ Stop.WriteFault → sink.new ≡ sink.old) }
     ensures source_counted { S.faults source.old ≤ S.faults source.new }
     ensures sink_counted { K.faults sink.old ≤ K.faults sink.new }
@@ -78,14 +74,17 @@ fn answer<S: ByteSource, K: ByteSink>(
 }
 
 /// Runs the program on its words, its input and its output, and tells the notes why nothing came
-/// out where nothing did.
+/// out whole where nothing did.
 ///
 /// - `Done`: the report of the instance that the input spells was written, and nothing else.
-/// - `Words`: exactly where the words are not `synth` and `1`; source and sink are as they were.
-/// - `Refused`: exactly where the input is no instance that is served, one that is longer than
-///   64 MiB among them; the sink is as it was.
+/// - `NoTree`: the tree of the instance is beyond the limits; the line that says so was written, and
+///   nothing else.
+/// - `Words`: exactly where the words are not `synth` and the number 1; source and sink are as they
+///   were.
+/// - `Refused`: exactly where the input spells no instance that is served so far, one that is longer
+///   than 64 MiB among them; the sink is as it was.
 /// - `ReadFault`, `WriteFault`: only where the count of faults of source or sink rose in this call.
-///   After a write fault the sink holds its old bytes and a front of the report.
+///   After a write fault the sink holds its old bytes and a front of the text.
 /// - `NoMemory`: after the words and before the first write; the sink is as it was.
 ///
 /// The notes get at most one line. Where they fail, nothing else changes.
@@ -97,9 +96,12 @@ pub fn run_alone<R: Threads + Sync, S: ByteSource, K: ByteSink, N: ByteSink>(
     sink: &mut K,
     notes: &mut N,
 ) -> Outcome
-    // The report of the one-sink synthesis of the instance that was read to its end, and nothing else.
+    // The report of the synthesis of the instance that was read to its end, and nothing else ..
     ensures done { result.status ≡ Status.Done → IsAtEnd (S.left source.new)
-        × IfSome (S.left source.old) (Reports (K.held sink.old) (K.held sink.new)) }
+        × IfSome (S.left source.old) (Answers Answer.Report (K.held sink.old) (K.held sink.new)) }
+    // .. or that it has no tree.
+    ensures no_tree { result.status ≡ Status.NoTree → IsAtEnd (S.left source.new)
+        × IfSome (S.left source.old) (Answers Answer.NoTree (K.held sink.old) (K.held sink.new)) }
 
     ensures words { (result.status ≡ Status.Words) ↔ (IsSynth words.now → ⊥) }
     ensures untouched { result.status ≡ Status.Words → source.new ≡ source.old }
@@ -108,18 +110,19 @@ pub fn run_alone<R: Threads + Sync, S: ByteSource, K: ByteSink, N: ByteSink>(
     ensures read_fault { result.status ≡ Status.ReadFault → Rose (S.faults source.old) (S.faults source.new) }
     ensures write_fault { result.status ≡ Status.WriteFault → Rose (K.faults sink.old) (K.faults sink.new) }
     ensures in_part { result.status ≡ Status.WriteFault → IsAtEnd (S.left source.new)
-        × IfSome (S.left source.old) (ReportsInPart (K.held sink.old) (K.held sink.new)) }
-    ensures sink_kept { result.status ≢ Status.Done → result.status ≢ Status.WriteFault → sink.new ≡ sink.old }
+        × IfSome (S.left source.old) (AnswersInPart (K.held sink.old) (K.held sink.new)) }
+    ensures sink_kept { result.status ≢ Status.Done → result.status ≢ Status.NoTree → result.status ≢ Status.WriteFault
+        → sink.new ≡ sink.old }
 
     ensures source_counted { S.faults source.old ≤ S.faults source.new }
     ensures sink_counted { K.faults sink.old ≤ K.faults sink.new }
     ensures notes_counted { N.faults notes.old ≤ N.faults notes.new }
 
-    // Where nothing failed, an instance that is served is answered with its report, unless memory ran out ..
+    // Where nothing failed, an instance that is served is answered by its synthesis, unless memory ran out ..
     ensures complete { IsSynth words.now → (Rose (S.faults source.old) (S.faults source.new) → ⊥)
         → (Rose (K.faults sink.old) (K.faults sink.new) → ⊥)
-        → IfSome (S.left source.old) (λ bytes. (i : Instance) → IsServed bytes i
-        → (result.status ≡ Status.Done) ⊎ (result.status ≡ Status.NoMemory)) }
+        → IfSome (S.left source.old) (λ bytes. (i : Parts) → Spells bytes i
+        → (result.status ≡ status_of (Ok (answer_of (synthesis_of i)))) ⊎ (result.status ≡ Status.NoMemory)) }
 
     // .. and any other input is refused.
     ensures refuses { IsSynth words.now → (Rose (S.faults source.old) (S.faults source.new) → ⊥)
@@ -131,7 +134,7 @@ pub fn run_alone<R: Threads + Sync, S: ByteSource, K: ByteSink, N: ByteSink>(
 {
     let ending = answer(alloc, words, source, sink);
     // A note that can't be written changes nothing.
-    let _ = write_all(notes, note_of(&ending));
+    let _ = write_note(notes, &ending);
     Outcome {
         status: status_of(&ending),
     }

@@ -1,20 +1,32 @@
-//! Why a run wrote no whole report.
+//! How a run ended, with what the notes say of it.
 
 ghost use Rattle.std.specs.Prelude.{◌≡◌, Result};
-ghost use Rattle.cts_top.specs.Outcome.{note_of, status_of, stop_of_read};
-ghost use Rattle.cts_top.specs.declared.stop.Stop.TheVariants.{NoMemory, NotBuilt, ReadFault, TooLong, Words, WriteFault};
+ghost use Rattle.cts_top.specs.Outcome.{status_of, stop_of_read, stop_of_text};
+ghost use Rattle.cts_top.specs.declared.stop.Stop.TheVariants.{WriteFault};
 
 use crate::outcome::Status;
 use cts_io::{ReadEnd, WriteEnd};
+use cts_read::{Cause, ReadStop};
 
-/// Why a run wrote no whole report.
+/// What a run wrote whole.
+#[derive(Clone, Copy)]
+pub enum Answer {
+    /// The report of a tree.
+    Report,
+    /// That there is no tree.
+    NoTree,
+}
+
+/// Why a run wrote nothing whole.
 #[derive(Clone, Copy)]
 pub enum Stop {
     /// The words are not served.
     Words,
     /// The input is longer than is accepted.
     TooLong,
-    /// The input is no instance that is served.
+    /// The input is no instance: its first line that offends, and the first cause of that line.
+    Refused { line: u32, cause: Cause },
+    /// The input is an instance that is not served yet.
     NotBuilt,
     ReadFault,
     WriteFault,
@@ -33,6 +45,17 @@ impl From<ReadEnd> for Stop {
     }
 }
 
+impl From<ReadStop> for Stop {
+    ghost from_gives = { λ end stop. stop ≡ stop_of_text end };
+
+    fn from(end: ReadStop) -> Stop {
+        match end {
+            ReadStop::Refused { line, cause } => Stop::Refused { line, cause },
+            ReadStop::NoMemory => Stop::NoMemory,
+        }
+    }
+}
+
 impl From<WriteEnd> for Stop {
     ghost from_gives = { λ _ stop. stop ≡ WriteFault };
 
@@ -42,30 +65,16 @@ impl From<WriteEnd> for Stop {
 }
 
 /// The status of a run that ended so.
-pub fn status_of(ending: &Result<(), Stop>) -> Status
+pub fn status_of(ending: &Result<Answer, Stop>) -> Status
     ensures { result ≡ status_of ending.now }
 {
     match ending {
-        Ok(()) => Status::Done,
+        Ok(Answer::Report) => Status::Done,
+        Ok(Answer::NoTree) => Status::NoTree,
         Err(Stop::Words) => Status::Words,
-        Err(Stop::TooLong | Stop::NotBuilt) => Status::Refused,
+        Err(Stop::TooLong | Stop::Refused { .. } | Stop::NotBuilt) => Status::Refused,
         Err(Stop::ReadFault) => Status::ReadFault,
         Err(Stop::WriteFault) => Status::WriteFault,
         Err(Stop::NoMemory) => Status::NoMemory,
-    }
-}
-
-/// The line for the notes, or nothing, of a run that ended so.
-pub fn note_of(ending: &Result<(), Stop>) -> &'static [u8]
-    ensures { result.now ≡ note_of ending.now }
-{
-    match ending {
-        Ok(()) => b"",
-        Err(Stop::Words) => b"usage: cts synth W, check, edit, make SEED N, job SEED N W\n",
-        Err(Stop::TooLong) => b"refused: input longer than 67108864 bytes\n",
-        Err(Stop::NotBuilt) => b"refused: not built\n",
-        Err(Stop::ReadFault) => b"read fault\n",
-        Err(Stop::WriteFault) => b"write fault\n",
-        Err(Stop::NoMemory) => b"no memory\n",
     }
 }

@@ -30,9 +30,13 @@ const NEAR_REPORT: &[u8] =
 const OVER_INPUT: &[u8] =
     b"cts 1\ndie 0 0 20 20\nsource 0 0 0\nwire 1 1\nlimits 100 11 0\nbuffers 0\nsinks 1\nsink 1 3 4 5\nblocks 0\nend\n";
 
-const USAGE: &[u8] = b"usage: cts synth W, check, edit, make SEED N, job SEED N W\n";
+// Each number of this input is as great as it may be, and the delay is above 2^104.
+const BEYOND_INPUT: &[u8] =
+    b"cts 1\ndie 0 0 20000 20000\nsource 0 0 999999999999\nwire 0.001 1000\nlimits 100 100 100\nbuffers 0\nsinks 1\nsink 1 20000 0 5\nblocks 0\nend\n";
 
-const NOT_BUILT: &[u8] = b"refused: not built\n";
+const NO_TREE: &[u8] = b"no tree: beyond at node 0\n";
+
+const USAGE: &[u8] = b"usage: cts synth W, check, edit, make SEED N, job SEED N W\n";
 
 /// Which calls of the streams fail, and how much they move at once.
 #[derive(Clone, Copy)]
@@ -137,26 +141,94 @@ fn refuses_other_words(rt: HostRuntime) -> Result<(), Fail> {
 }
 
 #[test]
-fn refuses_other_inputs(rt: HostRuntime) -> Result<(), Fail> {
-    let table: [&[u8]; 9] = [
-        b"",
-        // two sinks
-        b"cts 1\ndie 0 0 20 20\nsource 0 0 0\nwire 1 1\nlimits 100 100 100\nbuffers 0\nsinks 2\nsink 1 3 4 5\nsink 2 5 5 5\nblocks 0\nend\n",
-        b"cts 1\ndie 0 0 20 20\nsource 0 0 0\nwire 1 1\nlimits 100 100 100\nbuffers 0\nsinks 2\nsink 1 3 4 5\nblocks 0\nend\n",
-        // a second line end, none at the end, two spaces, a leading zero
-        b"cts 1\ndie 0 0 20 20\nsource 0 0 0\nwire 1 1\nlimits 100 100 100\nbuffers 0\nsinks 1\nsink 1 3 4 5\nblocks 0\nend\n\n",
-        b"cts 1\ndie 0 0 20 20\nsource 0 0 0\nwire 1 1\nlimits 100 100 100\nbuffers 0\nsinks 1\nsink 1 3 4 5\nblocks 0\nend",
-        b"cts 1\ndie 0  0 20 20\nsource 0 0 0\nwire 1 1\nlimits 100 100 100\nbuffers 0\nsinks 1\nsink 1 3 4 5\nblocks 0\nend\n",
-        b"cts 1\ndie 0 00 20 20\nsource 0 0 0\nwire 1 1\nlimits 100 100 100\nbuffers 0\nsinks 1\nsink 1 3 4 5\nblocks 0\nend\n",
-        // a sink off the die, a wire without resistance
-        b"cts 1\ndie 0 0 20 20\nsource 0 0 0\nwire 1 1\nlimits 100 100 100\nbuffers 0\nsinks 1\nsink 1 21 4 5\nblocks 0\nend\n",
-        b"cts 1\ndie 0 0 20 20\nsource 0 0 0\nwire 0 1\nlimits 100 100 100\nbuffers 0\nsinks 1\nsink 1 3 4 5\nblocks 0\nend\n",
+fn reads_whatever_the_format_allows(rt: HostRuntime) -> Result<(), Fail> {
+    let table: [&[u8]; 3] = [
+        b"# one sink\ncts 1\n\ndie 0 0 20 20\nsource 0 0 0\nwire 1.000 1\nlimits 100 100 100\nbuffers 0\nsinks 1\nsink 1 3 4 5\nblocks 0\nend\n# after\n",
+        b"cts 1\r\ndie 0 0 20 20\r\nsource 0 0 0\r\nwire 1 1\r\nlimits 100 100 100\r\nbuffers 0\r\nsinks 1\r\nsink 1 3 4 5\r\nblocks 0\r\nend",
+        b" cts\t1\ndie 0 0 020 20.\nsource .0 0 0\nwire 1 1\nlimits 100 100 100\nbuffers 0\nsinks 1\nsink 01 3 4 5\nblocks 0\nend\n",
     ];
     for input in table {
+        let run = run_over(&rt, &["synth", "01"], input, &SOUND)?;
+        assert_eq!(rt; run.outcome.status, Status::Done);
+        assert_eq!(rt; run.held.as_slice(), REPORT);
+    }
+    Ok(())
+}
+
+#[test]
+fn says_that_there_is_no_tree(rt: HostRuntime) -> Result<(), Fail> {
+    let run = run_over(&rt, &["synth", "1"], BEYOND_INPUT, &SOUND)?;
+    assert_eq!(rt; run.outcome.status, Status::NoTree);
+    assert_eq!(rt; run.held.as_slice(), NO_TREE);
+    assert!(rt; run.notes.is_empty());
+    Ok(())
+}
+
+#[test]
+fn refuses_other_inputs(rt: HostRuntime) -> Result<(), Fail> {
+    let table: [(&[u8], &[u8]); 16] = [
+        (b"", b"refused: line 1: missing\n"),
+        (b"cts 2\n", b"refused: line 1: unexpected word\n"),
+        (b"cts 1 1\n", b"refused: line 1: wrong count of words\n"),
+        (
+            b"cts 1\ndie 0 \x80 20 20\n",
+            b"refused: line 2: not ascii\n",
+        ),
+        (
+            b"cts 1\ndie . 0 20 20\n",
+            b"refused: line 2: number without digits\n",
+        ),
+        (
+            b"cts 1\ndie 0 0 20 2-\n",
+            b"refused: line 2: bad byte in number at 1\n",
+        ),
+        (
+            b"cts 1\ndie 0 0 20 20\nsource 0.0005 0 0\n",
+            b"refused: line 3: number too fine at 5\n",
+        ),
+        (
+            b"cts 1\ndie 0 0 20 20\nsource 21 0 0\n",
+            b"refused: line 3: outside the die\n",
+        ),
+        (
+            b"cts 1\ndie 0 0 20 20\nsource 0 0 0\nwire 0 1\n",
+            b"refused: line 4: out of range\n",
+        ),
+        (
+            b"cts 1\ndie 0 0 20 20\nsource 0 0 0\nwire 1 1\nlimits 100 100 1000\n",
+            b"refused: line 5: number too great\n",
+        ),
+        (
+            b"cts 1\ndie 0 0 20 20\nsource 0 0 0\nwire 1 1\nlimits 1 1 1\nbuffers 17\n",
+            b"refused: line 6: too many\n",
+        ),
+        (
+            b"cts 1\ndie 0 0 20 20\nsource 0 0 0\nwire 1 1\nlimits 1 1 1\nbuffers 0\nsinks 0\n",
+            b"refused: line 7: no sink\n",
+        ),
+        (
+            b"cts 1\ndie 0 0 20 20\nsource 0 0 0\nwire 1 1\nlimits 1 1 1\nbuffers 0\nsinks 2\nsink 1 3 4 5\nsink 1 5 5 5\n",
+            b"refused: line 9: sink 1 twice\n",
+        ),
+        (
+            b"cts 1\ndie 0 0 20 20\nsource 0 0 0\nwire 1 1\nlimits 1 1 1\nbuffers 0\nsinks 1\nsink 1 3 4 5\nblocks 1\nblock all 1 1 5 5\n",
+            b"refused: line 10: source or sink in block\n",
+        ),
+        // two sinks are not served so far
+        (
+            b"cts 1\ndie 0 0 20 20\nsource 0 0 0\nwire 1 1\nlimits 100 100 100\nbuffers 0\nsinks 2\nsink 1 3 4 5\nsink 2 5 5 5\nblocks 0\nend\n",
+            b"refused: not built\n",
+        ),
+        (
+            b"cts 1\ndie 0 0 20 20\nsource 0 0 0\nwire 1 1\nlimits 100 100 100\nbuffers 0\nsinks 1\nsink 1 3 4 5\nblocks 0\nend\n\nmore\n",
+            b"refused: line 12: unexpected word\n",
+        ),
+    ];
+    for (input, note) in table {
         let run = run_over(&rt, &["synth", "1"], input, &SOUND)?;
         assert_eq!(rt; run.outcome.status, Status::Refused);
         assert!(rt; run.held.is_empty());
-        assert_eq!(rt; run.notes.as_slice(), NOT_BUILT);
+        assert_eq!(rt; run.notes.as_slice(), note);
     }
     Ok(())
 }

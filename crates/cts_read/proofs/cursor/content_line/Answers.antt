@@ -1,6 +1,6 @@
-use Rattle.std.proofs.Common.{◌≡◌, ◌+◌, [], sym, ap, ◌∙◌, refl}
+use Rattle.std.proofs.Common.{◌≡◌, [], sym, ap, ◌∙◌, refl}
 use Rattle.cts_io.specs.Lines.{lines_of}
-use Rattle.cts_read.specs.Grammar.{Left, left_of, line_at}
+use Rattle.cts_read.specs.Grammar.{Left, line_at}
 use Rattle.cts_read.proofs.Contents.{left_skip, left_next, left_none, missing_none}
 use Rattle.cts_read.proofs.cursor.content_line.Goals as goal
 

@@ -1,10 +1,10 @@
-use Rattle.std.proofs.Common.{◌≡◌, ◌-◌, ◌+◌, [], ◌++◌, ◌∷◌, length, Ok, sym, ap, ◌∙◌, arith, refl, length-append}
+use Rattle.std.proofs.Common.{◌≡◌, ◌+◌, [], length, sym, ap, ◌∙◌, arith, refl, length-append}
 use Rattle.std.proofs.lemmas.Result.{err_from_is_err_and}
 use Rattle.cts_instance.specs.FirstFault.{counts_of}
 use Rattle.cts_instance.proofs.FirstFaultLemmas.{first_of-nil}
 use Rattle.cts_instance.proofs.CountLemmas.{counts_of-push, counts_with-total}
 use Rattle.cts_instance.specs.FirstFault.{block_line, blocks_fault}
-use Rattle.cts_read.specs.Grammar.{left_of, Refuses}
+use Rattle.cts_read.specs.Grammar.{left_of}
 use Rattle.cts_read.specs.Items.{block_of, list_at}
 use Rattle.cts_read.proofs.ListSteps.{list_step, list_refused, list_done, sound_push}
 use Rattle.cts_read.proofs.lists.read_blocks.Goals as goal

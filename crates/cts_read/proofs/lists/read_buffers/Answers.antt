@@ -1,8 +1,8 @@
-use Rattle.std.proofs.Common.{◌≡◌, ◌-◌, ◌+◌, [], ◌++◌, ◌∷◌, length, Ok, sym, ap, ◌∙◌, arith, refl, subst, length-append}
+use Rattle.std.proofs.Common.{◌≡◌, ◌+◌, [], length, sym, ap, ◌∙◌, arith, refl, length-append}
 use Rattle.std.proofs.lemmas.Result.{err_from_is_err_and}
 use Rattle.cts_instance.specs.FirstFault.{buffer_line, buffers_fault}
 use Rattle.cts_instance.proofs.FirstFaultLemmas.{first_of-nil}
-use Rattle.cts_read.specs.Grammar.{left_of, Refuses}
+use Rattle.cts_read.specs.Grammar.{left_of}
 use Rattle.cts_read.specs.Items.{buffer_of, list_at}
 use Rattle.cts_read.proofs.ListSteps.{list_step, list_refused, list_done, sound_push}
 use Rattle.cts_read.proofs.lists.read_buffers.Goals as goal

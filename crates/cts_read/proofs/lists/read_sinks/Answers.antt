@@ -1,9 +1,9 @@
-use Rattle.std.proofs.Common.{◌≡◌, ◌-◌, ◌+◌, [], ◌++◌, ◌∷◌, length, map, Ok, sym, ap, ◌∙◌, arith, refl, length-append}
+use Rattle.std.proofs.Common.{◌≡◌, ◌+◌, [], length, sym, ap, ◌∙◌, arith, refl, length-append}
 use Rattle.std.proofs.lemmas.List.{map-append}
 use Rattle.std.proofs.lemmas.Result.{err_from_is_err_and}
 use Rattle.cts_instance.specs.FirstFault.{sink_line, sinks_fault}
 use Rattle.cts_instance.proofs.FirstFaultLemmas.{first_of-nil}
-use Rattle.cts_read.specs.Grammar.{left_of, Refuses}
+use Rattle.cts_read.specs.Grammar.{left_of}
 use Rattle.cts_read.specs.Items.{sink_of, list_at}
 use Rattle.cts_read.proofs.ListSteps.{list_step, list_refused, list_done, sound_push}
 use Rattle.cts_read.proofs.lists.read_sinks.Goals as goal

@@ -1,4 +1,4 @@
-use Rattle.std.proofs.Common.{◌≡◌, ◌+◌, [], length, sym, ap, ◌∙◌, true, false, refl}
+use Rattle.std.proofs.Common.{◌≡◌, [], sym, ap, ◌∙◌, true, false, refl}
 use Rattle.cts_io.specs.Lines.{lines_of}
 use Rattle.cts_read.specs.Grammar.{content}
 use Rattle.cts_read.specs.Whole.{rest_of}

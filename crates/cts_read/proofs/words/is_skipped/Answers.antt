@@ -1,4 +1,4 @@
-use Rattle.std.proofs.Common.{◌≡◌, true, false, sym, ◌∙◌, ap, arith, rules, length, drop}
+use Rattle.std.proofs.Common.{◌≡◌, sym, ◌∙◌, ap, arith, length, drop}
 use Rattle.cts_read.specs.Lines.{is_skipped}
 use Rattle.cts_read.proofs.WordLists.{skipped_drop, skipped_here, skipped_none}
 use Rattle.cts_read.proofs.words.is_skipped.Goals as goal

@@ -1,5 +1,5 @@
-use Rattle.std.proofs.Common.{◌≡◌, ◌<◌, length, sym, ◌∙◌, arith}
-use Rattle.cts_read.proofs.WordLists.{words_of_front, words_of_empty, no_word}
+use Rattle.std.proofs.Common.{sym, ◌∙◌, arith}
+use Rattle.cts_read.proofs.WordLists.{words_of_front, no_word}
 use Rattle.cts_read.proofs.words.word_at.Goals as goal
 
 pub returns-then-end-eq0-clause-word : goal.returns-then-end-eq0-clause-word

@@ -1,4 +1,4 @@
-use Rattle.std.proofs.Common.{◌≡◌, ◌∙◌}
+use Rattle.std.proofs.Common.{◌∙◌}
 use Rattle.cts_read.proofs.Places.{place_after}
 use Rattle.cts_read.proofs.cursor.Cursor.next.Goals as goal
 

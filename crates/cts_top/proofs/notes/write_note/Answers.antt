@@ -1,0 +1,5 @@
+use Rattle.cts_top.proofs.Chains.{written}
+use Rattle.cts_top.proofs.notes.write_note.Goals as goal
+
+pub returns : goal.returns
+returns g c = written c.new-out.ensures c.put_ending.ensures c.finish.ensures
