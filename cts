@@ -5,7 +5,7 @@ top=$(CDPATH='' cd -- "$(dirname -- "$0")" && pwd) || exit 2
 program=$top/crates/cts_main/out/cts_main
 
 is_current() {
-    [ -x "$program" ] && [ -z "$(find "$top/crates.txt" "$top/HANDLES" "$top/crates" -name out -prune -o -type f -newer "$program" -print | head -n 1)" ]
+    [ -x "$program" ] && [ -z "$(find "$top/crates.txt" "$top/HANDLES" "$top/crates" \( -name out -o -name must-fail \) -prune -o -type f -newer "$program" -print | head -n 1)" ]
 }
 
 build() {
