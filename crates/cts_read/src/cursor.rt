@@ -1,7 +1,8 @@
 //! A cursor over the lines that are not skipped.
 
-ghost use Rattle.std.specs.Prelude.{◌≡◌, ◌+◌, ◌-◌, ◌^◌, ◌<◌, ◌≤◌, ◌↔◌, [], ◌∷◌, length, drop, MatchOption, IsNone, IfNone, IfSome, IfOk, Ok};
+ghost use Rattle.std.specs.Prelude.{◌≡◌, ◌+◌, ◌-◌, ◌^◌, ◌<◌, ◌≤◌, ◌↔◌, ◌⊎◌, [], ◌∷◌, length, drop, MatchOption, IsNone, IfNone, IfSome, IfOk, Ok};
 ghost use Rattle.cts_io.specs.Lines.{lines_of};
+ghost use Rattle.cts_read.specs.Place.{IsAfterLine};
 ghost use Rattle.cts_read.specs.Grammar.{Gives, left_of, line_at};
 
 use crate::stop::{Cause, ReadStop};
@@ -68,6 +69,7 @@ impl<'a> Cursor<'a> {
         ensures rest { drop result self.now.text ≡ self.now.rest }
         ensures lines { lines_of (drop result self.now.text) ≡ drop self.now.line (lines_of self.now.text) }
         ensures passed { self.now.line ≤ length (lines_of self.now.text) }
+        ensures after { (self.now.line ≡ 0) ⊎ IsAfterLine self.now.text self.now.rest }
     {
         self.text.len() - self.lines.rest().len()
     }
@@ -80,6 +82,7 @@ fn content_line<'a>(lines: &mut Cursor<'a>) -> Option<(u32, &'a [u8])>
         (λ next. line_at (left_of lines.old) ≡ Ok ((next.0, next.1.now), left_of lines.new)) }
     ensures end { IfNone result ((left_of lines.old).missing ≡ lines.new.line + 1) }
     ensures number { IfSome result (λ next. lines.new.line ≡ next.0) }
+    ensures some { IfSome result (λ next. 0 < next.0) }
     ensures text { lines.new.text ≡ lines.old.text }
 {
     while let Some((number, line)) = lines.next() {
@@ -95,6 +98,7 @@ fn content_line<'a>(lines: &mut Cursor<'a>) -> Option<(u32, &'a [u8])>
 pub fn next_line<'a>(lines: &mut Cursor<'a>) -> Result<(u32, &'a [u8]), ReadStop>
     ensures read { Gives (λ next. (next.0, next.1.now)) result (left_of lines.new) (line_at (left_of lines.old)) }
     ensures number { IfOk result (λ next. lines.new.line ≡ next.0) }
+    ensures some { IfOk result (λ next. 0 < next.0) }
     ensures text { lines.new.text ≡ lines.old.text }
 {
     match content_line(lines) {

@@ -1,6 +1,7 @@
 //! A whole instance, and what may follow it.
 
 ghost use Rattle.std.specs.Prelude.{◌≡◌, ◌<◌, ◌≤◌, ◌^◌, None, Ok, IfOk, IfErr, length, drop};
+ghost use Rattle.cts_read.specs.Place.{IsAfterLine};
 ghost use Rattle.cts_io.specs.Lines.{lines_of};
 ghost use Rattle.cts_instance.specs.FirstFault.{block_count_fault, buffer_count_fault, die_fault, first_fault, limits_fault, sink_count_fault, source_fault, wire_fault};
 ghost use Rattle.cts_read.specs.Grammar.{Gives, Refuses, content, item_at, left_of};
@@ -116,6 +117,7 @@ fn read_block_count(lines: &mut Cursor<'_>) -> Result<usize, ReadStop>
 fn read_end(lines: &mut Cursor<'_>) -> Result<u32, ReadStop>
     ensures read { Gives (λ x. x) result (left_of lines.new) (end_at (left_of lines.old)) }
     ensures number { IfOk result (λ number. lines.new.line ≡ number) }
+    ensures some { IfOk result (λ number. 0 < number) }
     ensures text { lines.new.text ≡ lines.old.text }
 {
     let (number, line) = next_line(lines)?;
@@ -212,7 +214,7 @@ fn assembled(head: Head, lists: Lists) -> Instance
 ///   not skipped against the next line of the grammar.
 /// - `Refused`: exactly the first line that offends, with its first cause.
 /// - `NoMemory`: an allocation failed.
-#[tactic(auto, unfolding(crate::specs::Whole::instance_of, crate::specs::Whole::instance_at))]
+#[tactic(auto, using(crate::proofs::Places::passed_some), unfolding(crate::specs::Whole::instance_of, crate::specs::Whole::instance_at))]
 pub fn read_instance(alloc: Global, bytes: &[u8]) -> Result<Taken, ReadStop>
     requires { length bytes.now ≤ 67108864 }
     ensures read { IfOk result (λ taken. instance_of bytes.now
@@ -221,6 +223,7 @@ pub fn read_instance(alloc: Global, bytes: &[u8]) -> Result<Taken, ReadStop>
 
     ensures within { IfOk result (λ taken. taken.used ≤ length bytes.now) }
     ensures lines { IfOk result (λ taken. taken.lines ≤ length (lines_of bytes.now)) }
+    ensures ends { IfOk result (λ taken. IsAfterLine bytes.now (drop taken.used bytes.now)) }
     ensures used { IfOk result (λ taken. lines_of (drop taken.used bytes.now) ≡ drop taken.lines (lines_of bytes.now)) }
 {
     let mut lines = Cursor::new(bytes);
