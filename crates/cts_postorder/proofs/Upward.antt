@@ -1,135 +1,174 @@
--- An upward pass: values of the trees in the order of their numbers, each from those of its parts.
-use Rattle.std.proofs.Common.{◌≡◌, ℕ, ◌+◌, ◌<◌, ◌≤◌, List, [], ◌∷◌, ◌++◌, map, take, length, get_or, Option, Some, None, IsSome, inl, inr, refl, sym, ap, subst, ◌∙◌, arith, get_or-take, take_all}
-use Rattle.std.proofs.lemmas.List.{map_push, get_or-map, take-map, map_more, length-map, length-take-le, get_or_push}
+-- An upward pass: a value for each tree in the order of their numbers, told from those of its parts.
+use Rattle.std.proofs.Common.{◌≡◌, ℕ, zero, suc, ◌+◌, ◌<◌, ◌≤◌, ◌⊎◌, List, [], ◌∷◌, ◌++◌, map, take, length, get_or, slice_get, Option, Some, None, inl, inr, refl, sym, ap, subst, ◌∙◌, arith, get_or-take, take_all}
+use Rattle.std.specs.List.{All, AllZip}
+use Rattle.std.proofs.lemmas.List.{take_more, length-take-le}
 use Rattle.std.proofs.lemmas.Bool.{cases_lt}
+use Rattle.std.proofs.lemmas.Option.{slice_get-get_or, slice_get_within, get_or_from_slice_get}
+use Rattle.std.proofs.lemmas.Slice.Zip.{AllZip-long}
 use Rattle.cts_postorder.specs.BinaryTree.{BinaryTree, tip, fork}
 use Rattle.cts_postorder.specs.PostOrder.{IsPostOrder, tree_over, trees_of}
 use Rattle.cts_postorder.specs.Pass.{IsLeastFailure}
 use Rattle.cts_postorder.proofs.Growth.{length-trees_of, trees_of-at}
 use Rattle.cts_postorder.proofs.Lists.{IsPair, is_pair}
 
--- the pair of number k: its parts have lower numbers, their values stand in the list so far, and its value is next
-pub record UpAtPair {N V : Type 0} (kids : N → Option (ℕ × ℕ)) (nodes : List N) (value : BinaryTree N → V) (k : ℕ)
-    (p : ℕ × ℕ) (n : N) : Type 0 where
+-- Two lists that are related place by place.
+module _ {A B : Type 0} (R : A → B → Type 0) where
+  pub all_zip-push : (xs : List A) (ys : List B) (x : A) (y : B) → AllZip R xs ys → R x y
+      → AllZip R (xs ++ x ∷ []) (ys ++ y ∷ [])
+  all_zip-push [] [] x y all here = (here, tt)
+  all_zip-push [] (v ∷ ys) x y all here = absurd all
+  all_zip-push (u ∷ xs) [] x y all here = absurd all
+  all_zip-push (u ∷ xs) (v ∷ ys) x y all here = (all.0, all_zip-push xs ys x y (all.1) here)
+
+  pub all_zip-at : (xs : List A) (ys : List B) (k : ℕ) (d : A) (e : B) → AllZip R xs ys → k < length xs
+      → R (get_or xs k d) (get_or ys k e)
+  all_zip-at [] ys k d e all h = absurd (omega arith)
+  all_zip-at (x ∷ xs) [] k d e all h = absurd all
+  all_zip-at (x ∷ xs) (y ∷ ys) zero d e all h = all.0
+  all_zip-at (x ∷ xs) (y ∷ ys) (suc k) d e all h = all_zip-at xs ys k d e (all.1) (omega arith)
+
+  -- where each item has one partner at most, so has the list
+  pub all_zip-one : ((x : A) (y z : B) → R x y → R x z → y ≡ z) → (xs : List A) (ys zs : List B)
+      → AllZip R xs ys → AllZip R xs zs → ys ≡ zs
+  all_zip-one one [] [] [] all other = refl
+  all_zip-one one [] [] (z ∷ zs) all other = absurd other
+  all_zip-one one [] (y ∷ ys) zs all other = absurd all
+  all_zip-one one (x ∷ xs) [] zs all other = absurd all
+  all_zip-one one (x ∷ xs) (y ∷ ys) [] all other = absurd other
+  all_zip-one one (x ∷ xs) (y ∷ ys) (z ∷ zs) all other =
+      ap (λ v. v ∷ ys) (one x y z (all.0) (other.0)) ∙ ap (λ vs. z ∷ vs) (all_zip-one one xs ys zs (all.1) (other.1))
+
+  -- a property that each partner has
+  pub all_zip-all : (P : B → Type 0) → ((x : A) (y : B) → R x y → P y) → (xs : List A) (ys : List B)
+      → AllZip R xs ys → All P ys
+  all_zip-all P has [] [] all = λ k d h. absurd (omega arith)
+  all_zip-all P has [] (y ∷ ys) all = absurd all
+  all_zip-all P has (x ∷ xs) [] all = absurd all
+  all_zip-all P has (x ∷ xs) (y ∷ ys) all = λ k d h. elim (at_or_after k) [
+    | inl first ↦ subst (λ i. P (get_or (y ∷ ys) i d)) (sym first) (has x y (all.0))
+    | inr later ↦
+        subst (λ i. P (get_or (y ∷ ys) i d)) (sym (later.1)) (all_zip-all P has xs ys (all.1) (later.0) d (omega (arith, later.1)))
+  ]
+    where
+      at_or_after : (k : ℕ) → (k ≡ 0) ⊎ ((j : ℕ) × (k ≡ suc j))
+      at_or_after zero = inl refl
+      at_or_after (suc j) = inr (j, refl)
+
+-- The pair of number k: its parts have lower numbers, they stand in the relation to their values so far, and with a
+-- value for the pair itself there is one more.
+pub record UpAtPair {N V : Type 0} (kids : N → Option (ℕ × ℕ)) (nodes : List N) (R : BinaryTree N → V → Type 0)
+    (k : ℕ) (p : ℕ × ℕ) (n : N) (out : List V) : Type 0 where
   pub left : BinaryTree N
   pub right : BinaryTree N
   pub left_below : p.0 < k
   pub right_below : p.1 < k
-  pub left_value : (v : V) → get_or (take k (map value (trees_of kids nodes))) (p.0) v ≡ value left
-  pub right_value : (v : V) → get_or (take k (map value (trees_of kids nodes))) (p.1) v ≡ value right
-  pub next : take (k + 1) (map value (trees_of kids nodes))
-      ≡ take k (map value (trees_of kids nodes)) ++ value (fork left right n) ∷ []
+  pub left_value : (v : V) → R left (get_or out (p.0) v)
+  pub right_value : (v : V) → R right (get_or out (p.1) v)
+  pub here : slice_get (trees_of kids nodes) k ≡ Some (fork left right n)
+  pub next : (v : V) → R (fork left right n) v → AllZip R (take (k + 1) (trees_of kids nodes)) (out ++ v ∷ [])
 
-module _ {N V : Type 0} (kids : N → Option (ℕ × ℕ)) (value : BinaryTree N → V) where
+module _ {N V : Type 0} (kids : N → Option (ℕ × ℕ)) (R : BinaryTree N → V → Type 0) where
+  -- there is a value for each node so far
+  pub up_long : (nodes : List N) (k : ℕ) (out : List V) → k ≤ length nodes
+      → AllZip R (take k (trees_of kids nodes)) out → length out ≡ k
+  up_long nodes k out h all =
+      AllZip-long R (take k (trees_of kids nodes)) out all
+      ∙ length-take-le k (trees_of kids nodes) (omega (arith, length-trees_of kids nodes))
+
   -- one more value: that of the tree at the next number
-  pub up_more : (nodes : List N) (k : ℕ) (d : BinaryTree N) → k < length nodes
-      → take (k + 1) (map value (trees_of kids nodes))
-      ≡ take k (map value (trees_of kids nodes)) ++ value (get_or (trees_of kids nodes) k d) ∷ []
-  up_more nodes k d h =
+  pub up_more : (nodes : List N) (k : ℕ) (t d : BinaryTree N) (out : List V) (v : V) → k < length nodes
+      → get_or (trees_of kids nodes) k d ≡ t → AllZip R (take k (trees_of kids nodes)) out → R t v
+      → AllZip R (take (k + 1) (trees_of kids nodes)) (out ++ v ∷ [])
+  up_more nodes k t d out v h is all here =
       let trees : List (BinaryTree N) = trees_of kids nodes in
-      let inside : k < length trees = omega (arith, length-trees_of kids nodes) in
-      take-map value (k + 1) trees ∙ map_more value trees k d inside
-      ∙ ap (λ vs. vs ++ value (get_or trees k d) ∷ []) (sym (take-map value k trees))
+      let more : take (k + 1) trees ≡ take k trees ++ t ∷ [] =
+      take_more trees k d (omega (arith, length-trees_of kids nodes)) ∙ ap (λ u. take k trees ++ u ∷ []) is in
+      subst (λ ts. AllZip R ts (out ++ v ∷ [])) (sym more) (all_zip-push R (take k trees) out t v all here)
 
-  pub up_at_leaf : (nodes : List N) (k : ℕ) (e : N) → k < length nodes → kids (get_or nodes k e) ≡ None
-      → take (k + 1) (map value (trees_of kids nodes))
-      ≡ take k (map value (trees_of kids nodes)) ++ value (tip (get_or nodes k e)) ∷ []
+  -- the tree at a leaf
+  pub leaf_here : (nodes : List N) (k : ℕ) (e : N) (d : BinaryTree N) → k < length nodes → kids (get_or nodes k e) ≡ None
+      → get_or (trees_of kids nodes) k d ≡ tip (get_or nodes k e)
   unfolding tree_over
-  up_at_leaf nodes k e h leaf =
-      let n : N = get_or nodes k e in
-      let tree : get_or (trees_of kids nodes) k (tip e) ≡ tip n =
-      trees_of-at kids nodes k e (tip e) h ∙ ap (λ c. tree_over c (take k (trees_of kids nodes)) n) leaf in
-      up_more nodes k (tip e) h ∙ ap (λ t. take k (map value (trees_of kids nodes)) ++ value t ∷ []) tree
+  leaf_here nodes k e d h leaf =
+      trees_of-at kids nodes k e d h ∙ ap (λ c. tree_over c (take k (trees_of kids nodes)) (get_or nodes k e)) leaf
 
-  pub up_at_pair : (nodes : List N) → IsPostOrder (map kids nodes) → (k : ℕ) (e : N) (p : ℕ × ℕ) → k < length nodes
-      → kids (get_or nodes k e) ≡ Some p → UpAtPair kids nodes value k p (get_or nodes k e)
-  up_at_pair nodes ok k e p h pair =
+  pub up_at_leaf : (nodes : List N) (k : ℕ) (e : N) (out : List V) (v : V) → k < length nodes
+      → kids (get_or nodes k e) ≡ None → AllZip R (take k (trees_of kids nodes)) out → R (tip (get_or nodes k e)) v
+      → AllZip R (take (k + 1) (trees_of kids nodes)) (out ++ v ∷ [])
+  up_at_leaf nodes k e out v h leaf all here =
+      up_more nodes k (tip (get_or nodes k e)) (tip e) out v h (leaf_here nodes k e (tip e) h leaf) all here
+
+  pub up_at_pair : (nodes : List N) → IsPostOrder (map kids nodes) → (k : ℕ) (e : N) (p : ℕ × ℕ) (out : List V)
+      → k < length nodes → kids (get_or nodes k e) ≡ Some p → AllZip R (take k (trees_of kids nodes)) out
+      → UpAtPair kids nodes R k p (get_or nodes k e) out
+  up_at_pair nodes ok k e p out h pair all =
       let n : N = get_or nodes k e in
       let trees : List (BinaryTree N) = trees_of kids nodes in
       let v : IsPair kids nodes k p n = is_pair kids nodes ok k e p h pair in
       let long : length trees ≡ length nodes = length-trees_of kids nodes in
-      let at : (i : ℕ) (u : V) → i < k → get_or (take k (map value trees)) i u ≡ value (get_or trees i (tip e)) =
-      λ i u w. get_or-take k (map value trees) i u w ∙ get_or-map value trees i (tip e) u (omega arith) in
+      let front : length (take k trees) ≡ k = length-take-le k trees (omega arith) in
+      let at : (i : ℕ) (t : BinaryTree N) (u : V) → i < k → get_or trees i (tip e) ≡ t → R t (get_or out i u) =
+      λ i t u w is. subst (λ s. R s (get_or out i u)) (get_or-take k trees i (tip e) w ∙ is)
+      (all_zip-at R (take k trees) out i (tip e) u all (omega arith)) in
       record {
         left = v.left;
         right = v.right;
         left_below = v.left_below;
         right_below = v.right_below;
-        left_value = λ u. at (p.0) u v.left_below ∙ ap value (v.left_tree (tip e));
-        right_value = λ u. at (p.1) u v.right_below ∙ ap value (v.right_tree (tip e));
-        next = up_more nodes k (tip e) h ∙ ap (λ t. take k (map value trees) ++ value t ∷ []) (v.tree (tip e));
+        left_value = λ u. at (p.0) v.left u v.left_below (v.left_tree (tip e));
+        right_value = λ u. at (p.1) v.right u v.right_below (v.right_tree (tip e));
+        here = slice_get-get_or trees k (tip e) (omega arith) ∙ ap Some (v.tree (tip e));
+        next = λ u here. up_more nodes k (fork v.left v.right n) (tip e) out u h (v.tree (tip e)) all here;
       }
 
-  -- at the end the values of all trees are there
-  pub up_all : (nodes : List N) (k : ℕ) → length nodes ≤ k
-      → take k (map value (trees_of kids nodes)) ≡ map value (trees_of kids nodes)
-  up_all nodes k h =
-      take_all k (map value (trees_of kids nodes)) (simp length-map (omega (arith, length-trees_of kids nodes)))
+  -- at the end there is a value for each tree
+  pub up_all : (nodes : List N) (k : ℕ) (out : List V) → length nodes ≤ k → AllZip R (take k (trees_of kids nodes)) out
+      → AllZip R (trees_of kids nodes) out
+  up_all nodes k out h all =
+      subst (λ ts. AllZip R ts out) (take_all k (trees_of kids nodes) (omega (arith, length-trees_of kids nodes))) all
 
--- An upward pass that stops at the first failure keeps the values of the trees before it. What it keeps is right:
--- wherever the values so far, as Some, are what is tried of the trees so far, the tried value of each is there.
-pub kept_value : {V : Type 0} (out : List V) (i : ℕ) (v : V) (tried : Option V) → i < length out
-    → get_or (map Some out) i None ≡ tried → tried ≡ Some (get_or out i v)
-kept_value out i v tried h e = sym e ∙ get_or-map Some out i v None h
+-- An upward pass that stops at the first failure. A tree that has a value does not fail.
+module _ {N V : Type 0} (kids : N → Option (ℕ × ℕ)) (R : BinaryTree N → V → Type 0) (Fails : BinaryTree N → Type 0)
+    (sound : (t : BinaryTree N) (v : V) → R t v → ¬ Fails t) where
+  none_fail : (ts : List (BinaryTree N)) (out : List V) → AllZip R ts out → All (λ t. ¬ Fails t) ts
+  none_fail ts [] all = λ k d h. absurd (omega (arith, AllZip-long R ts [] all))
+  none_fail ts (v ∷ out) all = λ k d h. sound (get_or ts k d) (get_or (v ∷ out) k v) (all_zip-at R ts (v ∷ out) k d v all h)
 
--- some item of a list that has one
-first : {V : Type 0} (xs : List V) (i : ℕ) → i < length xs → V
-first [] i h = absurd (omega arith)
-first (x ∷ xs) i h = x
-
--- one more value is kept
-pub kept_more : {V : Type 0} (out : List V) (x : V) (values : List (Option V)) (k : ℕ) (tried : Option V)
-    → map Some out ≡ take k values → take (k + 1) values ≡ take k values ++ tried ∷ [] → tried ≡ Some x
-    → map Some (out ++ x ∷ []) ≡ take (k + 1) values
-kept_more out x values k tried kept next is =
-    map_push Some out x ∙ ap (λ vs. vs ++ Some x ∷ []) kept ∙ ap (λ v. take k values ++ v ∷ []) (sym is) ∙ sym next
-
-module _ {N V : Type 0} (kids : N → Option (ℕ × ℕ)) (tried : BinaryTree N → Option V) where
   -- where the next tree fails, its number is the least
-  pub least_failure : (nodes : List N) (out : List V) (k : ℕ) (t : BinaryTree N) → k < length nodes
-      → map Some out ≡ take k (map tried (trees_of kids nodes))
-      → take (k + 1) (map tried (trees_of kids nodes)) ≡ take k (map tried (trees_of kids nodes)) ++ tried t ∷ []
-      → tried t ≡ None → IsLeastFailure kids nodes tried k
-  least_failure nodes out k t h kept next fails =
-      let values : List (Option V) = map tried (trees_of kids nodes) in
-      let long : length values ≡ length nodes = simp length-map (length-trees_of kids nodes) in
-      let front : length (take k values) ≡ k = length-take-le k values (omega arith) in
-      let out_long : length out ≡ k = sym (length-map out Some) ∙ ap length kept ∙ front in
-      record {
-        within = h;
-        fails = sym (get_or-take (k + 1) values k None (omega arith)) ∙ ap (λ vs. get_or vs k None) next
-            ∙ get_or_push (take k values) (tried t) None k front ∙ fails;
-        none_before = λ j w.
-            let inside : j < length out = omega arith in
-            let there : get_or values j None ≡ get_or (map Some out) j None =
-            sym (get_or-take k values j None w) ∙ ap (λ vs. get_or vs j None) (sym kept) in
-            subst IsSome (sym (there ∙ get_or-map Some out j (first out j inside) None inside)) refl;
-      }
+  pub least_failure : (nodes : List N) (out : List V) (k : ℕ) (t : BinaryTree N)
+      → AllZip R (take k (trees_of kids nodes)) out → slice_get (trees_of kids nodes) k ≡ Some t → Fails t
+      → IsLeastFailure kids nodes Fails k
+  least_failure nodes out k t all here fails =
+      record { tree = t; found = here; fails = fails; none_before = none_fail (take k (trees_of kids nodes)) out all }
 
-  -- the least number that fails is one
-  pub least_failure_unique : (nodes : List N) (j k : ℕ) → IsLeastFailure kids nodes tried j
-      → IsLeastFailure kids nodes tried k → j ≡ k
+  -- where every tree has a value no number fails
+  pub none_left : (nodes : List N) (out : List V) (k : ℕ) → AllZip R (trees_of kids nodes) out
+      → ¬ IsLeastFailure kids nodes Fails k
+  none_left nodes out k all f =
+      let trees : List (BinaryTree N) = trees_of kids nodes in
+      let within : k < length trees = slice_get_within trees k f.tree f.found in
+      let is : get_or trees k f.tree ≡ f.tree = get_or_from_slice_get trees k f.tree f.tree f.found in
+      none_fail trees out all k f.tree within (subst Fails (sym is) f.fails)
+
+-- the least number that fails is one
+module _ {N : Type 0} (kids : N → Option (ℕ × ℕ)) (Fails : BinaryTree N → Type 0) where
+  not_before : (nodes : List N) (j k : ℕ) → IsLeastFailure kids nodes Fails j → IsLeastFailure kids nodes Fails k
+      → ¬ (j < k)
+  not_before nodes j k f g h =
+      let trees : List (BinaryTree N) = trees_of kids nodes in
+      let within : k < length trees = slice_get_within trees k g.tree g.found in
+      let front : length (take k trees) ≡ k = length-take-le k trees (omega arith) in
+      let is : get_or (take k trees) j f.tree ≡ f.tree =
+      get_or-take k trees j f.tree h ∙ get_or_from_slice_get trees j f.tree f.tree f.found in
+      g.none_before j f.tree (omega arith) (subst Fails (sym is) f.fails)
+
+  pub least_failure_unique : (nodes : List N) (j k : ℕ) → IsLeastFailure kids nodes Fails j
+      → IsLeastFailure kids nodes Fails k → j ≡ k
   least_failure_unique nodes j k f g =
       elim (cases_lt j k) [
-        | inl h ↦ absurd (no_value _ f.fails (g.none_before j h))
+        | inl h ↦ absurd (not_before nodes j k f g h)
         | inr h ↦ elim (cases_lt k j) [
-          | inl w ↦ absurd (no_value _ g.fails (f.none_before k w))
+          | inl w ↦ absurd (not_before nodes k j g f w)
           | inr w ↦ omega arith
         ]
       ]
-    where
-      no_value : (v : Option V) → v ≡ None → IsSome v → ⊥
-      no_value None e h = cc
-      no_value (Some x) e h = cc
-
-  -- where every value is kept no number fails
-  pub kept_all : (nodes : List N) (out : List V) → map Some out ≡ map tried (trees_of kids nodes) → (k : ℕ)
-      → ¬ IsLeastFailure kids nodes tried k
-  kept_all nodes out kept k f =
-      let long : length out ≡ length nodes =
-      sym (length-map out Some) ∙ ap length kept ∙ length-map (trees_of kids nodes) tried ∙ length-trees_of kids nodes in
-      let within : k < length out = omega (arith, f.within) in
-      let there : get_or (map Some out) k None ≡ None = ap (λ vs. get_or vs k None) kept ∙ f.fails in
-      let some : get_or (map Some out) k None ≡ Some (get_or out k (first out k within)) =
-      get_or-map Some out k (first out k within) None within in
-      cc

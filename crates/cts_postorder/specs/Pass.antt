@@ -1,16 +1,16 @@
 -- Passes over the nodes of a tree by number: upward, each node after its parts, and downward, each node before them.
-use Rattle.std.specs.Prelude.{◌≡◌, ℕ, ◌+◌, ◌<◌, ◌≤◌, ◌⊎◌, List, map, length, slice_index_or, Option, Some, None, IsSome}
+use Rattle.std.specs.Prelude.{◌≡◌, ℕ, ◌+◌, ◌<◌, ◌≤◌, ◌⊎◌, List, take, length, slice_get, slice_index_or, All, Option, Some}
 use Rattle.cts_postorder.specs.BinaryTree.{BinaryTree}
 use Rattle.cts_postorder.specs.PostOrder.{trees_of}
 use Rattle.cts_postorder.specs.Occurrence.{Occurrence, occurrences_of}
 
--- The least number at which an upward pass fails. `tried` has the value of a tree, or nothing where the tree, or a
--- part of it, fails.
-pub record IsLeastFailure {N V : Type 0} (kids : N → Option (ℕ × ℕ)) (nodes : List N) (tried : BinaryTree N → Option V)
+-- The least number at which an upward pass fails: the tree at this number fails, and none at a lower one does.
+pub record IsLeastFailure {N : Type 0} (kids : N → Option (ℕ × ℕ)) (nodes : List N) (Fails : BinaryTree N → Type 0)
     (k : ℕ) : Type 0 where
-  pub within : k < length nodes
-  pub fails : slice_index_or (map tried (trees_of kids nodes)) k None ≡ None
-  pub none_before : (j : ℕ) → j < k → IsSome (slice_index_or (map tried (trees_of kids nodes)) j None)
+  pub tree : BinaryTree N
+  pub found : slice_get (trees_of kids nodes) k ≡ Some tree
+  pub fails : Fails tree
+  pub none_before : All (λ t. ¬ Fails t) (take k (trees_of kids nodes))
 
 -- In a downward pass that has come down to the number k, the value at a number is due where it is the root's, or that
 -- of a part of a pair from k on. `e` stands for a node past the end.

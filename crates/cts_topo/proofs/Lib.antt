@@ -8,4 +8,5 @@ pub mod Divisions
 pub mod PinsFrom
 pub mod Divided
 pub mod Whole
+pub mod Counts
 mod Example

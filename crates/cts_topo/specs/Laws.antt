@@ -6,7 +6,7 @@ use Rattle.cts_postorder.specs.PostOrder.{root_of}
 use Rattle.cts_topo.specs.declared.shape.ShapeNode.{ShapeNode}
 use Rattle.cts_topo.specs.declared.shape.ShapeNode.TheVariants.{Leaf}
 use Rattle.cts_topo.specs.declared.pin.Pin.{Pin}
-use Rattle.cts_topo.specs.Shape.{children, IsShapeOver}
+use Rattle.cts_topo.specs.Shape.{children, leaf_sinks, IsShapeOver}
 use Rattle.cts_topo.specs.Sinks.{AreSinks}
 use Rattle.cts_topo.specs.Topology.{left_size, left_part, right_part, pins_from, topology_of, shape_of}
 
@@ -29,6 +29,12 @@ abbrev pub ShapesNameEachSink : Type 0
 ShapesNameEachSink =
     (sinks : List Sink) → AreSinks sinks
     → IsShapeOver (length sinks) (shape_of sinks) × (length (shape_of sinks) + 1 ≡ 2 * length sinks)
+
+-- every shape over n sinks, whatever its form, has n leaves and 2n - 1 nodes
+abbrev pub ShapesHaveCounts : Type 0
+ShapesHaveCounts =
+    (count : ℕ) (nodes : List ShapeNode) → IsShapeOver count nodes
+    → (length (leaf_sinks nodes) ≡ count) × (length nodes + 1 ≡ 2 * count)
 
 -- over at most 2^d sinks at most d pairs stand one above another, and so never more than 16
 abbrev pub ShapesAreShallow : Type 0

@@ -1,6 +1,6 @@
 //! What holds of the shape over every list of sinks.
 
-ghost use Rattle.cts_topo.specs.Laws.{ShapesAreDivided, ShapesNameEachSink, ShapesAreShallow};
+ghost use Rattle.cts_topo.specs.Laws.{ShapesAreDivided, ShapesNameEachSink, ShapesHaveCounts, ShapesAreShallow};
 
 /// A law: the tree that a shape spells is divided by the rule at each pair, with half of the
 /// sinks, rounded up, on the left.
@@ -11,6 +11,11 @@ pub fn shapes_are_divided()
 /// A law: a shape over n sinks names each of them once and has 2n - 1 nodes.
 pub fn shapes_name_each_sink()
     ensures { ShapesNameEachSink }
+{}
+
+/// A law: every shape over n sinks, whatever its form, has n leaves and 2n - 1 nodes.
+pub fn shapes_have_counts()
+    ensures { ShapesHaveCounts }
 {}
 
 /// A law: the depth of a shape over n sinks is at most the logarithm of n to the base 2, rounded

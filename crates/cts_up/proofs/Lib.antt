@@ -1,0 +1,6 @@
+pub mod Leaves
+pub mod Unique
+pub mod Regions
+pub mod Sides
+pub mod Node
+pub mod Merges

@@ -1,0 +1,73 @@
+use Rattle.std.proofs.Common.{length, arith}
+use Rattle.cts_topo.proofs.Counts.{leaf_within, leaves_at_leaf, leaves_at_pair}
+use Rattle.cts_up.proofs.Node.{leaf_next, left_within, right_within, left_ready, right_ready, pair_next, pair_beyond}
+use Rattle.cts_up.proofs.pass.finish_node.Goals as goal
+
+pub bounds-sinks-sink : goal.bounds-sinks-sink
+bounds-sinks-sink g c =
+    leaf_within (length c.args.sinks.now) c.args.nodes.now c.requires.shape c.args.number _ _ c.requires.number (c.in-Leaf.is)
+
+pub bounds-plan-left : goal.bounds-plan-left
+bounds-plan-left g c =
+    left_within c.args.params.now c.args.sinks.now c.args.nodes.now c.requires.shape c.args.number c.requires.number
+    c.args.plan.now c.requires.before c.in-Pair.left c.in-Pair.right _ (c.in-Pair.is)
+
+pub bounds-plan-right : goal.bounds-plan-right
+bounds-plan-right g c =
+    right_within c.args.params.now c.args.sinks.now c.args.nodes.now c.requires.shape c.args.number c.requires.number
+    c.args.plan.now c.requires.before c.in-Pair.left c.in-Pair.right _ (c.in-Pair.is)
+
+pub merge-requires-clause-a : goal.merge-requires-clause-a
+merge-requires-clause-a g c =
+    (left_ready c.args.params.now c.args.sinks.now c.args.nodes.now c.requires.shape c.args.number c.requires.number
+    c.args.plan.now c.requires.before c.in-Pair.left c.in-Pair.right _ (c.in-Pair.is)
+    c.index-plan-left.result _ (c.index-plan-left.is) c.requires.params c.requires.sinks).0
+
+pub merge-requires-clause-b : goal.merge-requires-clause-b
+merge-requires-clause-b g c =
+    (right_ready c.args.params.now c.args.sinks.now c.args.nodes.now c.requires.shape c.args.number c.requires.number
+    c.args.plan.now c.requires.before c.in-Pair.left c.in-Pair.right _ (c.in-Pair.is)
+    c.index-plan-right.result _ (c.index-plan-right.is) c.requires.params c.requires.sinks).0
+
+pub merge-requires-clause-a_region : goal.merge-requires-clause-a_region
+merge-requires-clause-a_region g c =
+    (left_ready c.args.params.now c.args.sinks.now c.args.nodes.now c.requires.shape c.args.number c.requires.number
+    c.args.plan.now c.requires.before c.in-Pair.left c.in-Pair.right _ (c.in-Pair.is)
+    c.index-plan-left.result _ (c.index-plan-left.is) c.requires.params c.requires.sinks).1
+
+pub merge-requires-clause-b_region : goal.merge-requires-clause-b_region
+merge-requires-clause-b_region g c =
+    (right_ready c.args.params.now c.args.sinks.now c.args.nodes.now c.requires.shape c.args.number c.requires.number
+    c.args.plan.now c.requires.before c.in-Pair.left c.in-Pair.right _ (c.in-Pair.is)
+    c.index-plan-right.result _ (c.index-plan-right.is) c.requires.params c.requires.sinks).1
+
+pub returns-in-Leaf-clause-next : goal.returns-in-Leaf-clause-next
+returns-in-Leaf-clause-next g c =
+    leaf_next c.args.params.now c.args.sinks.now c.args.nodes.now c.requires.shape c.args.number c.requires.number
+    c.args.plan.now c.requires.before c.in-Leaf.sink _ (c.in-Leaf.is) _ c.leaf.result c.leaf.ensures.leaf
+
+pub returns-in-Leaf-clause-merges : goal.returns-in-Leaf-clause-merges
+returns-in-Leaf-clause-merges g c =
+    omega (arith, leaves_at_leaf c.args.nodes.now c.args.number _ c.in-Leaf.sink c.requires.number (c.in-Leaf.is))
+
+pub returns-in-Pair-clause-next : goal.returns-in-Pair-clause-next
+returns-in-Pair-clause-next g c =
+    pair_next c.args.params.now c.args.sinks.now c.args.nodes.now c.requires.shape c.args.number c.requires.number
+    c.args.plan.now c.requires.before c.in-Pair.left c.in-Pair.right _ (c.in-Pair.is)
+    c.index-plan-left.result c.index-plan-right.result _ _ (c.index-plan-left.is) (c.index-plan-right.is)
+    c.merge.result c.merge.ensures.merged
+
+pub returns-in-Pair-clause-beyond : goal.returns-in-Pair-clause-beyond
+returns-in-Pair-clause-beyond g c =
+    pair_beyond c.args.params.now c.args.sinks.now c.args.nodes.now c.requires.shape c.args.number c.requires.number
+    c.args.plan.now c.requires.before c.in-Pair.left c.in-Pair.right _ (c.in-Pair.is)
+    c.index-plan-left.result c.index-plan-right.result _ _ (c.index-plan-left.is) (c.index-plan-right.is)
+    c.merge.result c.merge.ensures.beyond
+
+pub returns-in-Pair-clause-merges : goal.returns-in-Pair-clause-merges
+returns-in-Pair-clause-merges g c =
+    omega (
+      arith,
+      c.merge.ensures.tick,
+      leaves_at_pair c.args.nodes.now c.args.number _ c.in-Pair.left c.in-Pair.right c.requires.number (c.in-Pair.is),
+    )

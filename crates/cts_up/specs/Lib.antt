@@ -1,0 +1,6 @@
+pub mod Sinks
+pub mod Plan
+pub mod Ends
+pub mod Laws
+pub use Rattle.cts_merge.specs.Merge
+pub use Rattle.cts_postorder.specs.Pass
