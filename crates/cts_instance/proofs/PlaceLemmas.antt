@@ -2,7 +2,6 @@
 use Rattle.std.proofs.Common.{◌^◌, ℤ, pos, ◌*ℤ◌, ◌≤ℤ◌, ◌<ℤ◌, arith}
 use Rattle.std.proofs.lemmas.Int.{ints}
 use Rattle.cts_geom.specs.declared.bounds.Die.{Die}
-use Rattle.cts_units.specs.Limits.{IsParams}
 use Rattle.cts_geom.specs.Coordinate.{IsCoordinate}
 use Rattle.cts_block.specs.declared.blocks.Block.{Block}
 use Rattle.cts_block.specs.FreePoints.{IsInDie as IsHalfInDie, IsInside as IsHalfInside}
@@ -51,14 +50,6 @@ has_coordinates parts v = let p = has_places_on_chip parts v in record {
   source_y = coordinate _ p.source_y;
   sinks_x = λ k d inside. coordinate _ (p.sinks_x k d inside);
   sinks_y = λ k d inside. coordinate _ (p.sinks_y k d inside);
-}
-
-pub params_in_range : (parts : Parts) → IsValid parts → IsParams parts.params
-params_in_range parts v = record {
-  wire = v.wire;
-  count = v.buffer_count;
-  buffers = v.buffers;
-  insert_at = v.limits.threshold;
 }
 
 pub has_free_places : (parts : Parts) → IsValid parts → HasFreePlaces parts

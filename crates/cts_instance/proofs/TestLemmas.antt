@@ -15,7 +15,7 @@ use Rattle.cts_block.specs.declared.blocks.Kind.{Kind}
 use Rattle.cts_block.specs.declared.blocks.Kind.TheVariants.{Buffer as of_buffers, All as of_all}
 use Rattle.cts_block.specs.FreePoints.{StopsWires}
 use Rattle.cts_instance.specs.Places.{IsInDie, IsInside}
-use Rattle.cts_instance.specs.Validity.{IsDie, IsBounded, IsLimits, IsClear}
+use Rattle.cts_instance.specs.Validity.{IsDie, IsBounded, IsClear}
 use Rattle.cts_instance.specs.Tests.{is_between, is_strictly_between, is_in_die, is_inside, is_side, is_die, is_bounded, is_wire, is_limits, is_buffer, is_sink, is_upright, is_block_in_die, is_empty, is_clear, stops_wires}
 
 pub Decides-int_le : (a b : ℤ) → Decides (int_le a b) (a ≤ℤ b)
@@ -97,13 +97,11 @@ Decides-is_wire wire =
     (λ w. (((w.r_low, w.r_high), w.c_low), w.c_high))
     (Decides-and _ _ (Decides-and _ _ (Decides-and _ _ (Decides-nat_le 1 wire.r) (Decides-nat_le wire.r (10 ^ 6))) (Decides-nat_le 1 wire.c)) (Decides-nat_le wire.c (10 ^ 6)))
 
-pub Decides-is_limits : (insert_at load slew : ℕ) → Decides (is_limits insert_at load slew) (IsLimits insert_at load slew)
+pub Decides-is_limits : (insert_at load slew : ℕ)
+    → Decides (is_limits insert_at load slew) ((IsBounded insert_at × IsBounded load) × IsBounded slew)
 unfolding is_limits
 Decides-is_limits insert_at load slew =
-    Decides-like (is_limits insert_at load slew)
-    (λ h. record { threshold = h.0.0; loads = h.0.1; slews = h.1 })
-    (λ l. ((l.threshold, l.loads), l.slews))
-    (Decides-and _ _ (Decides-and _ _ (Decides-is_bounded insert_at) (Decides-is_bounded load)) (Decides-is_bounded slew))
+    Decides-and _ _ (Decides-and _ _ (Decides-is_bounded insert_at) (Decides-is_bounded load)) (Decides-is_bounded slew)
 
 pub Decides-is_buffer : (buffer : Buffer) → Decides (is_buffer buffer) (IsBuffer buffer)
 unfolding is_buffer

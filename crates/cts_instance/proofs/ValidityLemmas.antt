@@ -15,7 +15,7 @@ use Rattle.cts_block.specs.declared.blocks.Kind.TheVariants.{Buffer as of_buffer
 use Rattle.cts_instance.specs.declared.counts.BlockCounts.{BlockCounts}
 use Rattle.cts_instance.specs.declared.parts.Parts.{Parts}
 use Rattle.cts_instance.specs.Places.{IsInDie}
-use Rattle.cts_instance.specs.Validity.{IsDie, IsBounded, IsLimits, IsSink, IsBlock, IsClear, IsValid}
+use Rattle.cts_instance.specs.Validity.{IsDie, IsBounded, IsSink, IsBlock, IsClear, IsValid}
 use Rattle.cts_instance.specs.Tests.{has_room, stops_buffers, stops_wires}
 use Rattle.cts_instance.specs.FirstFault.{die_fault, source_fault, wire_fault, limits_fault, buffer_count_fault, buffer_fault, buffer_line, buffers_fault, sink_count_fault, sink_fault, sink_line, sinks_fault, block_count_fault, block_fault, block_line, blocks_fault, counts_of, first_of, first_fault}
 use Rattle.cts_instance.proofs.TestLemmas.{Decides-nat_le, Decides-absent, Decides-is_bounded, Decides-is_die, Decides-is_in_die, Decides-is_wire, Decides-is_limits, Decides-is_buffer, Decides-is_sink, Decides-is_upright, Decides-is_block_in_die, Decides-is_clear}
@@ -33,7 +33,8 @@ pub Allows-wire_fault : (wire : Wire) → Allows (wire_fault wire) (IsWire wire)
 unfolding wire_fault
 Allows-wire_fault wire = Allows-last _ _ (Decides-is_wire wire)
 
-pub Allows-limits_fault : (insert_at load slew : ℕ) → Allows (limits_fault insert_at load slew) (IsLimits insert_at load slew)
+pub Allows-limits_fault : (insert_at load slew : ℕ)
+    → Allows (limits_fault insert_at load slew) ((IsBounded insert_at × IsBounded load) × IsBounded slew)
 unfolding limits_fault
 Allows-limits_fault insert_at load slew = Allows-last _ _ (Decides-is_limits insert_at load slew)
 
@@ -167,10 +168,14 @@ Allows-first_fault parts =
       die = h.0.0.0.0.0.0;
       source_r = h.0.0.0.0.0.1.0;
       source = h.0.0.0.0.0.1.1;
-      wire = h.0.0.0.0.1;
-      limits = h.0.0.0.1;
-      buffer_count = h.0.0.1.0;
-      buffers = h.0.0.1.1;
+      params = record {
+        wire = h.0.0.0.0.1;
+        count = h.0.0.1.0;
+        buffers = h.0.0.1.1;
+        insert_at = h.0.0.0.1.0.0;
+      };
+      load_limit = h.0.0.0.1.0.1;
+      slew_limit = h.0.0.0.1.1;
       some_sink = h.0.1.0.0;
       sink_count = h.0.1.0.1;
       sinks = h.0.1.1.0;
@@ -183,7 +188,10 @@ Allows-first_fault parts =
     })
     (λ v. (
       (
-        ((((v.die, (v.source_r, v.source)), v.wire), v.limits), (v.buffer_count, v.buffers)),
+        (
+          (((v.die, (v.source_r, v.source)), v.params.wire), ((v.params.insert_at, v.load_limit), v.slew_limit)),
+          (v.params.count, v.params.buffers),
+        ),
         ((v.some_sink, v.sink_count), (v.sinks, v.ids)),
       ),
       (v.block_count, (v.blocks, (v.buffer_blocks, (v.all_blocks, v.clear)))),

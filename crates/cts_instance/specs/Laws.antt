@@ -2,7 +2,6 @@
 use Rattle.std.specs.Prelude.{◌≡◌, ◌^◌, ℤ, pos, ◌*ℤ◌, ◌≤ℤ◌, ◌↔◌, None, All}
 use Rattle.cts_geom.specs.declared.points.Half.{Half}
 use Rattle.cts_geom.specs.Coordinate.{IsCoordinate}
-use Rattle.cts_units.specs.Limits.{IsParams}
 use Rattle.cts_block.specs.FreePoints.{IsFreeForWire}
 use Rattle.cts_instance.specs.declared.parts.Parts.{Parts}
 use Rattle.cts_instance.specs.Validity.{IsValid}
@@ -14,10 +13,6 @@ ValidPartsHaveNoFault = (parts : Parts) → (first_fault parts ≡ None) ↔ IsV
 -- the point (x, y) of whole nm, in half nm
 abbrev pub half_at : ℤ → ℤ → Half
 half_at x y = record { x = pos 2 *ℤ x; y = pos 2 *ℤ y }
-
--- the parameters are those that the delays and the choice of a buffer ask for
-abbrev pub ParamsAreInRange : Type 0
-ParamsAreInRange = (parts : Parts) → IsValid parts → IsParams parts.params
 
 -- a coordinate from 0 to 10^8 nm
 pub record IsOnChip (z : ℤ) : Type 0 where

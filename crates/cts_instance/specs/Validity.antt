@@ -2,7 +2,7 @@
 use Rattle.std.specs.Prelude.{◌≢◌, ℕ, ◌^◌, ◌≤◌, ◌<◌, ℤ, pos, ◌≤ℤ◌, List, length, All, AllPairs, count_by}
 use Rattle.cts_geom.specs.declared.bounds.Die.{Die}
 use Rattle.cts_units.specs.declared.params.Sink.{Sink}
-use Rattle.cts_units.specs.Limits.{IsWire, IsBuffer}
+use Rattle.cts_units.specs.Limits.{IsParams}
 use Rattle.cts_block.specs.declared.blocks.Block.{Block}
 use Rattle.cts_block.specs.FreePoints.{StopsWires}
 use Rattle.cts_instance.specs.declared.parts.Parts.{Parts}
@@ -21,12 +21,6 @@ pub record IsDie (die : Die) : Type 0 where
 -- numbers without a limit of their own are below 10^18 of their unit
 abbrev pub IsBounded : ℕ → Type 0
 IsBounded n = n < 10 ^ 18
-
--- the insertion threshold and the limits on loads and slews
-pub record IsLimits (insert_at load slew : ℕ) : Type 0 where
-  pub threshold : IsBounded insert_at
-  pub loads : IsBounded load
-  pub slews : IsBounded slew
 
 pub record IsSink (die : Die) (sink : Sink) : Type 0 where
   pub id : sink.id ≤ 999999999
@@ -49,10 +43,9 @@ pub record IsValid (parts : Parts) : Type 0 where
   pub die : IsDie parts.die
   pub source_r : IsBounded parts.source_r
   pub source : IsInDie parts.die parts.source_x parts.source_y
-  pub wire : IsWire parts.params.wire
-  pub limits : IsLimits parts.params.insert_at parts.load_limit parts.slew_limit
-  pub buffer_count : length parts.params.library ≤ 16
-  pub buffers : All IsBuffer parts.params.library
+  pub params : IsParams parts.params
+  pub load_limit : IsBounded parts.load_limit
+  pub slew_limit : IsBounded parts.slew_limit
   pub some_sink : 1 ≤ length parts.sinks
   pub sink_count : length parts.sinks ≤ 65536
   pub sinks : All (IsSink parts.die) parts.sinks

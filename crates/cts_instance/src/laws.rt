@@ -1,15 +1,10 @@
 //! What the words of the contracts mean, as laws: each is the contract of a function that does nothing.
 
-ghost use Rattle.cts_instance.specs.Laws.{ValidPartsHaveNoFault, ParamsAreInRange, PlacesAreOnChip, PlacesAreCoordinates, PlacesAreFree};
+ghost use Rattle.cts_instance.specs.Laws.{ValidPartsHaveNoFault, PlacesAreOnChip, PlacesAreCoordinates, PlacesAreFree};
 
 /// The lines of an instance have no fault exactly where its parts are valid.
 pub fn valid_parts_have_no_fault()
     ensures { ValidPartsHaveNoFault }
-{}
-
-/// The parameters of a valid instance are within the limits that delays and buffers ask for.
-pub fn params_are_in_range()
-    ensures { ParamsAreInRange }
 {}
 
 /// The source and the sinks of a valid instance have coordinates from 0 to 10^8 nm.
