@@ -3,3 +3,4 @@ pub mod Counts
 pub mod ListSteps
 pub mod Places
 pub mod WordLists
+pub mod WordCounts

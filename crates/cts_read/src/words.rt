@@ -73,15 +73,18 @@ fn word_length(text: &[u8]) -> usize
     text.len()
 }
 
-/// How many words a line has.
+/// How many words a line has: one begins at each byte that is no blank and stands first or after one.
 pub fn count_words(line: &[u8]) -> usize
     ensures { result ≡ length (words_of line.now) }
 {
-    let mut rest = line;
     let mut count = 0;
-    while let Some((_, after)) = word_at(rest) {
-        rest = after;
-        count += 1;
+    let mut after_blank = true;
+    for byte in line {
+        let blank = is_blank(*byte);
+        if after_blank && !blank {
+            count += 1;
+        }
+        after_blank = blank;
     }
     count
 }

@@ -1,13 +1,11 @@
-use Rattle.std.proofs.Common.{◌≡◌, ◌+◌, ◌≤◌, length}
+use Rattle.std.proofs.Common.{◌≡◌, ◌+◌, ◌≤◌, length, drop}
 use Rattle.cts_read.specs.Lines.{words_of}
+use Rattle.cts_read.proofs.WordCounts.{begun}
 use Rattle.cts_read.proofs.words.count_words.Given as goal
 
--- the words so far and those that are left are all
-abbrev pub invariant-loop-after : goal.invariant-loop-after
-invariant-loop-after l = record {
-  words : l.count + length (words_of l.rest) ≡ length (words_of l.line);
-  bytes : l.count + length l.rest ≤ length l.line;
+-- the words that began so far and those still to begin are all
+abbrev pub invariant-loop-byte : goal.invariant-loop-byte
+invariant-loop-byte l = record {
+  words : l.count + begun l.after_blank (drop l.byte-index l.line) ≡ length (words_of l.line);
+  bytes : l.count ≤ l.byte-index;
 }
-
-abbrev pub decreases-loop-after : goal.decreases-loop-after
-decreases-loop-after l = length l.rest
