@@ -1,6 +1,5 @@
 pub mod BalancePairs
-pub mod Boxes
-pub mod Flat
+pub mod Exists
 pub mod MergePairs
 pub mod Merges
 pub mod Regions
@@ -10,4 +9,5 @@ pub mod Rising
 pub mod SideDelays
 pub mod Snakes
 pub mod Stretches
+pub mod Tight
 pub mod Unique

@@ -1,6 +1,7 @@
 -- What the definitions of this crate say of one another.
-use Rattle.std.specs.Prelude.{◌≡◌, ℕ, ◌+◌, ◌*◌, ◌≤◌, max, ℤ}
+use Rattle.std.specs.Prelude.{◌≡◌, ℕ, ◌+◌, ◌*◌, ◌≤◌, ◌⊎◌, max, ℤ}
 use Rattle.std.specs.Int.{abs_diff}
+use Rattle.cts_geom.specs.RegionLaws.{IsBoxed, IsSegment}
 use Rattle.cts_units.specs.declared.params.Sink.{Sink}
 use Rattle.cts_units.specs.declared.params.Wire.{Wire}
 use Rattle.cts_units.specs.declared.params.Params.{Params}
@@ -9,7 +10,7 @@ use Rattle.cts_merge.specs.declared.side.Side.{Side}
 use Rattle.cts_merge.specs.declared.side.Finished.{Finished}
 use Rattle.cts_merge.specs.LeastPair.{HasLeastPair, Spans, Covers}
 use Rattle.cts_merge.specs.Side.{delay_through}
-use Rattle.cts_merge.specs.MergingRegion.{HasEnds, IsFlat, LiesInBox}
+use Rattle.cts_merge.specs.MergingRegion.{HasEnds}
 use Rattle.cts_merge.specs.Merge.{IsLeaf, IsMergePair, IsMerged, IsBeyond}
 use Rattle.cts_merge.specs.Balance.{IsBalancePair, IsBeyondBalance, IsBalanced}
 
@@ -64,6 +65,15 @@ MergedIsOne = (params : Params) (a b : Side) (p q : Finished) → IsMerged param
 abbrev pub MergedIsNotBeyond : Type 0
 MergedIsNotBeyond = (params : Params) (a b : Side) (p : Finished) → IsMerged params a b p → IsBeyond params a b → ⊥
 
+-- all sinks have a leaf, and all sides a pair, or else they are beyond
+abbrev pub LeafExists : Type 0
+LeafExists = (sink : Sink) → (leaf : Finished) × IsLeaf sink leaf
+
+abbrev pub SidesMergeOrAreBeyond : Type 0
+SidesMergeOrAreBeyond =
+    (params : Params) (a b : Side) → IsWire params.wire
+    → ((pair : Finished) × IsMerged params a b pair) ⊎ IsBeyond params a b
+
 abbrev pub BalancedIsNotBeyond : Type 0
 BalancedIsNotBeyond =
     (wire : Wire) (a : Side) (la : ℕ) (b : Side) (lb xa xb : ℕ) → IsBalanced wire a la b lb xa xb
@@ -76,14 +86,14 @@ MergedRegionHasEnds =
     → HasEnds a.region p.ea b.region p.eb p.side.region
 
 -- merging keeps points and segments at 45 degrees to the axes
-abbrev pub MergingKeepsFlat : Type 0
-MergingKeepsFlat =
-    (params : Params) (a b : Side) (p : Finished) → IsMerged params a b p → IsFlat a.region → IsFlat b.region
-    → IsFlat p.side.region
+abbrev pub MergingKeepsSegments : Type 0
+MergingKeepsSegments =
+    (params : Params) (a b : Side) (p : Finished) → IsMerged params a b p → IsSegment a.region → IsSegment b.region
+    → IsSegment p.side.region
 
 -- a merging region lies in every box that holds both regions
 abbrev pub MergingStaysInBox : Type 0
 MergingStaysInBox =
     (params : Params) (a b : Side) (p : Finished) → IsMerged params a b p
-    → (x1 x2 y1 y2 : ℤ) → LiesInBox x1 x2 y1 y2 a.region → LiesInBox x1 x2 y1 y2 b.region
-    → LiesInBox x1 x2 y1 y2 p.side.region
+    → (x1 x2 y1 y2 : ℤ) → IsBoxed x1 x2 y1 y2 a.region → IsBoxed x1 x2 y1 y2 b.region
+    → IsBoxed x1 x2 y1 y2 p.side.region

@@ -10,9 +10,11 @@ ghost use Rattle.cts_merge.specs.Laws.{
   LeafIsOne,
   MergedIsOne,
   MergedIsNotBeyond,
+  LeafExists,
+  SidesMergeOrAreBeyond,
   BalancedIsNotBeyond,
   MergedRegionHasEnds,
-  MergingKeepsFlat,
+  MergingKeepsSegments,
   MergingStaysInBox,
 };
 
@@ -63,6 +65,16 @@ pub fn merged_is_not_beyond()
     ensures { MergedIsNotBeyond }
 {}
 
+/// Every sink has a leaf.
+pub fn leaf_exists()
+    ensures { LeafExists }
+{}
+
+/// Any two sides have a pair or are beyond.
+pub fn sides_merge_or_are_beyond()
+    ensures { SidesMergeOrAreBeyond }
+{}
+
 /// Two sides that are balanced over two routes are not beyond.
 pub fn balanced_is_not_beyond()
     ensures { BalancedIsNotBeyond }
@@ -74,8 +86,8 @@ pub fn merged_region_has_ends()
 {}
 
 /// The merging region of two points, or of segments at 45 degrees, is a point or such a segment.
-pub fn merging_keeps_flat()
-    ensures { MergingKeepsFlat }
+pub fn merging_keeps_segments()
+    ensures { MergingKeepsSegments }
 {}
 
 /// The merging region lies in every box of x and y that holds both regions.

@@ -3,4 +3,5 @@ pub mod Unique
 pub mod Regions
 pub mod Sides
 pub mod Node
+pub mod Exists
 pub mod Merges

@@ -69,17 +69,25 @@ module _ (params : Params) (sinks : List Sink) (nodes : List ShapeNode) (ok : Is
       right_is : IsFinished params sinks pair.right b
       right_is = subst (IsFinished params sinks pair.right) (sym right_read) (pair.right_value d')
 
+      pub pair_merged : (f : Finished) → IsMerged params a.side b.side f
+          → AllZip (IsFinished params sinks) (take (k + 1) (trees_of children nodes)) (plan ++ f ∷ [])
+      unfolding IsFinished
+      pair_merged f merged = pair.next f (a, b, left_is, right_is, merged)
+
+      pub pair_over : IsBeyond params a.side b.side → IsLeastBeyond params sinks nodes k
+      unfolding IsBeyondPair
+      pair_over over =
+          least_failure children (IsFinished params sinks) (IsBeyondPair params sinks)
+          (λ t f. finished_not_beyond params sinks t f) nodes plan k (fork pair.left pair.right (get_or nodes k e)) before pair.here
+          (a, b, left_is, right_is, over)
+
+      -- what a merge of the two sides answers
       pub pair_next : (result : Result Finished Beyond) → IfOk result (λ f. IsMerged params a.side b.side f)
           → IfOk result (λ f. AllZip (IsFinished params sinks) (take (k + 1) (trees_of children nodes)) (plan ++ f ∷ []))
-      unfolding IsFinished
-      pair_next (Ok f) merged = pair.next f (a, b, left_is, right_is, merged)
+      pair_next (Ok f) merged = pair_merged f merged
       pair_next (Err x) merged = tt
 
       pub pair_beyond : (result : Result Finished Beyond) → IfErr result (λ _. IsBeyond params a.side b.side)
           → IfErr result (λ _. IsLeastBeyond params sinks nodes k)
-      unfolding IsBeyondPair
       pair_beyond (Ok f) over = tt
-      pair_beyond (Err x) over =
-          least_failure children (IsFinished params sinks) (IsBeyondPair params sinks)
-          (λ t f. finished_not_beyond params sinks t f) nodes plan k (fork pair.left pair.right (get_or nodes k e)) before pair.here
-          (a, b, left_is, right_is, over)
+      pair_beyond (Err x) over = pair_over over

@@ -1,14 +1,16 @@
 -- What holds of every plan.
-use Rattle.std.specs.Prelude.{◌≡◌, ℕ, ◌^◌, ℤ, pos, neg_ℤ, ◌*ℤ◌, ◌≤ℤ◌, ◌<ℤ◌, List, All}
+use Rattle.std.specs.Prelude.{◌≡◌, ℕ, ◌^◌, ◌⊎◌, ℤ, pos, neg_ℤ, ◌<ℤ◌, List, length, All}
 use Rattle.cts_geom.specs.declared.regions.Region.{Region}
+use Rattle.cts_geom.specs.Points.{point_of, spot_at}
 use Rattle.cts_geom.specs.Regions.{IsRegionInRange}
+use Rattle.cts_geom.specs.RegionLaws.{IsBoxed, IsInBox, IsSegment}
 use Rattle.cts_units.specs.declared.params.Sink.{Sink}
 use Rattle.cts_units.specs.declared.params.Params.{Params}
-use Rattle.cts_units.specs.Limits.{IsParams}
+use Rattle.cts_units.specs.Limits.{IsParams, IsWire}
 use Rattle.cts_postorder.specs.BinaryTree.{BinaryTree}
 use Rattle.cts_topo.specs.declared.shape.ShapeNode.{ShapeNode}
+use Rattle.cts_topo.specs.Shape.{IsShapeOver}
 use Rattle.cts_merge.specs.declared.side.Finished.{Finished}
-use Rattle.cts_merge.specs.MergingRegion.{IsFlat, LiesInBox}
 use Rattle.cts_merge.specs.Side.{IsSideInRange}
 use Rattle.cts_up.specs.Sinks.{AreSinksInRange}
 use Rattle.cts_up.specs.Plan.{IsFinished, IsPlan, IsLeastBeyond}
@@ -36,24 +38,24 @@ LeastBeyondIsOne =
     (params : Params) (sinks : List Sink) (nodes : List ShapeNode) (j k : ℕ)
     → IsLeastBeyond params sinks nodes j → IsLeastBeyond params sinks nodes k → j ≡ k
 
+-- a shape over sinks has a plan, or else a node that is beyond
+abbrev pub ShapesHavePlans : Type 0
+ShapesHavePlans =
+    (params : Params) (sinks : List Sink) (nodes : List ShapeNode) → IsWire params.wire → IsShapeOver (length sinks) nodes
+    → ((plan : List Finished) × IsPlan params sinks nodes plan) ⊎ ((k : ℕ) × IsLeastBeyond params sinks nodes k)
+
 -- every region is a point, or a segment at 45 degrees to the axes
-abbrev pub RegionsAreFlat : Type 0
-RegionsAreFlat =
+abbrev pub RegionsAreSegments : Type 0
+RegionsAreSegments =
     (params : Params) (sinks : List Sink) (t : BinaryTree ShapeNode) (f : Finished) → IsFinished params sinks t f
-    → IsFlat f.side.region
+    → IsSegment f.side.region
 
--- a sink's place, in half nm, lies in the box
-pub record IsSinkInBox (x1 x2 y1 y2 : ℤ) (sink : Sink) : Type 0 where
-  pub x_low : x1 ≤ℤ (pos 2 *ℤ sink.x)
-  pub x_high : (pos 2 *ℤ sink.x) ≤ℤ x2
-  pub y_low : y1 ≤ℤ (pos 2 *ℤ sink.y)
-  pub y_high : (pos 2 *ℤ sink.y) ≤ℤ y2
-
--- every region lies in each box of x and y that holds the sinks
+-- every region lies in each box of x and y, in half nm, that holds the sinks
 abbrev pub RegionsLieInBox : Type 0
 RegionsLieInBox =
     (params : Params) (sinks : List Sink) (t : BinaryTree ShapeNode) (f : Finished) → IsFinished params sinks t f
-    → (x1 x2 y1 y2 : ℤ) → All (IsSinkInBox x1 x2 y1 y2) sinks → LiesInBox x1 x2 y1 y2 f.side.region
+    → (x1 x2 y1 y2 : ℤ) → All (λ sink. IsInBox x1 x2 y1 y2 (point_of (spot_at sink.x sink.y))) sinks
+    → IsBoxed x1 x2 y1 y2 f.side.region
 
 -- below 2^32 in size
 pub record IsSmall (z : ℤ) : Type 0 where

@@ -5,7 +5,8 @@ ghost use Rattle.cts_up.specs.Laws.{
   PlanIsOne,
   PlanIsNotBeyond,
   LeastBeyondIsOne,
-  RegionsAreFlat,
+  ShapesHavePlans,
+  RegionsAreSegments,
   RegionsLieInBox,
   RegionsAreSmall,
   SidesCanBeMerged,
@@ -31,9 +32,14 @@ pub fn least_beyond_is_one()
     ensures { LeastBeyondIsOne }
 {}
 
+/// Every shape over sinks has a plan or a node that is beyond.
+pub fn shapes_have_plans()
+    ensures { ShapesHavePlans }
+{}
+
 /// Every region of a plan is a point or a segment at 45 degrees to the axes.
-pub fn regions_are_flat()
-    ensures { RegionsAreFlat }
+pub fn regions_are_segments()
+    ensures { RegionsAreSegments }
 {}
 
 /// Every region of a plan lies in each box of x and y that holds the sinks: its points lie on shortest
