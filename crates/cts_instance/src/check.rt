@@ -35,7 +35,7 @@ fn faulty_sink(alloc: Global, die: &Die, sinks: &[Sink]) -> Result<Option<Fault>
     requires { length sinks.now ≤ 65536 }
     ensures { IfOk result (λ fault. fault ≡ first_of (sink_line die.now) [] sinks.now) }
 {
-    let mut ids = SinkIds::new(alloc);
+    let mut ids = SinkIds::with_capacity(alloc, sinks.len())?;
     for sink in sinks {
         if let Some(fault) = sink_fault(die, &mut ids, sink)? {
             return Ok(Some(fault));

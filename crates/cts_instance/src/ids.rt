@@ -23,13 +23,12 @@ impl SinkIds {
     ghost use Rattle.std.specs.Prelude.{◌≡◌, [], ◌∷◌, ◌++◌, length, nat_eq, not, if◌then◌else◌, IfOk, OnOk, OnErr};
     ghost use Rattle.std.specs.List.{list_any};
 
-    /// No ids yet.
-    pub fn new(alloc: Global) -> SinkIds
-        ensures { result ≡ [] }
+    /// No ids yet, with room for this many.
+    pub fn with_capacity(alloc: Global, count: usize) -> Result<SinkIds, NoMemory>
+        ensures { IfOk result (λ ids. ids ≡ []) }
     {
-        SinkIds {
-            ids: IndexSet::new(alloc),
-        }
+        let ids = IndexSet::with_capacity(alloc, count)?;
+        Ok(SinkIds { ids })
     }
 
     /// How many ids there are.

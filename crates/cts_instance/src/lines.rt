@@ -301,7 +301,7 @@ mod tests {
 
     #[test]
     fn judges_sinks(rt: HostRuntime) -> Result<(), Fail> {
-        let mut ids = SinkIds::new(rt.alloc());
+        let mut ids = SinkIds::with_capacity(rt.alloc(), 3)?;
         ids.insert(7)?;
         ids.insert(9)?;
         let range = Some(Fault::Range {

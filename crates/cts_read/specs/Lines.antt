@@ -11,9 +11,13 @@ unfoldable pub is_skipped : List ℕ → Bool
 is_skipped [] = true
 is_skipped (b ∷ bs) = if is_blank b then is_skipped bs else b == 35
 
--- a line of the bytes 0x20 to 0x7E and tabs alone
+-- a byte from 0x20 to 0x7E, or a tab
+abbrev pub is_printable_byte : ℕ → Bool
+is_printable_byte byte = byte == 9 || (nat_le 32 byte && nat_le byte 126)
+
+-- a line of such bytes alone
 abbrev pub is_printable : List ℕ → Bool
-is_printable line = list_all (λ byte. byte == 9 || (nat_le 32 byte && nat_le byte 126)) line
+is_printable line = list_all is_printable_byte line
 
 abbrev pub is_some_word : List ℕ → Bool
 is_some_word [] = false

@@ -121,8 +121,8 @@ pub fn read_sinks(
     ensures sound { IfOk result (λ v. sinks_fault die.now v.items ≡ None) }
     ensures text { lines.new.text ≡ lines.old.text }
 {
-    let mut sinks = Vec::new(alloc);
-    let mut ids = SinkIds::new(alloc);
+    let mut sinks = Vec::with_capacity(alloc, count)?;
+    let mut ids = SinkIds::with_capacity(alloc, count)?;
     for _ in 0..count {
         let sink = read_sink(lines, die, &mut ids)?;
         sinks.push(sink)?;

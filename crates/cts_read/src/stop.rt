@@ -2,7 +2,7 @@
 
 use cts_instance::Fault;
 use cts_num::{DecimalFault, NoMemory};
-use std::alloc::AllocFailed;
+use std::alloc::{AllocError, AllocFailed};
 
 /// Why a line is refused: the first cause of the line, in this order but for the numbers and the
 /// kinds, which go from left to right.
@@ -38,6 +38,17 @@ impl From<NoMemory> for ReadStop {
     ghost from_gives = { λ _ stop. stop ≡ NoMemory };
 
     fn from(_error: NoMemory) -> ReadStop {
+        ReadStop::NoMemory
+    }
+}
+
+impl From<AllocError> for ReadStop {
+    ghost use Rattle.std.specs.Prelude.{◌≡◌};
+    ghost use Rattle.cts_read.specs.declared.stop.ReadStop.TheVariants.{NoMemory};
+
+    ghost from_gives = { λ _ stop. stop ≡ NoMemory };
+
+    fn from(_error: AllocError) -> ReadStop {
         ReadStop::NoMemory
     }
 }

@@ -1,7 +1,7 @@
 //! The words of a line, and which lines are skipped.
 
 ghost use Rattle.std.specs.Prelude.{◌≡◌, ℕ, ◌<◌, ◌≤◌, [], ◌∷◌, true, false, MatchOption, IfSome, length, slice_index};
-ghost use Rattle.cts_read.specs.Lines.{is_blank as blank, is_printable as printable, is_skipped as skipped, words_of};
+ghost use Rattle.cts_read.specs.Lines.{is_blank as blank, is_printable as printable, is_printable_byte as printable_byte, is_skipped as skipped, words_of};
 
 /// A byte that separates words: a space or a tab.
 pub fn is_blank(byte: u8) -> bool
@@ -22,12 +22,23 @@ pub fn is_skipped(line: &[u8]) -> bool
     true
 }
 
+/// A byte that a line may hold: from 0x20 to 0x7E, or a tab.
+fn is_printable_byte(byte: u8) -> bool
+    ensures { result ≡ printable_byte byte }
+{
+    byte == b'\t' || (b' '..=b'~').contains(&byte)
+}
+
 /// Whether a line holds the bytes 0x20 to 0x7E and tabs alone.
 pub fn is_printable(line: &[u8]) -> bool
     ensures { result ≡ printable line.now }
 {
-    line.iter()
-        .all(|byte| *byte == b'\t' || (b' '..=b'~').contains(byte))
+    // No early exit, so that many bytes are looked at in one step.
+    let mut printable = true;
+    for byte in line {
+        printable &= is_printable_byte(*byte);
+    }
+    printable
 }
 
 /// The first word, and what comes after it.

@@ -10,7 +10,7 @@ use Rattle.cts_read.proofs.lists.read_sinks.Goals as goal
 
 pub returns-in_err-sink-clause-read : goal.returns-in_err-sink-clause-read
 returns-in_err-sink-clause-read c =
-    let p = err_from_is_err_and c.from_residual.result c.from_residual.ensures.1 in
+    let p = err_from_is_err_and c.from_residual-in_err-sink.result c.from_residual-in_err-sink.ensures.1 in
     rw (p.1, p.2)
     (rw (← c.loop.invariant.so_far)
     (list_refused (sink_of c.args.die.now) _ _ _ c.loop.sinks.items (left_of c.loop.lines) (omega arith)
@@ -35,10 +35,10 @@ returns-clause-read c =
 
 pub loop-init : goal.loop-init
 loop-init c = record {
-  so_far = rw c.new-sinks.ensures.items (ap (λ n. list_at (sink_of c.args.die.now) n [] (left_of c.args.lines.now)) (omega arith));
-  ids = rw (c.new-ids.ensures, c.new-sinks.ensures.items) refl;
-  many = rw c.new-sinks.ensures.items refl;
-  sound = rw c.new-sinks.ensures.items (first_of-nil (sink_line c.args.die.now) []);
+  so_far = rw c.in_ok-sinks.ensures.items (ap (λ n. list_at (sink_of c.args.die.now) n [] (left_of c.args.lines.now)) (omega arith));
+  ids = rw (c.in_ok-ids.ensures, c.in_ok-sinks.ensures.items) refl;
+  many = rw c.in_ok-sinks.ensures.items refl;
+  sound = rw c.in_ok-sinks.ensures.items (first_of-nil (sink_line c.args.die.now) []);
   text = refl;
 }
 
