@@ -1,11 +1,14 @@
 -- A tree of the same form with other nodes: its nodes are told occurrence by occurrence, and its numbering stays.
 use Rattle.std.proofs.Common.{◌≡◌, ℕ, ◌+◌, List, [], ◌∷◌, map, Option, Some, refl, sym, ap, ap₂, subst, ◌∙◌}
+use Rattle.std.specs.List.{AllZip}
 use Rattle.std.proofs.lemmas.List.{map-append}
+use Rattle.std.proofs.lemmas.Simd.{map-map}
 use Rattle.cts_postorder.specs.BinaryTree.{BinaryTree, tip, fork, label, size, labels, subtrees, root_number, IsNumbered}
 use Rattle.cts_postorder.specs.PostOrder.{IsPostOrder, trees_of, root_of}
 use Rattle.cts_postorder.specs.Occurrence.{Occurrence, occurrence, occurrences, occurrences_of, decorate}
 use Rattle.cts_postorder.proofs.Spelling.{trees_of-labels, IsPostOrder-labels}
-use Rattle.cts_postorder.proofs.Lists.{Whole, whole_of, root_of-labels}
+use Rattle.cts_postorder.proofs.Growth.{map-label-trees_of}
+use Rattle.cts_postorder.proofs.Lists.{Whole, whole_of, root_of-labels, map-here-occurrences_of}
 
 module _ {N M : Type 0} (g : Occurrence N → M) where
   pub size-decorate : (up : List (BinaryTree N)) (t : BinaryTree N) → size (decorate g up t) ≡ size t
@@ -82,3 +85,21 @@ module _ {N M : Type 0} (kids : N → Option (ℕ × ℕ)) (kids' : M → Option
             ∙ ap (map (λ (o : Occurrence N). decorate g o.above o.here)) (sym w.occurrences_are);
         post_order = subst (λ ms. IsPostOrder (map kids' ms)) listed (IsPostOrder-labels kids' new numbered);
       }
+
+-- nodes that stand place by place for those of a list, and name the same children, are in post-order with them
+module _ {N M : Type 0} (kids : N → Option (ℕ × ℕ)) (kids' : M → Option (ℕ × ℕ)) (R : Occurrence N → M → Type 0)
+    (same : (o : Occurrence N) (m : M) → R o m → kids' m ≡ kids (label o.here)) where
+  same_all : (os : List (Occurrence N)) (ms : List M) → AllZip R os ms
+      → map kids' ms ≡ map (λ (o : Occurrence N). kids (label o.here)) os
+  same_all [] [] all = refl
+  same_all [] (m ∷ ms) all = absurd all
+  same_all (o ∷ os) [] all = absurd all
+  same_all (o ∷ os) (m ∷ ms) all = ap₂ (λ c cs. c ∷ cs) (same o m (all.0)) (same_all os ms (all.1))
+
+  pub same_children : (nodes : List N) → IsPostOrder (map kids nodes) → (ms : List M)
+      → AllZip R (occurrences_of kids nodes) ms → map kids' ms ≡ map kids nodes
+  same_children nodes ok ms all =
+      same_all (occurrences_of kids nodes) ms all
+      ∙ sym (map-map (λ t. kids (label t)) (λ (o : Occurrence N). o.here) (occurrences_of kids nodes))
+      ∙ ap (map (λ t. kids (label t))) (map-here-occurrences_of kids nodes ok)
+      ∙ sym (map-map kids label (trees_of kids nodes)) ∙ ap (map kids) (map-label-trees_of kids nodes)

@@ -1,11 +1,12 @@
 -- A downward pass: each node hands values to its two parts, from the root on.
 use Rattle.std.proofs.Common.{◌≡◌, ◌≢◌, ℕ, ◌+◌, ◌<◌, ◌≤◌, ◌⊎◌, inl, inr, ⊎_elim, List, [], ◌∷◌, map, set, length, get_or, Option, Some, None, sym, ap, subst, ◌∙◌, arith, get_or-set_same, get_or-set_other, length-set, zero-add, ◌-◌}
-use Rattle.std.proofs.lemmas.List.{get_or-map, length-map, same_lists}
+use Rattle.std.specs.List.{AllZip}
 use Rattle.std.proofs.lemmas.Bool.{cases_lt}
-use Rattle.cts_postorder.specs.BinaryTree.{BinaryTree, tip, fork, root_number}
+use Rattle.cts_postorder.specs.BinaryTree.{BinaryTree, fork, root_number}
 use Rattle.cts_postorder.specs.PostOrder.{IsPostOrder, root_of}
-use Rattle.cts_postorder.specs.Occurrence.{Occurrence, occurrence, occurrences, occurrences_of}
+use Rattle.cts_postorder.specs.Occurrence.{Occurrence, occurrence, occurrences, occurrences_of, IsDownFrom}
 use Rattle.cts_postorder.specs.Pass.{IsDue, root, part, IsSettled}
+use Rattle.cts_postorder.proofs.Zips.{all_zip-from}
 use Rattle.cts_postorder.proofs.Sizes.{size_pos, root_number-next}
 use Rattle.cts_postorder.proofs.Places.{get_or-occurrences-root}
 use Rattle.cts_postorder.proofs.Parents.{ParentOf, parent_of}
@@ -65,11 +66,16 @@ same_or_not i j =
       | inr h ↦ elim (cases_lt j i) [ inl w ↦ inr (omega arith) | inr w ↦ inl (omega arith) ]
     ]
 
-module _ {N V : Type 0} (kids : N → Option (ℕ × ℕ)) (value : Occurrence N → V) where
+module _ {N V : Type 0} (kids : N → Option (ℕ × ℕ)) (IsValue : Occurrence N → V → Type 0) where
+  -- what stands at a number, under the names of its parts
+  right_at : (o q : Occurrence N) (v x : V) → o ≡ q → v ≡ x → IsValue q x → IsValue o v
+  right_at o q v x here there is =
+      subst (λ (p : Occurrence N). IsValue p v) (sym here) (subst (λ (y : V). IsValue q y) (sym there) is)
+
   -- the pass begins with the root's value at the end of the list
   pub settled_at_start : (nodes : List N) → IsPostOrder (map kids nodes) → (e : N) (k : ℕ) (out : List V) (t : BinaryTree N)
       → root_of kids nodes ≡ Some t → length nodes ≤ k → length out ≡ length nodes
-      → ((v : V) → get_or out (length nodes - 1) v ≡ value (occurrence [] t)) → IsSettled kids nodes e value k out
+      → ((v : V) → IsValue (occurrence [] t) (get_or out (length nodes - 1) v)) → IsSettled kids nodes e IsValue k out
   settled_at_start nodes ok e k out t root_is h long top =
       let w : Whole kids nodes = whole_of kids nodes ok in
       let names : Some w.tree ≡ Some t = sym w.root_is ∙ root_is in
@@ -80,20 +86,22 @@ module _ {N V : Type 0} (kids : N → Option (ℕ × ℕ)) (value : Occurrence N
             let last : number + 1 ≡ length nodes = due_at_start kids nodes e k number h due in
             let place : number ≡ length nodes - 1 = omega arith in
             let own : number ≡ root_number 0 w.tree = omega (arith, root_number-next 0 w.tree, w.size_is) in
-            ap (λ i. get_or out i v) place ∙ top v
-            ∙ ap value (ap (occurrence []) (sym whole) ∙ sym (get_or-occurrences-root [] w.tree o)
-            ∙ ap (λ i. get_or (occurrences [] w.tree) i o) (sym own) ∙ ap (λ os. get_or os number o) (sym w.occurrences_are));
+            let here : get_or (occurrences_of kids nodes) number o ≡ occurrence [] t =
+            ap (λ os. get_or os number o) w.occurrences_are ∙ ap (λ i. get_or (occurrences [] w.tree) i o) own
+            ∙ get_or-occurrences-root [] w.tree o ∙ ap (occurrence []) whole in
+            right_at (get_or (occurrences_of kids nodes) number o) (occurrence [] t) (get_or out number v)
+            (get_or out (length nodes - 1) v) here (ap (λ i. get_or out i v) place) (top v);
       }
 
   -- the value at the counter is right
   pub settled_here : (nodes : List N) → IsPostOrder (map kids nodes) → (e : N) (k : ℕ) (out : List V) → k < length nodes
-      → IsSettled kids nodes e value (k + 1) out
-      → (v : V) (o : Occurrence N) → get_or out k v ≡ value (get_or (occurrences_of kids nodes) k o)
+      → IsSettled kids nodes e IsValue (k + 1) out
+      → (v : V) (o : Occurrence N) → IsValue (get_or (occurrences_of kids nodes) k o) (get_or out k v)
   settled_here nodes ok e k out h s v o = s.right k v o (due_next kids nodes ok e k h)
 
   -- at a leaf nothing is written
   pub settled_at_leaf : (nodes : List N) (e : N) (k : ℕ) (out : List V) → kids (get_or nodes k e) ≡ None
-      → IsSettled kids nodes e value (k + 1) out → IsSettled kids nodes e value k out
+      → IsSettled kids nodes e IsValue (k + 1) out → IsSettled kids nodes e IsValue k out
   settled_at_leaf nodes e k out leaf s = record {
     long = s.long;
     right = λ number v o due. s.right number v o (due_at_leaf kids nodes e k number leaf due);
@@ -102,10 +110,10 @@ module _ {N V : Type 0} (kids : N → Option (ℕ × ℕ)) (value : Occurrence N
   -- at a pair the values of its two parts are written
   pub settled_at_pair : (nodes : List N) (e : N) (k : ℕ) (p : ℕ × ℕ) (out : List V) (a b : V)
       → kids (get_or nodes k e) ≡ Some p → (pair : IsPair kids nodes k p (get_or nodes k e)) → k < length nodes
-      → a ≡ value (occurrence (fork pair.left pair.right (get_or nodes k e) ∷ pair.above) pair.left)
-      → b ≡ value (occurrence (fork pair.left pair.right (get_or nodes k e) ∷ pair.above) pair.right)
-      → IsSettled kids nodes e value (k + 1) out
-      → IsSettled kids nodes e value k (set (set out (p.0) a) (p.1) b)
+      → IsValue (occurrence (fork pair.left pair.right (get_or nodes k e) ∷ pair.above) pair.left) a
+      → IsValue (occurrence (fork pair.left pair.right (get_or nodes k e) ∷ pair.above) pair.right) b
+      → IsSettled kids nodes e IsValue (k + 1) out
+      → IsSettled kids nodes e IsValue k (set (set out (p.0) a) (p.1) b)
   settled_at_pair nodes e k p out a b names pair h a_is b_is s =
       let left_below : p.0 < k = pair.left_below in
       let right_below : p.1 < k = pair.right_below in
@@ -113,45 +121,55 @@ module _ {N V : Type 0} (kids : N → Option (ℕ × ℕ)) (value : Occurrence N
       let out_long : length out ≡ length nodes = s.long in
       let first : List V = set out (p.0) a in
       let first_long : length first ≡ length out = length-set out (p.0) a in
-      let at_left : (v : V) → get_or (set first (p.1) b) (p.0) v ≡ a =
+      let both : List V = set first (p.1) b in
+      let occurrences : List (Occurrence N) = occurrences_of kids nodes in
+      let at_left : (v : V) → get_or both (p.0) v ≡ a =
       λ v. get_or-set_other first (p.1) (p.0) b v (omega arith) ∙ get_or-set_same out (p.0) a v (omega arith) in
-      let at_right : (v : V) → get_or (set first (p.1) b) (p.1) v ≡ b =
+      let at_right : (v : V) → get_or both (p.1) v ≡ b =
       λ v. get_or-set_same first (p.1) b v (omega arith) in
+      let elsewhere : (number : ℕ) (v : V) → number ≢ p.0 → number ≢ p.1 → get_or both number v ≡ get_or out number v =
+      λ number v not_left not_right.
+      get_or-set_other first (p.1) number b v not_right ∙ get_or-set_other out (p.0) number a v not_left in
       record {
         long = length-set first (p.1) b ∙ first_long ∙ out_long;
         right = λ number v o due.
-            let occurrences : List (Occurrence N) = occurrences_of kids nodes in
-            let left_case : number ≡ p.0 → get_or (set first (p.1) b) number v ≡ value (get_or occurrences number o) =
-            λ is. ap (λ i. get_or (set first (p.1) b) i v) is ∙ at_left v ∙ a_is ∙ ap value (sym (pair.at_left o))
-            ∙ ap (λ i. value (get_or occurrences i o)) (sym is) in
-            let right_case : number ≡ p.1 → get_or (set first (p.1) b) number v ≡ value (get_or occurrences number o) =
-            λ is. ap (λ i. get_or (set first (p.1) b) i v) is ∙ at_right v ∙ b_is ∙ ap value (sym (pair.at_right o))
-            ∙ ap (λ i. value (get_or occurrences i o)) (sym is) in
             elim (same_or_not number (p.0)) [
-              | inl is ↦ left_case is
+              | inl is ↦
+                  right_at (get_or occurrences number o) _ (get_or both number v) a
+                  (ap (λ i. get_or occurrences i o) is ∙ pair.at_left o) (ap (λ i. get_or both i v) is ∙ at_left v) a_is
               | inr not_left ↦ elim (same_or_not number (p.1)) [
-                | inl is ↦ right_case is
+                | inl is ↦
+                    right_at (get_or occurrences number o) _ (get_or both number v) b
+                    (ap (λ i. get_or occurrences i o) is ∙ pair.at_right o) (ap (λ i. get_or both i v) is ∙ at_right v) b_is
                 | inr not_right ↦
-                    get_or-set_other first (p.1) number b v not_right ∙ get_or-set_other out (p.0) number a v not_left
-                    ∙ s.right number v o (⊎_elim (λ d. d) (λ c. absurd (⊎_elim not_left not_right c))
-                    (due_at_pair kids nodes e k number p names due))
+                    subst (IsValue (get_or occurrences number o)) (sym (elsewhere number v not_left not_right))
+                    (s.right number v o (⊎_elim (λ d. d) (λ c. absurd (⊎_elim not_left not_right c))
+                    (due_at_pair kids nodes e k number p names due)))
               ]
             ];
       }
 
   -- at the end every value is right
   pub settled_all : (nodes : List N) → IsPostOrder (map kids nodes) → (e : N) (out : List V)
-      → IsSettled kids nodes e value 0 out → out ≡ map value (occurrences_of kids nodes)
+      → IsSettled kids nodes e IsValue 0 out → AllZip IsValue (occurrences_of kids nodes) out
   settled_all nodes ok e out s =
       let count : length (occurrences_of kids nodes) ≡ length nodes = length-occurrences_of kids nodes ok in
       let out_long : length out ≡ length nodes = s.long in
-      same_lists out (map value (occurrences_of kids nodes))
-      (s.long ∙ sym count ∙ sym (length-map (occurrences_of kids nodes) value))
-      (λ k v h.
-      let o : Occurrence N = occurrence [] (tip e) in
-      s.right k v o (due_later nodes e k (due_next kids nodes ok e k (omega arith)))
-      ∙ sym (get_or-map value (occurrences_of kids nodes) k o v (omega arith)))
+      all_zip-from IsValue (occurrences_of kids nodes) out (count ∙ sym out_long)
+      (λ k o v h. s.right k v o (due_later nodes e k (due_next kids nodes ok e k (omega arith))))
     where
       due_later : (nodes : List N) (e : N) (k : ℕ) → IsDue kids nodes e (k + 1) k → IsDue kids nodes e 0 k
       due_later nodes e k (root is) = root is
       due_later nodes e k (part i p from within names child) = part i p (omega arith) within names child
+
+-- a value that is carried down is one, where the root's and each part's are
+pub down_from_one : {N V : Type 0} (Start : BinaryTree N → V → Type 0) (Step : V → BinaryTree N → BinaryTree N → V → Type 0)
+    → ((t : BinaryTree N) (v w : V) → Start t v → Start t w → v ≡ w)
+    → ((above : V) (pair t : BinaryTree N) (v w : V) → Step above pair t v → Step above pair t w → v ≡ w)
+    → (up : List (BinaryTree N)) (t : BinaryTree N) (v w : V) → IsDownFrom Start Step up t v → IsDownFrom Start Step up t w
+    → v ≡ w
+unfolding IsDownFrom
+down_from_one Start Step start step [] t v w p q = start t v w p q
+down_from_one Start Step start step (pair ∷ up) t v w p q =
+    let same : p.0 ≡ q.0 = down_from_one Start Step start step up pair p.0 q.0 p.1 q.1 in
+    step p.0 pair t v w p.2 (subst (λ above. Step above pair t w) (sym same) q.2)

@@ -1,8 +1,9 @@
 -- The definitions, computed on a worked list of nodes.
 use Rattle.std.proofs.Common.{◌≡◌, ℕ, List, [], ◌∷◌, ◌+◌, Option, Some, None, map, refl, ap, arith}
+use Rattle.std.specs.List.{AllZip}
 use Rattle.cts_postorder.specs.BinaryTree.{BinaryTree, tip, fork, label, labels, subtrees, size, depth, root_number, IsNumbered}
 use Rattle.cts_postorder.specs.PostOrder.{IsPostOrder, IsPostOrderFrom, trees_of, root_of, grow, tree_over}
-use Rattle.cts_postorder.specs.Occurrence.{Occurrence, occurrences, occurrences_of, down_from}
+use Rattle.cts_postorder.specs.Occurrence.{Occurrence, occurrences, occurrences_of, IsDownFrom}
 
 -- a node of the example: a leaf with its sink's place in a list, or a pair that names its children
 data Node : Type 0 where
@@ -73,7 +74,9 @@ unfolding occurrences_of occurrences root_of trees_of grow tree_over label
 example_occurrences = refl
 
 -- what is carried down by counting the pairs above
-example_down : map (λ (o : Occurrence Node). down_from (λ _. 0) (λ pairs above here. pairs + 1) o.above o.here) (occurrences_of children nodes)
-    ≡ 2 ∷ 2 ∷ 1 ∷ 2 ∷ 2 ∷ 1 ∷ 0 ∷ []
-unfolding occurrences_of occurrences root_of trees_of grow tree_over down_from
-example_down = refl
+example_down : AllZip
+    (λ (o : Occurrence Node) (v : ℕ). IsDownFrom (λ here v. v ≡ 0) (λ above pair here v. v ≡ above + 1) o.above o.here v)
+    (occurrences_of children nodes) (2 ∷ 2 ∷ 1 ∷ 2 ∷ 2 ∷ 1 ∷ 0 ∷ [])
+unfolding occurrences_of occurrences root_of trees_of grow tree_over IsDownFrom
+example_down =
+    ((1, (0, refl, refl), refl), ((1, (0, refl, refl), refl), ((0, refl, refl), ((1, (0, refl, refl), refl), ((1, (0, refl, refl), refl), ((0, refl, refl), (refl, tt)))))))

@@ -1,3 +1,4 @@
+pub mod Zips
 pub mod Sizes
 pub mod Growth
 pub mod Spelling

@@ -28,8 +28,8 @@ decorate g up (tip n) = tip (g (occurrence up (tip n)))
 decorate g up (fork l r n) =
     fork (decorate g (fork l r n ∷ up) l) (decorate g (fork l r n ∷ up) r) (g (occurrence up (fork l r n)))
 
--- A value carried down: at the root it is `start`; a part takes it from its pair, as `step value pair part`.
-unfoldable pub down_from : {N V : Type 0} → (BinaryTree N → V) → (V → BinaryTree N → BinaryTree N → V)
-    → List (BinaryTree N) → BinaryTree N → V
-down_from start step [] t = start t
-down_from start step (pair ∷ up) t = step (down_from start step up pair) pair t
+-- A value carried down: `Start` tells it at the root, and `Step value pair part` tells that of a part from its pair's.
+unfoldable pub IsDownFrom : {N V : Type 0} → (BinaryTree N → V → Type 0)
+    → (V → BinaryTree N → BinaryTree N → V → Type 0) → List (BinaryTree N) → BinaryTree N → V → Type 0
+IsDownFrom Start Step [] t v = Start t v
+IsDownFrom {V} Start Step (pair ∷ up) t v = (above : V) × IsDownFrom Start Step up pair above × Step above pair t v

@@ -19,10 +19,10 @@ pub data IsDue {N : Type 0} (kids : N → Option (ℕ × ℕ)) (nodes : List N) 
   part : (i : ℕ) (p : ℕ × ℕ) → k ≤ i → i < length nodes → kids (slice_index_or nodes i e) ≡ Some p
       → (number ≡ p.0) ⊎ (number ≡ p.1) → IsDue kids nodes e k number
 
--- The state of a downward pass: there is a place for each node, and each value that is due is right, that is, what
--- `value` says of the subtree and the pairs above it.
-pub record IsSettled {N V : Type 0} (kids : N → Option (ℕ × ℕ)) (nodes : List N) (e : N) (value : Occurrence N → V)
-    (k : ℕ) (out : List V) : Type 0 where
+-- The state of a downward pass: there is a place for each node, and each value that is due is right, that is, one that
+-- `IsValue` relates to the subtree and the pairs above it.
+pub record IsSettled {N V : Type 0} (kids : N → Option (ℕ × ℕ)) (nodes : List N) (e : N)
+    (IsValue : Occurrence N → V → Type 0) (k : ℕ) (out : List V) : Type 0 where
   pub long : length out ≡ length nodes
   pub right : (number : ℕ) (v : V) (o : Occurrence N) → IsDue kids nodes e k number
-      → slice_index_or out number v ≡ value (slice_index_or (occurrences_of kids nodes) number o)
+      → IsValue (slice_index_or (occurrences_of kids nodes) number o) (slice_index_or out number v)

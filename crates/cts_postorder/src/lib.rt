@@ -8,7 +8,9 @@
 //! and `specs/Pass.antt` the states of upward and downward passes; all of them whatever the nodes
 //! are, given what children a node names. A layer above cites these definitions, the laws below,
 //! and the lemmas of `proofs/`: `Lists` for what stands at a number, `Upward` and `Downward` for
-//! the steps of passes, `Decorated` for trees of the same form with other nodes.
+//! the steps of passes, `Decorated` for trees of the same form with other nodes, and `Zips` for lists
+//! that are related place by place. Passes are stated over a relation between trees or occurrences
+//! and their values, so that a layer need not compute what it defines.
 #![tactic(auto)]
 
 ghost use Rattle.cts_postorder.specs.Laws.{PostOrderIsTree, TreesAreSubtrees, FrontsKeepTrees, ChildrenComeBefore};

@@ -5,7 +5,8 @@ use Rattle.cts_units.specs.declared.params.Sink.{Sink}
 use Rattle.cts_units.specs.declared.params.Params.{Params}
 use Rattle.cts_postorder.specs.BinaryTree.{BinaryTree, tip, fork}
 use Rattle.cts_postorder.specs.PostOrder.{trees_of}
-use Rattle.cts_postorder.proofs.Upward.{all_zip-one, none_left, least_failure_unique}
+use Rattle.cts_postorder.proofs.Zips.{all_zip-one}
+use Rattle.cts_postorder.proofs.Upward.{none_left, least_failure_unique}
 use Rattle.cts_topo.specs.declared.shape.ShapeNode.{ShapeNode}
 use Rattle.cts_topo.specs.Shape.{children}
 use Rattle.cts_merge.specs.declared.side.Finished.{Finished}

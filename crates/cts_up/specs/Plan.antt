@@ -26,7 +26,8 @@ IsFinished params sinks (fork l r n) f =
     (a : Finished) × (b : Finished) × IsFinished params sinks l a × IsFinished params sinks r b
     × IsMerged params a.side b.side f
 
--- A pair is beyond: both its parts are finished, and their least pair of lengths is over the limits.
+-- A pair is beyond: both its parts are finished, and with their least pair of lengths it is over the limits of wires,
+-- loads or delays.
 unfoldable pub IsBeyondPair : Params → List Sink → BinaryTree ShapeNode → Type 0
 IsBeyondPair params sinks (tip n) = ⊥
 IsBeyondPair params sinks (fork l r n) =

@@ -7,7 +7,7 @@ use std::alloc::{AllocError, AllocFailed};
 #[derive(Clone, Copy, Debug, PartialEq, Eq)]
 pub enum UpEnd {
     /// The least number of a node that is over the limits of wires, loads or delays, and whose two
-    /// children are not.
+    /// children are finished.
     Beyond { node: u32 },
     /// Memory ran out.
     NoMemory,

@@ -2,8 +2,8 @@
 //!
 //! A layer above hands in the sinks, a shape over them and the parameters, and takes the plan of [`up`]
 //! or the reason why there is none; it cites `specs/Plan.antt`, which tells a plan by a recursion on the
-//! tree of the shape. The laws of [`laws`] say that there is one plan at most, and where the regions of
-//! a plan lie.
+//! tree of the shape. The laws of [`laws`] say that a shape has either one plan or one least node that is
+//! beyond, and where the regions of a plan lie.
 //!
 //! The pass knows no memo, no thread and no places: it goes once over the nodes in post-order.
 #![tactic(auto)]
