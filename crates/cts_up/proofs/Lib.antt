@@ -5,3 +5,4 @@ pub mod Sides
 pub mod Node
 pub mod Exists
 pub mod Merges
+mod Example
