@@ -5,7 +5,7 @@ ghost use Rattle.std.specs.List.{AllZip};
 ghost use Rattle.cts_units.specs.Limits.{IsParams};
 ghost use Rattle.cts_postorder.specs.PostOrder.{trees_of};
 ghost use Rattle.cts_topo.specs.Shape.{IsShapeOver, children, leaf_sinks};
-ghost use Rattle.cts_up.specs.Ends.{Ends};
+ghost use Rattle.cts_up.specs.Ends.{CountsPairs, Ends};
 ghost use Rattle.cts_up.specs.Plan.{IsFinished, IsLeastBeyond, IsPlan};
 ghost use Rattle.cts_up.specs.Sinks.{AreSinksInRange};
 
@@ -65,6 +65,7 @@ pub fn up<L: Ledger>(
     ensures plan { IfOk result (λ plan. IsPlan params.now sinks.now shape.now plan.items) }
     ensures ends { IfErr result (Ends params.now sinks.now shape.now) }
     ensures merges { OnOk result (steps.new + 1 ≡ steps.old + length sinks.now) }
+    ensures merges_until { IfErr result (CountsPairs shape.now steps.old steps.new) }
     ensures merges_at_most { steps.new + 1 ≤ steps.old + length sinks.now }
 {
     let nodes = shape.nodes();
