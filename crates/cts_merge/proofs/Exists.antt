@@ -7,6 +7,7 @@ use Rattle.cts_geom.specs.declared.regions.Region.{Region}
 use Rattle.cts_geom.specs.Points.{spot_at}
 use Rattle.cts_geom.specs.Regions.{ContainsSpot, IsMeet, gap_of}
 use Rattle.cts_geom.proofs.PointLemmas.{spot_same}
+use Rattle.cts_units.specs.declared.params.Sink.{Sink}
 use Rattle.cts_units.specs.declared.params.Params.{Params}
 use Rattle.cts_units.specs.Choice.{IsBufferChoice, added_delay_of, seen_load_of}
 use Rattle.cts_units.proofs.Choices.{choice_exists}
@@ -14,13 +15,13 @@ use Rattle.cts_merge.specs.declared.side.Side.{Side}
 use Rattle.cts_merge.specs.declared.side.Finished.{Finished}
 use Rattle.cts_merge.specs.LeastPair.{HasLeastPair, Spans}
 use Rattle.cts_merge.specs.Side.{delay_through}
-use Rattle.cts_merge.specs.Merge.{IsMergePair, IsMerged, IsBeyond, pair_load_of, pair_delay_of}
+use Rattle.cts_merge.specs.Merge.{IsLeaf, IsMergePair, IsMerged, IsBeyond, pair_load_of, pair_delay_of}
 use Rattle.cts_merge.specs.Laws.{LeafExists, SidesMergeOrAreBeyond}
 use Rattle.cts_merge.proofs.Merges.{merge_pair_exists}
 use Rattle.cts_merge.proofs.Regions.{Box, box_of}
 
 -- the region of one spot
-spot_region : Spot → Region
+abbrev pub spot_region : Spot → Region
 spot_region at = record {
   u1 = at.u;
   u2 = at.u;
@@ -31,12 +32,10 @@ spot_region at = record {
 }
 
 only_spot : (at p : Spot) → ContainsSpot (spot_region at) p → p ≡ at
-unfolding spot_region
 only_spot at p inside =
     spot_same p at (omega (arith, ints, inside.u_low, inside.u_high)) (omega (arith, ints, inside.v_low, inside.v_high))
 
 own_spot : (at p : Spot) → p ≡ at → ContainsSpot (spot_region at) p
-unfolding spot_region
 own_spot at p is =
     let u : p.u ≡ at.u = ap (λ (q : Spot). q.u) is in
     let v : p.v ≡ at.v = ap (λ (q : Spot). q.v) is in
@@ -47,19 +46,27 @@ own_spot at p is =
       v_high = omega (arith, ints, v);
     }
 
+-- the leaf of a sink
+abbrev pub sink_leaf : Sink → Finished
+sink_leaf sink = record {
+  side = record { greatest = 0; load = sink.cap; region = spot_region (spot_at sink.x sink.y) };
+  ea = 0;
+  eb = 0;
+  buffer = None;
+}
+
+pub sink_leaf_is : (sink : Sink) → IsLeaf sink (sink_leaf sink)
+sink_leaf_is sink = record {
+  greatest = refl;
+  load = refl;
+  region = λ p. (only_spot (spot_at sink.x sink.y) p, own_spot (spot_at sink.x sink.y) p);
+  ea = refl;
+  eb = refl;
+  buffer = refl;
+}
+
 pub leaf_there : LeafExists
-leaf_there sink =
-    let at : Spot = spot_at sink.x sink.y in (
-      record { side = record { greatest = 0; load = sink.cap; region = spot_region at }; ea = 0; eb = 0; buffer = None },
-      record {
-        greatest = refl;
-        load = refl;
-        region = λ p. (only_spot at p, own_spot at p);
-        ea = refl;
-        eb = refl;
-        buffer = refl;
-      },
-    )
+leaf_there sink = (sink_leaf sink, sink_leaf_is sink)
 
 -- the pair of two sides by their least pair of lengths, within the limits on these and on the load
 module _ (params : Params) (a b : Side) (ea eb : ℕ) (least : IsMergePair params.wire a b ea eb)

@@ -1,15 +1,11 @@
 -- The definition of a plan, on a worked shape: two sinks of 5 and 10 zF, 10 nm apart, with a wire of 1 µΩ and 1 zF per nm
 -- and no buffer. The wires are 6 nm and 4 nm long, for 6·16 = 4·24 = 96 on both sides.
-use Rattle.std.proofs.Common.{◌≡◌, ℕ, ◌+◌, ◌*◌, ◌<◌, ◌≤◌, inl, inr, pos, [], ◌∷◌, None, refl, sym, ap, arith, mul-le-mul}
+use Rattle.std.proofs.Common.{◌≡◌, ℕ, ◌+◌, ◌*◌, ◌<◌, ◌≤◌, inl, inr, pos, [], ◌∷◌, None, refl, sym, arith, mul-le-mul}
 use Rattle.std.specs.Int.{abs_diff}
 use Rattle.std.proofs.lemmas.Bool.{cases_lt}
-use Rattle.std.proofs.lemmas.Int.{ints}
-use Rattle.cts_geom.specs.declared.points.Spot.{Spot}
 use Rattle.cts_geom.specs.declared.regions.Region.{Region}
 use Rattle.cts_geom.specs.Coordinate.{interval_gap}
-use Rattle.cts_geom.specs.Points.{spot_at}
 use Rattle.cts_geom.specs.Regions.{gap_of}
-use Rattle.cts_geom.proofs.PointLemmas.{spot_same}
 use Rattle.cts_geom.proofs.RegionLemmas.{meet_is}
 use Rattle.cts_units.specs.declared.params.Sink.{Sink}
 use Rattle.cts_units.specs.declared.params.Params.{Params}
@@ -19,6 +15,7 @@ use Rattle.cts_topo.specs.declared.shape.ShapeNode.TheVariants.{Leaf, Pair}
 use Rattle.cts_merge.specs.declared.side.Finished.{Finished}
 use Rattle.cts_merge.specs.Side.{delay_through}
 use Rattle.cts_merge.specs.Merge.{IsLeaf, IsMergePair, IsMerged}
+use Rattle.cts_merge.proofs.Exists.{spot_region, sink_leaf_is}
 use Rattle.cts_up.specs.Plan.{IsFinished, IsPlan}
 
 abbrev params : Params
@@ -30,9 +27,9 @@ first = record { id = 1; x = pos 0; y = pos 0; cap = 5 }
 abbrev second : Sink
 second = record { id = 2; x = pos 10; y = pos 0; cap = 10 }
 
--- the point (x, 0)
+-- the region of the point (x, 0)
 abbrev at : ℕ → Region
-at x = record { u1 = pos x; u2 = pos x; v1 = pos x; v2 = pos x; u_ordered = omega (arith, ints); v_ordered = omega (arith, ints) }
+at x = spot_region (record { u = pos x; v = pos x })
 
 abbrev leaf : ℕ → ℕ → Finished
 leaf x cap = record { side = record { greatest = 0; load = cap; region = at x }; ea = 0; eb = 0; buffer = None }
@@ -40,27 +37,11 @@ leaf x cap = record { side = record { greatest = 0; load = cap; region = at x };
 abbrev pair : Finished
 pair = record { side = record { greatest = 96; load = 25; region = at 6 }; ea = 6; eb = 4; buffer = None }
 
-leaf_is : (sink : Sink) (x : ℕ) → sink.x ≡ pos x → sink.y ≡ pos 0 → IsLeaf sink (leaf x sink.cap)
-leaf_is sink x at_x at_y = record {
-  greatest = refl;
-  load = refl;
-  region = λ p. (
-    (λ inside. spot_same p (spot_at sink.x sink.y)
-        (omega (arith, ints, at_x, at_y, inside.u_low, inside.u_high)) (omega (arith, ints, at_x, at_y, inside.v_low, inside.v_high))),
-    (λ is.
-        let u : p.u ≡ (spot_at sink.x sink.y).u = ap (λ (q : Spot). q.u) is in
-        let v : p.v ≡ (spot_at sink.x sink.y).v = ap (λ (q : Spot). q.v) is in
-        record {
-          u_low = omega (arith, ints, at_x, at_y, u);
-          u_high = omega (arith, ints, at_x, at_y, u);
-          v_low = omega (arith, ints, at_x, at_y, v);
-          v_high = omega (arith, ints, at_x, at_y, v);
-        }),
-  );
-  ea = refl;
-  eb = refl;
-  buffer = refl;
-}
+first_is : IsLeaf first (leaf 0 5)
+first_is = sink_leaf_is first
+
+second_is : IsLeaf second (leaf 10 10)
+second_is = sink_leaf_is second
 
 gap_is : gap_of (at 0) (at 10) ≡ 10
 unfolding gap_of interval_gap
@@ -122,9 +103,9 @@ pair_is = record {
 example_plan : IsPlan params (first ∷ second ∷ []) (Leaf 0 ∷ Leaf 1 ∷ Pair 0 1 ∷ []) (leaf 0 5 ∷ leaf 10 10 ∷ pair ∷ [])
 unfolding IsFinished trees_of grow tree_over
 example_plan = (
-  leaf_is first 0 refl refl,
+  first_is,
   (
-    leaf_is second 10 refl refl,
-    ((leaf 0 5, leaf 10 10, leaf_is first 0 refl refl, leaf_is second 10 refl refl, pair_is), tt),
+    second_is,
+    ((leaf 0 5, leaf 10 10, first_is, second_is, pair_is), tt),
   ),
 )

@@ -10,7 +10,7 @@ use Rattle.cts_topo.specs.declared.shape.ShapeNode.{ShapeNode}
 use Rattle.cts_topo.specs.declared.shape.ShapeNode.TheVariants.{Leaf, Pair}
 use Rattle.cts_topo.specs.Shape.{children, IsShapeOver}
 use Rattle.cts_merge.specs.declared.side.Finished.{Finished}
-use Rattle.cts_merge.proofs.Exists.{leaf_there, merged_or_beyond}
+use Rattle.cts_merge.proofs.Exists.{sink_leaf, sink_leaf_is, merged_or_beyond}
 use Rattle.cts_up.specs.Plan.{IsFinished, IsLeastBeyond}
 use Rattle.cts_up.specs.Laws.{ShapesHavePlans}
 use Rattle.cts_up.proofs.Node.{leaf_next, pair_merged, pair_over}
@@ -20,7 +20,7 @@ no_sink : Sink
 no_sink = record { id = 0; x = pos 0; y = pos 0; cap = 0 }
 
 no_node : Finished
-no_node = (leaf_there no_sink).0
+no_node = sink_leaf no_sink
 
 module _ (params : Params) (sinks : List Sink) (nodes : List ShapeNode) (wire : IsWire params.wire)
     (ok : IsShapeOver (length sinks) nodes) where
@@ -36,8 +36,8 @@ module _ (params : Params) (sinks : List Sink) (nodes : List ShapeNode) (wire : 
       → get_or nodes k (Leaf 0) ≡ n → Front (k + 1)
   unfolding Front
   next k h plan before (Leaf s) here =
-      let leaf = leaf_there (get_or sinks s no_sink) in
-      inl (plan ++ leaf.0 ∷ [], leaf_next params sinks nodes ok k h plan before s (Leaf 0) here no_sink (leaf.0) (leaf.1))
+      let sink : Sink = get_or sinks s no_sink in
+      inl (plan ++ sink_leaf sink ∷ [], leaf_next params sinks nodes ok k h plan before s (Leaf 0) here no_sink (sink_leaf sink) (sink_leaf_is sink))
   next k h plan before (Pair left right) here =
       let a : Finished = get_or plan left no_node in
       let b : Finished = get_or plan right no_node in
