@@ -1,1 +1,6 @@
+pub mod Numbers
+pub mod Paths
+pub mod Below
+pub mod AddUp
+pub mod Unique
 mod Example

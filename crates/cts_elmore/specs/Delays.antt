@@ -15,11 +15,11 @@ module _ (i : Parts) where
 
   -- of the buffer at a subtree's root, and nothing where there is none
   abbrev pub buffer_delay : BinaryTree TreeNode → ℕ
-  buffer_delay t = option_map_or (λ buffer. buffer_delay_of buffer (load_below i t)) (buffer_at i (label t)) 0
+  buffer_delay t = option_map_or (λ buffer. buffer_delay_of buffer (load_below i t)) (buffer_at i t) 0
 
   -- of that buffer's output resistance alone, without its intrinsic delay
   abbrev pub output_delay : BinaryTree TreeNode → ℕ
-  output_delay t = option_map_or (λ buffer. 2 * buffer.rout * load_below i t) (buffer_at i (label t)) 0
+  output_delay t = option_map_or (λ buffer. 2 * buffer.rout * load_below i t) (buffer_at i t) 0
 
   -- of the source's resistance
   abbrev pub source_delay : BinaryTree TreeNode → ℕ
@@ -33,5 +33,5 @@ module _ (i : Parts) where
   -- none, and of each wire from there on.
   unfoldable pub stage_at : BinaryTree TreeNode → Occurrence TreeNode → ℕ
   stage_at root o =
-      option_map_or output_delay (find (λ t. is_buffered i (label t)) o.above) (source_delay root)
-      + sum_by wire_delay (o.here ∷ take_while (λ t. not (is_buffered i (label t))) o.above)
+      option_map_or output_delay (find (is_buffered i) o.above) (source_delay root)
+      + sum_by wire_delay (o.here ∷ take_while (λ t. not (is_buffered i t)) o.above)

@@ -49,10 +49,10 @@ IsFirstOver i nodes (Some k) = IsLeastFailure tree_children nodes (IsOver i node
 -- neither the source nor a buffer drives more than the load limit
 pub record MeetsLoadLimit (i : Parts) (root : BinaryTree TreeNode) : Type 0 where
   pub source : source_load i root ≤ i.load_limit
-  pub buffers : All (λ t. IsTrue (is_buffered i (label t)) → load_below i t ≤ i.load_limit) (subtrees root)
+  pub buffers : All (λ t. IsTrue (is_buffered i t) → load_below i t ≤ i.load_limit) (subtrees root)
 
 -- no slew is above the slew limit, which is not doubled, at a leaf or at a buffer
 abbrev pub MeetsSlewLimit : Parts → BinaryTree TreeNode → Type 0
 MeetsSlewLimit i root =
-    All (λ o. IsTrue (is_tip o.here || is_buffered i (label o.here)) → slew_of (stage_at i root o) ≤ 10 * i.slew_limit)
+    All (λ o. IsTrue (is_tip o.here || is_buffered i o.here) → slew_of (stage_at i root o) ≤ 10 * i.slew_limit)
     (occurrences [] root)

@@ -27,6 +27,10 @@ module _ (i : Parts) where
   unfoldable pub greatest_below : BinaryTree TreeNode → ℕ
   greatest_below t = greatest_of (map delay_down (tips [] t))
 
+  -- and the least
+  unfoldable pub least_below : BinaryTree TreeNode → ℕ
+  least_below t = least_of (map delay_down (tips [] t))
+
   -- the distance of the greatest delays of a pair's two parts, each with its wire
   unfoldable pub residue : BinaryTree TreeNode → ℕ
   residue (tip n) = 0
