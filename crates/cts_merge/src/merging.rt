@@ -5,7 +5,7 @@ ghost use Rattle.cts_geom.specs.Coordinate.{IsCoordinate};
 ghost use Rattle.cts_geom.specs.declared.points.Spot.{Spot};
 ghost use Rattle.cts_geom.specs.Regions.{ContainsSpot, IsRegionInRange};
 ghost use Rattle.cts_units.specs.Choice.{IsBufferChoice, added_delay_of, seen_load_of};
-ghost use Rattle.cts_units.specs.Limits.{IsParams, IsWire};
+ghost use Rattle.cts_units.specs.Limits.{IsParams, IsWire, max_length, max_load};
 ghost use Rattle.cts_merge.specs.Merge.{IsLeaf, IsMergePair, IsMerged, IsBeyond};
 ghost use Rattle.cts_merge.specs.Side.{IsSideInRange};
 
@@ -36,7 +36,7 @@ fn point(at: Spot) -> Region
 pub fn leaf(sink: &Sink) -> Finished
     requires x { IsCoordinate sink.now.x }
     requires y { IsCoordinate sink.now.y }
-    requires cap { sink.now.cap ≤ 2 ^ 56 }
+    requires cap { sink.now.cap ≤ max_load }
     ensures leaf { IsLeaf sink.now result }
     ensures in_range { IsSideInRange result.side }
     ensures u1 { result.side.region.u1 ≡ sink.now.x +ℤ sink.now.y }
@@ -69,12 +69,12 @@ fn wire_load(wire: Wire, length: u64) -> u64
 /// The delay that a node's buffer adds over a load, and the load that is seen from above it.
 fn buffered(params: &Params, buffer: Option<u16>, load: u64) -> (u128, u64)
     requires params { IsParams params.now }
-    requires load { load ≤ 2 ^ 56 }
+    requires load { load ≤ max_load }
     requires choice { IsBufferChoice params.now load buffer }
     ensures added { result.0 ≡ added_delay_of params.now.library buffer load }
     ensures added_bound { result.0 ≤ 2 ^ 118 }
     ensures seen { result.1 ≡ seen_load_of params.now.library buffer load }
-    ensures seen_bound { result.1 ≤ 2 ^ 56 }
+    ensures seen_bound { result.1 ≤ max_load }
 {
     match buffer {
         Some(index) => {
@@ -93,8 +93,8 @@ fn join(params: &Params, a: &Side, ea: u64, b: &Side, eb: u64) -> Result<Finishe
     requires a_region { IsRegionInRange a.now.region }
     requires b_region { IsRegionInRange b.now.region }
     requires least { IsMergePair params.now.wire a.now b.now ea eb }
-    requires ea { ea ≤ 2 ^ 31 - 1 }
-    requires eb { eb ≤ 2 ^ 31 - 1 }
+    requires ea { ea ≤ max_length }
+    requires eb { eb ≤ max_length }
     ensures merged { IfOk result (λ pair. IsMerged params.now a.now b.now pair) }
     ensures in_range { IfOk result (λ pair. IsSideInRange pair.side) }
     ensures beyond { IfErr result (λ _. IsBeyond params.now a.now b.now) }

@@ -1,6 +1,6 @@
 ghost use Rattle.std.specs.Prelude.{◌≡◌, ◌^◌, ◌<◌, ◌≤◌, pos, ◌≤ℤ◌, IfOk};
 ghost use Rattle.cts_geom.specs.Regions.{IsRegionInRange};
-ghost use Rattle.cts_units.specs.Limits.{IsParams};
+ghost use Rattle.cts_units.specs.Limits.{IsParams, max_delay, max_load};
 ghost use Rattle.cts_merge.specs.Side.{IsSideInRange};
 
 use super::*;
@@ -13,8 +13,8 @@ use std::test::Fail;
 
 /// A side of one point, in nm.
 fn side(greatest: u128, load: u64, x: i64, y: i64) -> Side
-    requires greatest { greatest ≤ 2 ^ 104 }
-    requires load { load ≤ 2 ^ 56 }
+    requires greatest { greatest ≤ max_delay }
+    requires load { load ≤ max_load }
     requires x_low { pos 0 ≤ℤ x }
     requires x_high { x ≤ℤ pos (10 ^ 8) }
     requires y_low { pos 0 ≤ℤ y }
