@@ -1,6 +1,8 @@
 pub mod Numbers
 pub mod Paths
 pub mod Below
+pub mod Rising
+pub mod Node
 pub mod AddUp
 pub mod Unique
 mod Example

@@ -3,6 +3,7 @@ pub mod Loads
 pub mod Delays
 pub mod Skew
 pub mod Limits
+pub mod Subtrees
 pub mod Figures
 pub mod Laws
 pub use Rattle.cts_tree.specs.Nodes

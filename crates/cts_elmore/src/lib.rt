@@ -3,5 +3,6 @@
 
 mod figures;
 pub mod laws;
+mod subtree;
 
 pub use figures::{Figures, NodeFigure, NodeFigures};
