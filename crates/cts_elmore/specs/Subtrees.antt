@@ -14,12 +14,14 @@ use Rattle.cts_tree.specs.declared.nodes.TreeNode.{TreeNode}
 use Rattle.cts_tree.specs.Nodes.{tree_children}
 use Rattle.cts_instance.specs.declared.parts.Parts.{Parts}
 use Rattle.cts_elmore.specs.declared.subtree.Subtree.{Subtree}
+use Rattle.cts_elmore.specs.declared.drive.Drive.{Drive}
 use Rattle.cts_elmore.specs.declared.subtree.Branch.{Branch}
 use Rattle.cts_elmore.specs.declared.subtree.Gathered.{Gathered}
 use Rattle.cts_elmore.specs.declared.subtree.Gathered.TheVariants.{Within, Over}
-use Rattle.cts_elmore.specs.Loads.{load_below, load_seen}
+use Rattle.cts_elmore.specs.Loads.{load_below, load_seen, source_load}
+use Rattle.cts_elmore.specs.Delays.{wire_delay, source_delay}
 use Rattle.cts_elmore.specs.Skew.{greatest_below, least_below, residue, bound}
-use Rattle.cts_elmore.specs.Limits.{IsPairOver}
+use Rattle.cts_elmore.specs.Limits.{IsPairOver, IsRootOver}
 
 -- The values of a subtree that is not over the limits. The lengths of all wires come with the one above it.
 pub record IsSubtree (i : Parts) (t : BinaryTree TreeNode) (s : Subtree) : Type 0 where
@@ -80,3 +82,28 @@ PairOrOver library buffer a b result =
 abbrev pub IsGathered : Parts → List TreeNode → Gathered → Type 0
 IsGathered i nodes (Within subtrees) = AllZip (IsSubtree i) (trees_of tree_children nodes) subtrees.items
 IsGathered i nodes (Over node) = IsLeastFailure tree_children nodes (IsPairOver i) node
+
+-- what a source drives through a root's wire, within the limits
+pub record IsDriveThrough (resistance : ℕ) (wire : Wire) (length : ℕ) (s : Subtree) (drive : Drive) : Type 0 where
+  pub load : drive.load ≡ s.seen + wire.c * length
+  pub delay : drive.delay
+      ≡ 2 * resistance * (s.seen + wire.c * length) + wire_delay_of wire.r wire.c length s.seen
+  pub length_within : length ≤ max_length
+  pub load_within : drive.load ≤ max_load
+  pub delay_within : drive.delay + s.greatest ≤ max_delay
+
+-- or over them
+abbrev pub IsDriveOver : ℕ → Wire → ℕ → Subtree → Type 0
+IsDriveOver resistance wire length s =
+    (max_length < length) ⊎ ((max_load < s.seen + wire.c * length)
+    ⊎ (max_delay
+    < 2 * resistance * (s.seen + wire.c * length) + wire_delay_of wire.r wire.c length s.seen + s.greatest))
+
+-- what the source drives, and the delay down to a root that is not over the limits
+pub record IsDrive (i : Parts) (root : BinaryTree TreeNode) (drive : Drive) : Type 0 where
+  pub load : drive.load ≡ source_load i root
+  pub delay : drive.delay ≡ source_delay i root + wire_delay i root
+  pub not_over : ¬ IsRootOver i root
+
+abbrev pub DriveOrOver : Parts → BinaryTree TreeNode → Option Drive → Type 0
+DriveOrOver i root result = MatchOption result (IsRootOver i root) (IsDrive i root)
