@@ -2,7 +2,6 @@
 use Rattle.std.specs.Prelude.{◌≡◌, ℕ, ◌^◌, ◌⊎◌, ℤ, pos, neg_ℤ, ◌<ℤ◌, List, length, All}
 use Rattle.cts_geom.specs.declared.regions.Region.{Region}
 use Rattle.cts_geom.specs.Points.{point_of, spot_at}
-use Rattle.cts_geom.specs.Regions.{IsRegionInRange}
 use Rattle.cts_geom.specs.RegionLaws.{IsBoxed, IsInBox, IsSegment}
 use Rattle.cts_units.specs.declared.params.Sink.{Sink}
 use Rattle.cts_units.specs.declared.params.Params.{Params}
@@ -11,7 +10,7 @@ use Rattle.cts_postorder.specs.BinaryTree.{BinaryTree}
 use Rattle.cts_topo.specs.declared.shape.ShapeNode.{ShapeNode}
 use Rattle.cts_topo.specs.Shape.{IsShapeOver}
 use Rattle.cts_merge.specs.declared.side.Finished.{Finished}
-use Rattle.cts_merge.specs.Side.{IsSideInRange}
+use Rattle.cts_merge.specs.Side.{IsMergeable}
 use Rattle.cts_up.specs.Sinks.{AreSinksInRange}
 use Rattle.cts_up.specs.Plan.{IsFinished, IsPlan, IsLeastBeyond}
 
@@ -78,4 +77,4 @@ RegionsAreSmall =
 abbrev pub SidesCanBeMerged : Type 0
 SidesCanBeMerged =
     (params : Params) (sinks : List Sink) (t : BinaryTree ShapeNode) (f : Finished) → IsFinished params sinks t f
-    → IsParams params → AreSinksInRange sinks → IsSideInRange f.side × IsRegionInRange f.side.region
+    → IsParams params → AreSinksInRange sinks → IsMergeable f.side

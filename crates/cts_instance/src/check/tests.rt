@@ -1,3 +1,5 @@
+//! Parts with one fault each, and which of two comes first.
+
 use super::*;
 use crate::fault::Item;
 use crate::parts::{Blocks, Sinks};
