@@ -5,3 +5,4 @@ pub mod TestLemmas
 pub mod AllowLemmas
 pub mod ValidityLemmas
 pub mod PlaceLemmas
+mod Rows
