@@ -6,3 +6,4 @@ pub mod AllowLemmas
 pub mod ValidityLemmas
 pub mod PlaceLemmas
 mod Rows
+pub mod IdLemmas

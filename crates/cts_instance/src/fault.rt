@@ -3,7 +3,7 @@
 use cts_num::NoMemory;
 
 /// The part of an instance, or of a script of edits, that a fault is about. Lists are counted from 0.
-#[derive(Clone, Copy, PartialEq, Eq, Debug)]
+#[derive(Clone, Copy, Debug)]
 pub enum Item {
     Die,
     Source,
@@ -20,7 +20,7 @@ pub enum Item {
 }
 
 /// What is wrong with the parts of an instance.
-#[derive(Clone, Copy, PartialEq, Eq, Debug)]
+#[derive(Clone, Copy, Debug)]
 pub enum Fault {
     /// There are no sinks.
     NoSink,
@@ -37,7 +37,7 @@ pub enum Fault {
 }
 
 /// Why the parts of an instance were refused.
-#[derive(Clone, Copy, PartialEq, Eq, Debug)]
+#[derive(Clone, Copy, Debug)]
 pub enum CheckEnd {
     /// The first fault of the parts.
     Fault(Fault),
