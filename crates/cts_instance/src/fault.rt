@@ -4,7 +4,7 @@ use cts_num::NoMemory;
 use thiserror::Error;
 
 /// The part of an instance, or of a script of edits, that a fault is about. Lists are counted from 0.
-#[derive(Clone, Copy, PartialEq, Eq, Debug)]
+#[derive(Clone, Copy, Debug)]
 pub enum Item {
     Die,
     Source,
@@ -21,7 +21,7 @@ pub enum Item {
 }
 
 /// What is wrong with the parts of an instance.
-#[derive(Clone, Copy, PartialEq, Eq, Debug, Error)]
+#[derive(Clone, Copy, Debug, Error)]
 pub enum Fault {
     /// There are no sinks.
     #[error("no sink")]
@@ -44,7 +44,7 @@ pub enum Fault {
 }
 
 /// Why the parts of an instance were refused.
-#[derive(Clone, Copy, PartialEq, Eq, Debug, Error)]
+#[derive(Clone, Copy, Debug, Error)]
 pub enum CheckEnd {
     /// The first fault of the parts.
     #[error(transparent)]
