@@ -1,0 +1,6 @@
+//! The figures of a clock tree: loads, Elmore delays, slews, skew and bound.
+#![tactic(auto)]
+
+mod figures;
+
+pub use figures::{Figures, NodeFigure, NodeFigures};
