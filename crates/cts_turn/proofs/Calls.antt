@@ -21,6 +21,10 @@ module _ {E : Type 0} where
   pub onward : (old new : List E) → (new ≡ old) ⊎ ((entry : E) × (new ≡ old ++ entry ∷ [])) → IsPrefix old new
   onward old new = ⊎_elim (λ (t : new ≡ old). prefix_same old new (sym t)) (λ (t : (entry : E) × (new ≡ old ++ entry ∷ [])). (t.0 ∷ [], sym t.1))
 
+  pub appends : (old after new : List E) → new ≡ after → (after ≡ old) ⊎ ((entry : E) × (after ≡ old ++ entry ∷ []))
+      → (new ≡ old) ⊎ ((entry : E) × (new ≡ old ++ entry ∷ []))
+  appends old after new is = subst (λ (l : List E). (l ≡ old) ⊎ ((entry : E) × (l ≡ old ++ entry ∷ []))) (sym is)
+
   pub counted : (old new : List E) (made : ℕ) → (new ≡ old) ⊎ ((entry : E) × (new ≡ old ++ entry ∷ []))
       → ((new ≡ old) × (made + (length new - length old) ≡ made)) ⊎ ((entry : E) × (new ≡ old ++ entry ∷ []) × (made + (length new - length old) ≡ made + 1))
   counted old new made = ⊎_elim
