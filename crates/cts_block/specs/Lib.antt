@@ -1,1 +1,2 @@
 pub mod FreePoints
+pub mod NearestFree

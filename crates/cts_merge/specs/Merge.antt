@@ -1,5 +1,5 @@
 -- What the upward pass makes of a sink, and of two sides: the least pair, the merging region, the buffer choice, or beyond.
-use Rattle.std.specs.Prelude.{◌≡◌, ℕ, ◌+◌, ◌*◌, ◌<◌, ◌≤◌, max, Option, None, ◌↔◌, ◌⊎◌}
+use Rattle.std.specs.Prelude.{◌≡◌, ℕ, ◌+◌, ◌*◌, ◌<◌, ◌≤◌, max, Option, None, ◌↔◌, ◌⊎◌, Result, IfOk, IfErr}
 use Rattle.cts_geom.specs.declared.points.Spot.{Spot}
 use Rattle.cts_geom.specs.Points.{spot_at}
 use Rattle.cts_geom.specs.Regions.{ContainsSpot, IsMeet, gap_of}
@@ -10,8 +10,9 @@ use Rattle.cts_units.specs.Choice.{IsBufferChoice, added_delay_of, seen_load_of}
 use Rattle.cts_units.specs.Limits.{max_length, max_load, max_delay}
 use Rattle.cts_merge.specs.declared.side.Side.{Side}
 use Rattle.cts_merge.specs.declared.side.Finished.{Finished}
+use Rattle.cts_merge.specs.declared.side.Beyond.{Beyond}
 use Rattle.cts_merge.specs.LeastPair.{IsLeastPair, Spans}
-use Rattle.cts_merge.specs.Side.{delay_through}
+use Rattle.cts_merge.specs.Side.{IsSideInRange, delay_through}
 
 -- a leaf: no delay, the sink's capacitance, its one point, and no wires or buffer below it
 pub record IsLeaf (sink : Sink) (leaf : Finished) : Type 0 where
@@ -64,3 +65,9 @@ pub record IsBeyond (params : Params) (a b : Side) : Type 0 where
   pub least : IsMergePair params.wire a b ea eb
   pub over : (max_length < ea) ⊎ ((max_length < eb)
       ⊎ ((max_load < pair_load_of params.wire a b ea eb) ⊎ IsTooSlow params a b ea eb))
+
+-- how the merge of two sides ends: with their pair, whose numbers are in range, or beyond
+pub record Merges (params : Params) (a b : Side) (result : Result Finished Beyond) : Type 0 where
+  pub merged : IfOk result (λ pair. IsMerged params a b pair)
+  pub in_range : IfOk result (λ pair. IsSideInRange pair.side)
+  pub beyond : IfErr result (λ _. IsBeyond params a b)

@@ -1,13 +1,13 @@
 //! One step of the upward pass: a sink, and a pair of sides.
 
-ghost use Rattle.std.specs.Prelude.{◌≡◌, ◌+◌, ◌-◌, ◌*◌, ◌^◌, ◌≤◌, ◌+ℤ◌, ◌-ℤ◌, ◌↔◌, IfOk, IfErr};
+ghost use Rattle.std.specs.Prelude.{◌≡◌, ◌+◌, ◌-◌, ◌*◌, ◌^◌, ◌≤◌, ◌+ℤ◌, ◌-ℤ◌, ◌↔◌};
 ghost use Rattle.cts_geom.specs.Coordinate.{IsCoordinate};
 ghost use Rattle.cts_geom.specs.declared.points.Spot.{Spot};
-ghost use Rattle.cts_geom.specs.Regions.{ContainsSpot, IsRegionInRange};
+ghost use Rattle.cts_geom.specs.Regions.{ContainsSpot};
 ghost use Rattle.cts_units.specs.Choice.{IsBufferChoice, added_delay_of, seen_load_of};
 ghost use Rattle.cts_units.specs.Limits.{IsParams, IsWire, max_length, max_load};
-ghost use Rattle.cts_merge.specs.Merge.{IsLeaf, IsMergePair, IsMerged, IsBeyond};
-ghost use Rattle.cts_merge.specs.Side.{IsSideInRange};
+ghost use Rattle.cts_merge.specs.Merge.{IsLeaf, IsMergePair, Merges};
+ghost use Rattle.cts_merge.specs.Side.{IsMergeable, IsSideInRange};
 
 use crate::lengths::{delay_through, least_pair};
 use crate::side::{Beyond, Finished, Side};
@@ -88,16 +88,12 @@ fn buffered(params: &Params, buffer: Option<u16>, load: u64) -> (u128, u64)
 /// The pair of two sides with wires of these lengths, its least pair.
 fn join(params: &Params, a: &Side, ea: u64, b: &Side, eb: u64) -> Result<Finished, Beyond>
     requires params { IsParams params.now }
-    requires a { IsSideInRange a.now }
-    requires b { IsSideInRange b.now }
-    requires a_region { IsRegionInRange a.now.region }
-    requires b_region { IsRegionInRange b.now.region }
+    requires a { IsMergeable a.now }
+    requires b { IsMergeable b.now }
     requires least { IsMergePair params.now.wire a.now b.now ea eb }
     requires ea { ea ≤ max_length }
     requires eb { eb ≤ max_length }
-    ensures merged { IfOk result (λ pair. IsMerged params.now a.now b.now pair) }
-    ensures in_range { IfOk result (λ pair. IsSideInRange pair.side) }
-    ensures beyond { IfErr result (λ _. IsBeyond params.now a.now b.now) }
+    ensures { Merges params.now a.now b.now result }
 {
     let load = a.load + b.load + wire_load(params.wire, ea + eb);
     if load > MAX_LOAD {
@@ -126,13 +122,9 @@ fn join(params: &Params, a: &Side, ea: u64, b: &Side, eb: u64) -> Result<Finishe
 /// The pair of two sides.
 fn pair_of(params: &Params, a: &Side, b: &Side) -> Result<Finished, Beyond>
     requires params { IsParams params.now }
-    requires a { IsSideInRange a.now }
-    requires b { IsSideInRange b.now }
-    requires a_region { IsRegionInRange a.now.region }
-    requires b_region { IsRegionInRange b.now.region }
-    ensures merged { IfOk result (λ pair. IsMerged params.now a.now b.now pair) }
-    ensures in_range { IfOk result (λ pair. IsSideInRange pair.side) }
-    ensures beyond { IfErr result (λ _. IsBeyond params.now a.now b.now) }
+    requires a { IsMergeable a.now }
+    requires b { IsMergeable b.now }
+    ensures { Merges params.now a.now b.now result }
 {
     let (ea, eb) = least_pair(params.wire, a, b, gap(&a.region, &b.region))?;
     join(params, a, ea, b, eb)
@@ -150,13 +142,9 @@ pub fn merge<L: Ledger>(
     steps: &mut Steps<L>,
 ) -> Result<Finished, Beyond>
     requires params { IsParams params.now }
-    requires a { IsSideInRange a.now }
-    requires b { IsSideInRange b.now }
-    requires a_region { IsRegionInRange a.now.region }
-    requires b_region { IsRegionInRange b.now.region }
-    ensures merged { IfOk result (λ pair. IsMerged params.now a.now b.now pair) }
-    ensures in_range { IfOk result (λ pair. IsSideInRange pair.side) }
-    ensures beyond { IfErr result (λ _. IsBeyond params.now a.now b.now) }
+    requires a { IsMergeable a.now }
+    requires b { IsMergeable b.now }
+    ensures merges { Merges params.now a.now b.now result }
     ensures tick { steps.new ≡ steps.old + 1 }
 {
     steps.tick();

@@ -1,3 +1,5 @@
+//! Worked balances.
+
 ghost use Rattle.std.specs.Prelude.{◌^◌, ◌≤◌};
 ghost use Rattle.cts_units.specs.Limits.{IsParams, max_delay, max_load};
 ghost use Rattle.cts_merge.specs.Side.{IsSideInRange};
