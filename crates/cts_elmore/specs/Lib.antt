@@ -4,6 +4,7 @@ pub mod Delays
 pub mod Skew
 pub mod Limits
 pub mod Subtrees
+pub mod Outputs
 pub mod Figures
 pub mod Laws
 pub use Rattle.cts_tree.specs.Nodes

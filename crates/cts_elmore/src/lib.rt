@@ -1,6 +1,7 @@
 //! The figures of a clock tree: loads, Elmore delays, slews, skew and bound.
 #![tactic(auto)]
 
+mod descent;
 mod drive;
 mod figures;
 pub mod laws;
