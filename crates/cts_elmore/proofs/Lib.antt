@@ -5,6 +5,7 @@ pub mod Rising
 pub mod Node
 pub mod Root
 pub mod Ends
+pub mod Down
 pub mod AddUp
 pub mod Unique
 mod Example

@@ -1,0 +1,191 @@
+-- One step of the pass downward: the figures of a pair's two parts, from those of the pair.
+use Rattle.std.proofs.Common.{◌≡◌, ℕ, ◌+◌, ◌-◌, ◌*◌, ◌<◌, ◌≤◌, ◌↔◌, Bool, true, false, ◌||◌, List, [], ◌∷◌, map, set, drop, length, get_or, slice_get, Option, Some, None, IsTrue, refl, sym, ap, ap₂, subst, ◌∙◌, arith, get_or-set_same, length-set}
+use Rattle.std.specs.Prelude.{if◌then◌else◌, is_some}
+use Rattle.std.specs.List.{All, AllZip}
+use Rattle.std.specs.Option.{option_map_or, option_and_then}
+use Rattle.std.proofs.lemmas.List.{drop_more}
+use Rattle.std.proofs.lemmas.List.Elements.{All-cons, All-head, All-tail}
+use Rattle.std.proofs.lemmas.Option.{slice_get-get_or, slice_get_within}
+use Rattle.cts_units.specs.declared.params.Params.{Params}
+use Rattle.cts_units.specs.declared.params.Buffer.{Buffer}
+use Rattle.cts_units.specs.Delay.{wire_delay_of, buffer_delay_of, slew_of}
+use Rattle.cts_units.specs.Choice.{added_delay_of}
+use Rattle.cts_units.specs.Limits.{max_delay}
+use Rattle.cts_postorder.specs.BinaryTree.{BinaryTree, tip, fork, label, is_tip}
+use Rattle.cts_postorder.specs.PostOrder.{IsPostOrder, trees_of, root_of}
+use Rattle.cts_postorder.specs.Occurrence.{Occurrence, occurrence, occurrences_of}
+use Rattle.cts_tree.specs.declared.nodes.NodeKind.{NodeKind}
+use Rattle.cts_tree.specs.declared.nodes.NodeKind.TheVariants.{Leaf, Pair}
+use Rattle.cts_tree.specs.declared.nodes.TreeNode.{TreeNode}
+use Rattle.cts_tree.specs.Nodes.{buffer_of, tree_children}
+use Rattle.cts_instance.specs.declared.parts.Parts.{Parts}
+use Rattle.cts_elmore.specs.declared.figures.NodeFigure.{NodeFigure}
+use Rattle.cts_elmore.specs.declared.subtree.Subtree.{Subtree}
+use Rattle.cts_elmore.specs.declared.descent.Output.{Output}
+use Rattle.cts_elmore.specs.Fits.{NamesBuffer}
+use Rattle.cts_elmore.specs.Loads.{buffer_at, is_buffered, load_below}
+use Rattle.cts_elmore.specs.Delays.{wire_delay, buffer_delay, output_delay, source_delay, delay_at, stage_at}
+use Rattle.cts_elmore.specs.Skew.{greatest_below}
+use Rattle.cts_elmore.specs.Figures.{IsNodeFigure}
+use Rattle.cts_elmore.specs.Outputs.{stage_after, IsOutput, IsPartFigure, LoadIsMet, SlewIsMet}
+use Rattle.cts_elmore.specs.Subtrees.{IsSubtree}
+use Rattle.cts_elmore.proofs.Paths.{delay_at_root, delay_at_part, stage_at_root, stage_at_part}
+use Rattle.cts_elmore.proofs.Below.{greatest_at_pair}
+use Rattle.cts_elmore.proofs.Rising.{added_at_pair, through_is}
+
+-- A node's figures, and what bounds its delays: those down to the leaves are within the limits.
+pub record IsRight (i : Parts) (root : BinaryTree TreeNode) (o : Occurrence TreeNode) (f : NodeFigure) : Type 0 where
+  pub figure : IsNodeFigure i root o f
+  pub soon : f.delay + greatest_below i o.here ≤ max_delay
+  pub stage_le : f.stage ≤ f.delay
+
+-- the stage below a pair
+stage_goes_on : (i : Parts) (l r : BinaryTree TreeNode) (n : TreeNode) (below stage : ℕ) → below ≡ load_below i (fork l r n)
+    → stage_after i.params.library (buffer_of n.kind) below stage
+    ≡ (if is_buffered i (fork l r n) then output_delay i (fork l r n) else stage)
+stage_goes_on i l r n below stage is = by_buffer (buffer_of n.kind)
+  where
+    by_library : (o : Option Buffer) → option_map_or (λ (b : Buffer). 2 * b.rout * below) o stage
+        ≡ (if is_some o then option_map_or (λ (b : Buffer). 2 * b.rout * load_below i (fork l r n)) o 0 else stage)
+    by_library None = refl
+    by_library (Some b) = ap (λ load. 2 * b.rout * load) is
+
+    by_buffer : (o : Option ℕ) → stage_after i.params.library o below stage
+        ≡ (if is_some (option_and_then (slice_get i.params.library) o)
+          then option_map_or (λ (b : Buffer). 2 * b.rout * load_below i (fork l r n)) (option_and_then (slice_get i.params.library) o) 0
+          else stage)
+    by_buffer None = refl
+    by_buffer (Some index) = by_library (slice_get i.params.library index)
+
+-- no stage is later than the delay
+stage_after_le : (library : List Buffer) (buffer : Option ℕ) (load stage delay : ℕ) → stage ≤ delay
+    → stage_after library buffer load stage ≤ delay + added_delay_of library buffer load
+unfolding buffer_delay_of
+stage_after_le library None load stage delay h = omega (arith, h)
+stage_after_le library (Some index) load stage delay h = by_library (slice_get library index)
+  where
+    by_library : (o : Option Buffer) → option_map_or (λ (b : Buffer). 2 * b.rout * load) o stage
+        ≤ delay + option_map_or (λ (b : Buffer). buffer_delay_of b load) o 0
+    by_library None = omega (arith, h)
+    by_library (Some b) = omega arith
+
+module _ (i : Parts) (root : BinaryTree TreeNode) where
+  -- the root
+  pub root_right : (s : Subtree) (delay : ℕ) → IsSubtree i root s → delay ≡ source_delay i root + wire_delay i root
+      → delay + greatest_below i root ≤ max_delay
+      → IsRight i root (occurrence [] root) (record { below = s.below; residue = s.residue; delay = delay; stage = delay })
+  root_right s delay is delay_is soon = record {
+    figure = record {
+      below = is.below;
+      residue_is = is.residue_is;
+      delay = delay_is ∙ sym (delay_at_root i root);
+      stage = delay_is ∙ sym (stage_at_root i root);
+    };
+    soon = soon;
+    stage_le = omega arith;
+  }
+
+  -- a part, at either side
+  module _ (l r : BinaryTree TreeNode) (n : TreeNode) (above : List (BinaryTree TreeNode)) (here : NodeFigure) (output : Output)
+      (right : IsRight i root (occurrence above (fork l r n)) here)
+      (out : IsOutput i.params.library (buffer_of n.kind) here output) where
+    part_right : (t : BinaryTree TreeNode) (s : Subtree) (len : ℕ) (f : NodeFigure) → IsSubtree i t s → (label t).wire ≡ len
+        → IsPartFigure i.params.wire len s output f
+        → greatest_below i t + wire_delay i t + buffer_delay i (fork l r n) ≤ greatest_below i (fork l r n)
+        → IsRight i root (occurrence (fork l r n ∷ above) t) f
+    part_right t s len f is len_is part deepest =
+        let top : BinaryTree TreeNode = fork l r n in
+        let through : wire_delay_of i.params.wire.r i.params.wire.c len s.seen ≡ wire_delay i t = through_is i t len s.seen len_is is.seen in
+        let added : added_delay_of i.params.library (buffer_of n.kind) here.below ≡ buffer_delay i top =
+        added_at_pair i l r n here.below right.figure.below in
+        let delay : f.delay ≡ here.delay + buffer_delay i top + wire_delay i t =
+        part.delay ∙ ap₂ (λ x y. x + y) (out.delay ∙ ap (λ x. here.delay + x) added) through in
+        let after : output.stage ≡ (if is_buffered i top then output_delay i top else stage_at i root (occurrence above top)) =
+        out.stage ∙ stage_goes_on i l r n here.below here.stage right.figure.below
+        ∙ ap (λ x. if is_buffered i top then output_delay i top else x) right.figure.stage in
+        record {
+          figure = record {
+            below = part.below ∙ is.below;
+            residue_is = part.residue ∙ is.residue_is;
+            delay = delay ∙ ap (λ x. x + buffer_delay i top + wire_delay i t) right.figure.delay ∙ sym (delay_at_part i root top t above);
+            stage = part.stage ∙ ap₂ (λ x y. x + y) after through ∙ sym (stage_at_part i root top t above);
+          };
+          soon = omega (arith, delay, deepest, right.soon);
+          stage_le = omega (
+            arith,
+            part.stage,
+            part.delay,
+            out.stage,
+            out.delay,
+            stage_after_le i.params.library (buffer_of n.kind) here.below here.stage here.delay right.stage_le,
+          );
+        }
+
+    pub left_right : (s : Subtree) (len : ℕ) (f : NodeFigure) → IsSubtree i l s → (label l).wire ≡ len
+        → IsPartFigure i.params.wire len s output f → IsRight i root (occurrence (fork l r n ∷ above) l) f
+    left_right s len f is len_is part = part_right l s len f is len_is part (omega (arith, greatest_at_pair i l r n))
+
+    pub right_right : (s : Subtree) (len : ℕ) (f : NodeFigure) → IsSubtree i r s → (label r).wire ≡ len
+        → IsPartFigure i.params.wire len s output f → IsRight i root (occurrence (fork l r n ∷ above) r) f
+    right_right s len f is len_is part = part_right r s len f is len_is part (omega (arith, greatest_at_pair i l r n))
+
+-- whether a kind is a leaf's
+abbrev pub is_leaf : NodeKind → Bool
+is_leaf (Leaf id sink) = true
+is_leaf (Pair left right buffer) = false
+
+not_some : {A : Type 0} (o : Option A) → o ≡ None → ¬ IsTrue (is_some o)
+not_some None e = λ t. cc
+not_some (Some x) e = cc
+
+is_some_at : (library : List Buffer) (index : ℕ) (o : Option Buffer) → index < length library → o ≡ slice_get library index
+    → IsTrue (is_some o)
+is_some_at library index (Some b) h e = refl
+is_some_at library index None h e =
+    let d : Buffer = record { cin = 0; rout = 0; intrinsic = 0 } in
+    let found : slice_get library index ≡ Some (get_or library index d) = slice_get-get_or library index d h in cc
+
+-- the limits of an instance at a node, told by its kind
+module _ (i : Parts) (t : BinaryTree TreeNode) (kind : NodeKind) (names : NamesBuffer i.params.library kind)
+    (buffer_is : buffer_at i t ≡ option_and_then (slice_get i.params.library) (buffer_of kind)) where
+  pub load_told : (limit load : ℕ) → load ≡ load_below i t
+      → (LoadIsMet limit kind load) ↔ (IsTrue (is_buffered i t) → load_below i t ≤ limit)
+  load_told limit load is = by_kind kind names buffer_is
+    where
+      by_kind : (k : NodeKind) → NamesBuffer i.params.library k → buffer_at i t ≡ option_and_then (slice_get i.params.library) (buffer_of k)
+          → (LoadIsMet limit k load) ↔ (IsTrue (is_buffered i t) → load_below i t ≤ limit)
+      by_kind (Leaf id sink) named e = ((λ u buffered. absurd (not_some (buffer_at i t) e buffered)), (λ met. tt))
+      by_kind (Pair left right None) named e = ((λ u buffered. absurd (not_some (buffer_at i t) e buffered)), (λ met. tt))
+      by_kind (Pair left right (Some index)) named e = (
+        (λ met buffered. omega (arith, met, is)),
+        (λ met. omega (arith, is, met (is_some_at i.params.library index (buffer_at i t) named e))),
+      )
+
+  pub slew_told : (limit stage : ℕ) → is_tip t ≡ is_leaf kind
+      → (SlewIsMet limit kind stage) ↔ (IsTrue (is_tip t || is_buffered i t) → slew_of stage ≤ 10 * limit)
+  slew_told limit stage leaf = by_kind kind names buffer_is leaf
+    where
+      ends : (b c : Bool) → b ≡ true → IsTrue (b || c)
+      ends true c e = refl
+      ends false c e = cc
+
+      buffered_ends : (b c : Bool) → IsTrue c → IsTrue (b || c)
+      buffered_ends true c e = refl
+      buffered_ends false c e = e
+
+      goes_on : (b c : Bool) → b ≡ false → IsTrue (b || c) → IsTrue c
+      goes_on true c e h = cc
+      goes_on false c e h = h
+
+      by_kind : (k : NodeKind) → NamesBuffer i.params.library k → buffer_at i t ≡ option_and_then (slice_get i.params.library) (buffer_of k)
+          → is_tip t ≡ is_leaf k
+          → (SlewIsMet limit k stage) ↔ (IsTrue (is_tip t || is_buffered i t) → slew_of stage ≤ 10 * limit)
+      by_kind (Leaf id sink) named e leaf = ((λ met last. met), (λ met. met (ends (is_tip t) (is_buffered i t) leaf)))
+      by_kind (Pair left right None) named e leaf = (
+        (λ u last. absurd (not_some (buffer_at i t) e (goes_on (is_tip t) (is_buffered i t) leaf last))),
+        (λ met. tt),
+      )
+      by_kind (Pair left right (Some index)) named e leaf = (
+        (λ met last. met),
+        (λ met. met (buffered_ends (is_tip t) (is_buffered i t) (is_some_at i.params.library index (buffer_at i t) named e))),
+      )
