@@ -52,8 +52,8 @@ stage_goes_on i l r n below stage is = by_buffer (buffer_of n.kind)
 
     by_buffer : (o : Option ℕ) → stage_after i.params.library o below stage
         ≡ (if is_some (option_and_then (slice_get i.params.library) o)
-          then option_map_or (λ (b : Buffer). 2 * b.rout * load_below i (fork l r n)) (option_and_then (slice_get i.params.library) o) 0
-          else stage)
+        then option_map_or (λ (b : Buffer). 2 * b.rout * load_below i (fork l r n)) (option_and_then (slice_get i.params.library) o) 0
+        else stage)
     by_buffer None = refl
     by_buffer (Some index) = by_library (slice_get i.params.library index)
 

@@ -6,6 +6,7 @@ pub mod Node
 pub mod Root
 pub mod Ends
 pub mod Down
+pub mod HandedDown
 pub mod AddUp
 pub mod Unique
 mod Example

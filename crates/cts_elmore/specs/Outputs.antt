@@ -1,15 +1,23 @@
 -- What a node hands down, and whether it meets the limits of an instance.
-use Rattle.std.specs.Prelude.{◌≡◌, ℕ, ◌+◌, ◌*◌, ◌≤◌, List, slice_get, Option, Some, None}
+use Rattle.std.specs.Prelude.{◌≡◌, ℕ, ◌+◌, ◌*◌, ◌≤◌, ◌↔◌, List, [], slice_get, Option, Some, None, IsTrue}
+use Rattle.std.specs.List.{AllZip}
 use Rattle.std.specs.Option.{option_map_or}
 use Rattle.cts_units.specs.declared.params.Wire.{Wire}
 use Rattle.cts_units.specs.declared.params.Buffer.{Buffer}
 use Rattle.cts_units.specs.Delay.{wire_delay_of, slew_of}
 use Rattle.cts_units.specs.Choice.{added_delay_of}
+use Rattle.cts_postorder.specs.BinaryTree.{BinaryTree}
+use Rattle.cts_postorder.specs.Occurrence.{occurrences}
+use Rattle.cts_tree.specs.declared.nodes.TreeNode.{TreeNode}
 use Rattle.cts_tree.specs.declared.nodes.NodeKind.{NodeKind}
 use Rattle.cts_tree.specs.declared.nodes.NodeKind.TheVariants.{Leaf, Pair}
 use Rattle.cts_elmore.specs.declared.figures.NodeFigure.{NodeFigure}
 use Rattle.cts_elmore.specs.declared.subtree.Subtree.{Subtree}
 use Rattle.cts_elmore.specs.declared.descent.Output.{Output}
+use Rattle.cts_elmore.specs.declared.descent.Descent.{Descent}
+use Rattle.cts_elmore.specs.Limits.{MeetsLoadLimit, MeetsSlewLimit}
+use Rattle.cts_elmore.specs.Figures.{IsNodeFigure}
+use Rattle.cts_instance.specs.declared.parts.Parts.{Parts}
 
 -- the stage that goes on below a node, or that its buffer begins by driving its load
 abbrev pub stage_after : List Buffer → Option ℕ → ℕ → ℕ → ℕ
@@ -38,3 +46,9 @@ abbrev pub SlewIsMet : ℕ → NodeKind → ℕ → Type 0
 SlewIsMet limit (Leaf id sink) stage = slew_of stage ≤ 10 * limit
 SlewIsMet limit (Pair left right None) stage = Unit {0}
 SlewIsMet limit (Pair left right (Some index)) stage = slew_of stage ≤ 10 * limit
+
+-- what a pass downward comes to
+pub record IsDescent (i : Parts) (root : BinaryTree TreeNode) (descent : Descent) : Type 0 where
+  pub each_node : AllZip (IsNodeFigure i root) (occurrences [] root) descent.figures.items
+  pub load_met : IsTrue descent.load_met ↔ MeetsLoadLimit i root
+  pub slew_met : IsTrue descent.slew_met ↔ MeetsSlewLimit i root

@@ -1,15 +1,22 @@
 //! A pass downward: the figures of each node, from those of the pair above it.
 
-ghost use Rattle.std.specs.Prelude.{◌≡◌, ◌+◌, ◌^◌, ◌<◌, ◌≤◌, ◌↔◌, length, All, IfSome, IsTrue};
+ghost use Rattle.std.specs.Prelude.{◌≡◌, ◌+◌, ◌^◌, ◌<◌, ◌≤◌, ◌↔◌, length, map, All, IfOk, IfSome, IsTrue};
+ghost use Rattle.std.specs.List.{AllZip};
 ghost use Rattle.cts_units.specs.Limits.{IsBuffer, IsWire, max_delay, max_length, max_load};
-ghost use Rattle.cts_elmore.specs.Outputs.{IsOutput, IsPartFigure, LoadIsMet, SlewIsMet};
-ghost use Rattle.cts_elmore.specs.Subtrees.{IsSubtreeInRange};
+ghost use Rattle.cts_postorder.specs.PostOrder.{IsPostOrder, root_of, trees_of};
+ghost use Rattle.cts_tree.specs.Nodes.{tree_children};
+ghost use Rattle.cts_elmore.specs.Fits.{FitsInstance};
+ghost use Rattle.cts_elmore.specs.Outputs.{IsDescent, IsOutput, IsPartFigure, LoadIsMet, SlewIsMet};
+ghost use Rattle.cts_elmore.specs.Subtrees.{IsDrive, IsSubtree, IsSubtreeInRange};
 
-use crate::drive::resistance_delay;
+use crate::drive::{Drive, resistance_delay};
 use crate::figures::NodeFigure;
 use crate::subtree::Subtree;
-use cts_tree::NodeKind;
+use cts_instance::Instance;
+use cts_num::NoMemory;
+use cts_tree::{NodeKind, TreeNode};
 use cts_units::{Buffer, Wire, buffer_delay, slew_tenths, wire_delay};
+use std::alloc::Global;
 
 /// What a node hands down to its parts: doubled delays in 10^-27 s, below its buffer if it has one.
 #[derive(Clone, Copy)]
@@ -87,4 +94,64 @@ fn is_slew_met(limit: u64, kind: NodeKind, stage: u128) -> bool
             slew_tenths(stage) <= 10 * limit as u128
         }
     }
+}
+
+/// What a pass downward comes to: the figures of each node by number, and whether every buffer, with
+/// the source, meets the load limit, and every end of a stage the slew limit.
+#[derive(Drop)]
+pub struct Descent {
+    pub figures: Vec<NodeFigure>,
+    pub load_met: bool,
+    pub slew_met: bool,
+}
+
+/// The figures of the nodes of a tree with these subtrees, which the source drives so.
+pub fn descend(
+    alloc: Global,
+    instance: &Instance,
+    nodes: &[TreeNode],
+    subtrees: &[Subtree],
+    drive: Drive,
+) -> Result<Descent, NoMemory>
+    requires post_order { IsPostOrder (map tree_children nodes.now) }
+    requires fits { FitsInstance instance.now nodes.now }
+    requires subtrees { AllZip (IsSubtree instance.now) (trees_of tree_children nodes.now) subtrees.now }
+    requires drive { IfSome (root_of tree_children nodes.now) (λ root. IsDrive instance.now root drive) }
+    ensures { IfOk result (λ descent.
+        IfSome (root_of tree_children nodes.now) (λ root. IsDescent instance.now root descent)) }
+{
+    let params = instance.params();
+    let last = nodes.len() - 1;
+    let root = subtrees[last];
+    let top = NodeFigure {
+        below: root.below,
+        residue: root.residue,
+        delay: drive.delay,
+        stage: drive.delay,
+    };
+    let mut figures = vec![in alloc; top; nodes.len()]?;
+    let mut load_met = drive.load <= instance.load_limit();
+    let mut slew_met = true;
+    for number in (0..nodes.len()).rev() {
+        let kind = nodes[number].kind;
+        let here = figures[number];
+        load_met &= is_load_met(instance.load_limit(), kind, here.below);
+        slew_met &= is_slew_met(instance.slew_limit(), kind, here.stage);
+        if let NodeKind::Pair {
+            left,
+            right,
+            buffer,
+        } = kind
+        {
+            let (left, right) = (left as usize, right as usize);
+            let output = output_of(params.library.items(), buffer, &here);
+            figures[left] = part_figure(params.wire, nodes[left].wire, &subtrees[left], &output);
+            figures[right] = part_figure(params.wire, nodes[right].wire, &subtrees[right], &output);
+        }
+    }
+    Ok(Descent {
+        figures,
+        load_met,
+        slew_met,
+    })
 }
