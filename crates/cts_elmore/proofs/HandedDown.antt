@@ -52,8 +52,8 @@ more : {X : Type 0} (P : X → Type 0) (xs : List X) (k : ℕ) (d : X) → k < l
 more P xs k d h = (
   (λ all. subst (All P) (sym (drop_more xs k d h)) (All-cons P (get_or xs k d) (drop (k + 1) xs) (all.0) (all.1))),
   (λ all.
-  let split : All P (get_or xs k d ∷ drop (k + 1) xs) = subst (All P) (drop_more xs k d h) all in
-  (All-head P (get_or xs k d) (drop (k + 1) xs) split, All-tail P (get_or xs k d) (drop (k + 1) xs) split)),
+      let split : All P (get_or xs k d ∷ drop (k + 1) xs) = subst (All P) (drop_more xs k d h) all in
+      (All-head P (get_or xs k d) (drop (k + 1) xs) split, All-tail P (get_or xs k d) (drop (k + 1) xs) split)),
 )
 
 through : {A P Q : Type 0} {b : Bool} → (IsTrue b ↔ (A × P)) → (P ↔ Q) → IsTrue b ↔ (A × Q)
@@ -144,14 +144,13 @@ module _ (i : Parts) (valid : IsValid i) (nodes : List TreeNode) (ok : IsPostOrd
           slew_told i t kind names buffer_is i.slew_limit here.stage leaf in
           let met : IsTrue y ↔ SlewIsMet i.slew_limit kind here.stage =
           subst (λ l. IsTrue y ↔ SlewIsMet l kind here.stage) slew_limit_is slew_met in
-          let stage : here.stage ≡ stage_at i top.tree at = (right_here (occurrence [] t)).figure.stage in
-          (
+          let stage : here.stage ≡ stage_at i top.tree at = (right_here (occurrence [] t)).figure.stage in (
             (λ yes last.
-            subst (λ s. slew_of s ≤ 10 * i.slew_limit) stage
-            (told.0 (met.0 yes) (subst (λ u. IsTrue (is_tip u || is_buffered i u)) at_is last))),
+                subst (λ s. slew_of s ≤ 10 * i.slew_limit) stage
+                (told.0 (met.0 yes) (subst (λ u. IsTrue (is_tip u || is_buffered i u)) at_is last))),
             (λ all. met.1 (told.1 (λ last.
-            subst (λ s. slew_of s ≤ 10 * i.slew_limit) (sym stage)
-            (all (subst (λ u. IsTrue (is_tip u || is_buffered i u)) (sym at_is) last))))),
+                subst (λ s. slew_of s ≤ 10 * i.slew_limit) (sym stage)
+                (all (subst (λ u. IsTrue (is_tip u || is_buffered i u)) (sym at_is) last))))),
           )
 
       -- the two answers, one number further down

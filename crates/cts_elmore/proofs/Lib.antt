@@ -7,6 +7,7 @@ pub mod Root
 pub mod Ends
 pub mod Down
 pub mod HandedDown
+pub mod Measured
 pub mod AddUp
 pub mod Unique
 mod Example

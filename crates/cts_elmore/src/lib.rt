@@ -6,7 +6,9 @@ mod drive;
 mod figures;
 pub mod laws;
 mod limits;
+mod measurement;
 mod subtree;
 
 pub use figures::{Figures, NodeFigure, NodeFigures};
 pub use limits::within;
+pub use measurement::measure;

@@ -81,10 +81,14 @@ part_figure-requires-clause-part c =
 
 pub index_mut-requires : goal.index_mut-requires
 index_mut-requires c =
-    omega (arith, c.loop-number.figures.ok.0, left_kept c.args.instance.now c.params-params.ensures.valid c.args.nodes.now c.requires.post_order c.requires.fits c.args.subtrees.now c.requires.subtrees
-    c.loop-number.number c.loop-number-test.true c.loop-number.auto.number c.loop-number.figures.items c.loop-number.load_met
-    c.loop-number.slew_met c.loop-number.invariant c.index.result.now c.index.ensures
-    _ c.in-Pair.left c.in-Pair.right c.in-Pair.buffer c.in-Pair.is)
+    omega (
+      arith,
+      c.loop-number.figures.ok.0,
+      left_kept c.args.instance.now c.params-params.ensures.valid c.args.nodes.now c.requires.post_order c.requires.fits c.args.subtrees.now c.requires.subtrees
+          c.loop-number.number c.loop-number-test.true c.loop-number.auto.number c.loop-number.figures.items c.loop-number.load_met
+          c.loop-number.slew_met c.loop-number.invariant c.index.result.now c.index.ensures
+          _ c.in-Pair.left c.in-Pair.right c.in-Pair.buffer c.in-Pair.is,
+    )
 
 pub bounds-nodes-right : goal.bounds-nodes-right
 bounds-nodes-right c =
@@ -123,10 +127,14 @@ part_figure-requires-in-Pair-clause-part c =
 
 pub index_mut-requires-in-Pair : goal.index_mut-requires-in-Pair
 index_mut-requires-in-Pair c =
-    omega (arith, c.loop-number.figures.ok.0, right_kept c.args.instance.now c.params-params.ensures.valid c.args.nodes.now c.requires.post_order c.requires.fits c.args.subtrees.now c.requires.subtrees
-    c.loop-number.number c.loop-number-test.true c.loop-number.auto.number c.loop-number.figures.items c.loop-number.load_met
-    c.loop-number.slew_met c.loop-number.invariant c.index.result.now c.index.ensures
-    _ c.in-Pair.left c.in-Pair.right c.in-Pair.buffer c.in-Pair.is)
+    omega (
+      arith,
+      c.loop-number.figures.ok.0,
+      right_kept c.args.instance.now c.params-params.ensures.valid c.args.nodes.now c.requires.post_order c.requires.fits c.args.subtrees.now c.requires.subtrees
+          c.loop-number.number c.loop-number-test.true c.loop-number.auto.number c.loop-number.figures.items c.loop-number.load_met
+          c.loop-number.slew_met c.loop-number.invariant c.index.result.now c.index.ensures
+          _ c.in-Pair.left c.in-Pair.right c.in-Pair.buffer c.in-Pair.is,
+    )
 
 pub loop-number-preserved-in-Pair : goal.loop-number-preserved-in-Pair
 loop-number-preserved-in-Pair c =

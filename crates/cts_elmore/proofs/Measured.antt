@@ -1,0 +1,127 @@
+-- The figures of the whole tree, from the root's and from what the passes come to.
+use Rattle.std.proofs.Common.{◌≡◌, ℕ, ◌+◌, ◌-◌, ◌^◌, ◌<◌, ◌≤◌, inl, inr, List, [], map, length, get_or, slice_get, Option, Some, None, sym, ap, subst, ◌∙◌, arith}
+use Rattle.std.specs.Prelude.{IfSome}
+use Rattle.std.specs.List.{AllZip}
+use Rattle.std.proofs.lemmas.Option.{get_or_from_slice_get, slice_get_within}
+use Rattle.cts_units.specs.Limits.{max_length, max_delay}
+use Rattle.cts_postorder.specs.BinaryTree.{BinaryTree, label, size}
+use Rattle.cts_postorder.specs.PostOrder.{IsPostOrder, trees_of, root_of}
+use Rattle.cts_postorder.specs.Occurrence.{occurrences}
+use Rattle.cts_postorder.specs.Pass.{IsLeastFailure}
+use Rattle.cts_tree.specs.declared.nodes.TreeNode.{TreeNode}
+use Rattle.cts_tree.specs.Nodes.{tree_children}
+use Rattle.cts_instance.specs.declared.parts.Parts.{Parts}
+use Rattle.cts_elmore.specs.declared.figures.NodeFigure.{NodeFigure}
+use Rattle.cts_elmore.specs.declared.subtree.Subtree.{Subtree}
+use Rattle.cts_elmore.specs.declared.drive.Drive.{Drive}
+use Rattle.cts_elmore.specs.declared.descent.Descent.{Descent}
+use Rattle.cts_elmore.specs.Skew.{skew}
+use Rattle.cts_elmore.specs.Fits.{FitsInstance}
+use Rattle.cts_elmore.specs.Limits.{IsPairOver, IsRootOver, IsWithinLimits, long_root, great_leaf_delay}
+use Rattle.cts_elmore.specs.Figures.{IsNodeFigure, AreFigures}
+use Rattle.cts_elmore.specs.Subtrees.{IsSubtree, IsDrive, DriveOrOver}
+use Rattle.cts_elmore.specs.Outputs.{IsDescent}
+use Rattle.cts_elmore.proofs.Below.{greatest_delay, least_delay}
+use Rattle.cts_elmore.proofs.Rising.{not_above, least_le_greatest}
+use Rattle.cts_elmore.proofs.Root.{AtRoot, at_root}
+
+-- within the limits no pair is over them
+pub no_pair_over : (i : Parts) (nodes : List TreeNode) → IsWithinLimits i nodes → (k : ℕ)
+    → ¬ IsLeastFailure tree_children nodes (IsPairOver i) k
+no_pair_over i nodes sound k = λ f.
+    let trees : List (BinaryTree TreeNode) = trees_of tree_children nodes in
+    let is : get_or trees k f.tree ≡ f.tree = get_or_from_slice_get trees k f.tree f.tree f.found in
+    sound k f.tree (slice_get_within trees k f.tree f.found) (inl (subst (IsPairOver i) (sym is) f.fails))
+
+module _ (i : Parts) (nodes : List TreeNode) (ok : IsPostOrder (map tree_children nodes)) (subtrees : List Subtree)
+    (all : AllZip (IsSubtree i) (trees_of tree_children nodes) subtrees) where
+  at : AtRoot i nodes subtrees
+  at = at_root i nodes ok subtrees all
+
+  pub some_node : 0 < length nodes
+  some_node = at.some
+
+  pub root_ready : length nodes - 1 < length subtrees
+  root_ready = at.ready
+
+  -- and the root isn't either
+  pub driven : IsWithinLimits i nodes → ¬ IfSome (root_of tree_children nodes) (λ root. DriveOrOver i root None)
+  unfolding root_of
+  driven sound = λ over.
+      let trees : List (BinaryTree TreeNode) = trees_of tree_children nodes in
+      let found : slice_get trees (length nodes - 1) ≡ Some at.root = at.root_is in
+      let is : get_or trees (length nodes - 1) at.root ≡ at.root =
+      get_or_from_slice_get trees (length nodes - 1) at.root at.root found in
+      sound (length nodes - 1) at.root (slice_get_within trees (length nodes - 1) at.root found)
+      (inr (at.root_is ∙ ap Some (sym is), subst (IsRootOver i) (sym is) (subst (λ o. IfSome o (λ root. DriveOrOver i root None)) at.root_is over)))
+
+  module _ (drive : Drive) (told : IfSome (root_of tree_children nodes) (λ root. DriveOrOver i root (Some drive))) (z : Subtree)
+      (e : TreeNode) where
+    drive_is : IsDrive i at.root drive
+    drive_is = subst (λ o. IfSome o (λ root. IsDrive i root drive)) at.root_is told
+
+    abbrev s : Subtree
+    s = get_or subtrees (length nodes - 1) z
+
+    abbrev wire : ℕ
+    wire = (get_or nodes (length nodes - 1) e).wire
+
+    wire_is : (label at.root).wire ≡ wire
+    wire_is = ap (λ (n : TreeNode). n.wire) (at.node e)
+
+    pub wires_small : FitsInstance i nodes → s.wires + wire ≤ 2 ^ 48
+    wires_small fits =
+        omega (
+          arith,
+          (at.value z).few_wires,
+          at.size_is,
+          fits.few,
+          wire_is,
+          not_above (label at.root).wire max_length (λ above. drive_is.not_over (long_root above)),
+        )
+
+    pub greatest_small : drive.delay + s.greatest ≤ max_delay
+    greatest_small =
+        omega (
+          arith,
+          (at.value z).greatest,
+          drive_is.delay,
+          not_above _ max_delay (λ above. drive_is.not_over (great_leaf_delay above)),
+        )
+
+    pub least_small : s.least ≤ s.greatest
+    least_small = omega (arith, (at.value z).greatest, (at.value z).least, least_le_greatest i at.root)
+
+    -- the figures of the whole tree, over the nodes under another name
+    pub figures_are : (tree : List TreeNode) → nodes ≡ tree → (descent : Descent)
+        → IfSome (root_of tree_children nodes) (λ root. IsDescent i root descent) → (listed : List NodeFigure)
+        → listed ≡ descent.figures.items
+        → AreFigures i tree (record {
+          nodes = listed;
+          source_load = drive.load;
+          wire_total = s.wires + wire;
+          greatest = drive.delay + s.greatest;
+          least = drive.delay + s.least;
+          skew = s.greatest - s.least;
+          bound = s.bound;
+          load_met = descent.load_met;
+          slew_met = descent.slew_met;
+        })
+    unfolding skew
+    figures_are tree same descent told_of listed listed_is =
+        let down : IsDescent i at.root descent = subst (λ o. IfSome o (λ root. IsDescent i root descent)) at.root_is told_of in
+        record {
+          root = at.root;
+          root_is = subst (λ ns. root_of tree_children ns ≡ Some at.root) same at.root_is;
+          figures_of = record {
+            each_node = subst (AllZip (IsNodeFigure i at.root) (occurrences [] at.root)) (sym listed_is) down.each_node;
+            source_load_is = drive_is.load;
+            wire_total = ap (λ w. s.wires + w) (sym wire_is) ∙ (at.value z).wires;
+            greatest = omega (arith, drive_is.delay, (at.value z).greatest, greatest_delay i at.root);
+            least = omega (arith, drive_is.delay, (at.value z).least, least_delay i at.root);
+            skew_is = omega (arith, (at.value z).greatest, (at.value z).least, greatest_delay i at.root, least_delay i at.root);
+            bound_is = (at.value z).bound_is;
+            load_met = down.load_met;
+            slew_met = down.slew_met;
+          };
+        }

@@ -1,0 +1,53 @@
+//! The figures of a tree.
+
+ghost use Rattle.std.specs.Prelude.{IfOk};
+ghost use Rattle.cts_elmore.specs.Figures.{AreFigures};
+ghost use Rattle.cts_elmore.specs.Fits.{FitsInstance};
+ghost use Rattle.cts_elmore.specs.Limits.{IsWithinLimits};
+
+use crate::descent::descend;
+use crate::drive::drive_root;
+use crate::figures::{Figures, NodeFigures};
+use crate::subtree::{Gathered, gather};
+use cts_instance::Instance;
+use cts_num::NoMemory;
+use cts_tree::Tree;
+use std::alloc::Global;
+
+/// The figures of a tree that is within the limits.
+///
+/// The load at a node is all that is reached from it without passing through a buffer below it. A
+/// delay is the sum, over the path from the source, of the source's resistance into its load, of each
+/// wire into what is seen at its lower end, and of each buffer into its load; a stage begins anew at
+/// the output of a buffer and leaves its intrinsic delay out. The skew is the greatest delay of a leaf
+/// less the least, and the bound the greatest sum of residues on the path to a leaf. One pass upward
+/// and one downward; answers `NoMemory` where an allocation fails.
+pub fn measure(alloc: Global, instance: &Instance, tree: &Tree) -> Result<Figures, NoMemory>
+    requires fits { FitsInstance instance.now tree.now }
+    requires within { IsWithinLimits instance.now tree.now }
+    ensures { IfOk result (AreFigures instance.now tree.now) }
+{
+    let nodes = tree.nodes();
+    let subtrees = match gather(alloc, instance, nodes)? {
+        Gathered::Within(subtrees) => subtrees,
+        Gathered::Over { .. } => unreachable!(),
+    };
+    let subtrees = subtrees.as_slice();
+    let Some(drive) = drive_root(instance, nodes, subtrees) else {
+        unreachable!()
+    };
+    let descent = descend(alloc, instance, nodes, subtrees, drive)?;
+    let last = nodes.len() - 1;
+    let root = subtrees[last];
+    Ok(Figures {
+        nodes: NodeFigures::of(descent.figures),
+        source_load: drive.load,
+        wire_total: root.wires + nodes[last].wire,
+        greatest: drive.delay + root.greatest,
+        least: drive.delay + root.least,
+        skew: root.greatest - root.least,
+        bound: root.bound,
+        load_met: descent.load_met,
+        slew_met: descent.slew_met,
+    })
+}
