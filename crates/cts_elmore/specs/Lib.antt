@@ -4,6 +4,7 @@ pub mod Delays
 pub mod Skew
 pub mod Limits
 pub mod Figures
+pub mod Sound
 pub mod Laws
 pub use Rattle.cts_tree.specs.Nodes
 pub use Rattle.cts_postorder.specs.BinaryTree
