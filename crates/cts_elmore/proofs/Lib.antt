@@ -1,6 +1,10 @@
 pub mod Numbers
 pub mod Paths
 pub mod Below
+pub mod Rising
+pub mod Node
+pub mod Root
+pub mod Ends
 pub mod AddUp
 pub mod Unique
 mod Example

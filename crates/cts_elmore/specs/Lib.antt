@@ -3,6 +3,8 @@ pub mod Loads
 pub mod Delays
 pub mod Skew
 pub mod Limits
+pub mod Subtrees
+pub mod Outputs
 pub mod Figures
 pub mod Sound
 pub mod Laws

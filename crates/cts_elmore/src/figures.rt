@@ -1,7 +1,7 @@
 //! The figures of a tree and of its nodes. Loads are in zF, lengths in nm, and delays doubled, in
 //! 10^-27 s.
 
-use std::marker::Model;
+use cts_list::Items;
 
 /// The figures of one node.
 #[derive(Clone, Copy, Debug, PartialEq, Eq)]
@@ -17,37 +17,7 @@ pub struct NodeFigure {
 }
 
 /// The figures of the nodes of a tree, by number.
-#[derive(Drop)]
-pub struct NodeFigures {
-    figures: Vec<NodeFigure>,
-}
-
-impl Model for NodeFigures {
-    ghost use Rattle.std.specs.Prelude.{List};
-    ghost use Rattle.cts_elmore.specs.declared.figures.NodeFigure.{NodeFigure};
-
-    ghost Value = { List NodeFigure };
-
-    ghost view = { λ list. list.figures.items };
-}
-
-impl NodeFigures {
-    ghost use Rattle.std.specs.Prelude.{◌≡◌};
-
-    /// These figures, in this order.
-    pub fn of(items: Vec<NodeFigure>) -> NodeFigures
-        ensures { result ≡ items.items }
-    {
-        NodeFigures { figures: items }
-    }
-
-    /// The figures in order.
-    pub fn items(&self) -> &[NodeFigure]
-        ensures { result.now ≡ self.now }
-    {
-        self.figures.as_slice()
-    }
-}
+pub type NodeFigures = Items<NodeFigure>;
 
 /// The figures of a tree.
 #[derive(Drop)]

@@ -1,0 +1,9 @@
+use Rattle.std.proofs.Common.{take}
+use Rattle.std.specs.List.{AllZip}
+use Rattle.cts_postorder.specs.PostOrder.{trees_of}
+use Rattle.cts_tree.specs.Nodes.{tree_children}
+use Rattle.cts_elmore.specs.Subtrees.{IsSubtree}
+use Rattle.cts_elmore.proofs.subtree.gather.Given as goal
+
+abbrev pub invariant-loop-number : goal.invariant-loop-number
+invariant-loop-number l = AllZip (IsSubtree l.instance) (take l.number (trees_of tree_children l.nodes)) l.subtrees.items

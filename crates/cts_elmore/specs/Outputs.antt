@@ -1,0 +1,40 @@
+-- What a node hands down, and whether it meets the limits of an instance.
+use Rattle.std.specs.Prelude.{◌≡◌, ℕ, ◌+◌, ◌*◌, ◌≤◌, List, slice_get, Option, Some, None}
+use Rattle.std.specs.Option.{option_map_or}
+use Rattle.cts_units.specs.declared.params.Wire.{Wire}
+use Rattle.cts_units.specs.declared.params.Buffer.{Buffer}
+use Rattle.cts_units.specs.Delay.{wire_delay_of, slew_of}
+use Rattle.cts_units.specs.Choice.{added_delay_of}
+use Rattle.cts_tree.specs.declared.nodes.NodeKind.{NodeKind}
+use Rattle.cts_tree.specs.declared.nodes.NodeKind.TheVariants.{Leaf, Pair}
+use Rattle.cts_elmore.specs.declared.figures.NodeFigure.{NodeFigure}
+use Rattle.cts_elmore.specs.declared.subtree.Subtree.{Subtree}
+use Rattle.cts_elmore.specs.declared.descent.Output.{Output}
+
+-- the stage that goes on below a node, or that its buffer begins by driving its load
+abbrev pub stage_after : List Buffer → Option ℕ → ℕ → ℕ → ℕ
+stage_after library None load stage = stage
+stage_after library (Some index) load stage =
+    option_map_or (λ buffer. 2 * buffer.rout * load) (slice_get library index) stage
+
+pub record IsOutput (library : List Buffer) (buffer : Option ℕ) (here : NodeFigure) (output : Output) : Type 0 where
+  pub delay : output.delay ≡ here.delay + added_delay_of library buffer here.below
+  pub stage : output.stage ≡ stage_after library buffer here.below here.stage
+
+pub record IsPartFigure (wire : Wire) (length : ℕ) (part : Subtree) (output : Output) (figure : NodeFigure) : Type 0 where
+  pub below : figure.below ≡ part.below
+  pub residue : figure.residue ≡ part.residue
+  pub delay : figure.delay ≡ output.delay + wire_delay_of wire.r wire.c length part.seen
+  pub stage : figure.stage ≡ output.stage + wire_delay_of wire.r wire.c length part.seen
+
+-- a buffer drives no more than the limit
+abbrev pub LoadIsMet : ℕ → NodeKind → ℕ → Type 0
+LoadIsMet limit (Leaf id sink) load = Unit {0}
+LoadIsMet limit (Pair left right None) load = Unit {0}
+LoadIsMet limit (Pair left right (Some index)) load = load ≤ limit
+
+-- a stage that ends at a leaf or at a buffer has no greater slew than the limit
+abbrev pub SlewIsMet : ℕ → NodeKind → ℕ → Type 0
+SlewIsMet limit (Leaf id sink) stage = slew_of stage ≤ 10 * limit
+SlewIsMet limit (Pair left right None) stage = Unit {0}
+SlewIsMet limit (Pair left right (Some index)) stage = slew_of stage ≤ 10 * limit
