@@ -2,5 +2,6 @@
 #![tactic(auto)]
 
 mod figures;
+pub mod laws;
 
 pub use figures::{Figures, NodeFigure, NodeFigures};

@@ -65,4 +65,7 @@ region_in_range r small = record {
 
 pub sides_merge : SidesCanBeMerged
 sides_merge params sinks t f p ok are =
-    (sides_in_range params sinks t f p ok are, region_in_range f.side.region (regions_small params sinks t f p are))
+    record {
+      numbers = sides_in_range params sinks t f p ok are;
+      region = region_in_range f.side.region (regions_small params sinks t f p are);
+    }

@@ -3,7 +3,6 @@ use Rattle.std.specs.Prelude.{◌≡◌, ℕ, ◌^◌, ◌⊎◌, ℤ, pos, neg_
 use Rattle.cts_geom.specs.declared.bounds.Die.{Die}
 use Rattle.cts_geom.specs.declared.regions.Region.{Region}
 use Rattle.cts_geom.specs.Points.{point_of, spot_at}
-use Rattle.cts_geom.specs.Regions.{IsRegionInRange}
 use Rattle.cts_geom.specs.RegionLaws.{IsBoxed, IsInBox, IsSegment}
 use Rattle.cts_units.specs.declared.params.Sink.{Sink}
 use Rattle.cts_units.specs.declared.params.Params.{Params}
@@ -12,7 +11,7 @@ use Rattle.cts_postorder.specs.BinaryTree.{BinaryTree}
 use Rattle.cts_topo.specs.declared.shape.ShapeNode.{ShapeNode}
 use Rattle.cts_topo.specs.Shape.{IsShapeOver}
 use Rattle.cts_merge.specs.declared.side.Finished.{Finished}
-use Rattle.cts_merge.specs.Side.{IsSideInRange}
+use Rattle.cts_merge.specs.Side.{IsMergeable}
 use Rattle.cts_up.specs.Sinks.{AreSinksInRange, IsOnDie}
 use Rattle.cts_up.specs.Plan.{IsFinished, IsPlan, IsLeastBeyond}
 
@@ -87,4 +86,4 @@ RegionsAreSmall =
 abbrev pub SidesCanBeMerged : Type 0
 SidesCanBeMerged =
     (params : Params) (sinks : List Sink) (t : BinaryTree ShapeNode) (f : Finished) → IsFinished params sinks t f
-    → IsParams params → AreSinksInRange sinks → IsSideInRange f.side × IsRegionInRange f.side.region
+    → IsParams params → AreSinksInRange sinks → IsMergeable f.side

@@ -1,4 +1,4 @@
-//! What the definition of a plan says, as laws: each is the contract of a function that does nothing.
+//! What the words of the contracts mean, as laws: each is the contract of a function that does nothing.
 
 ghost use Rattle.cts_up.specs.Laws.{
   FinishedIsOne,
