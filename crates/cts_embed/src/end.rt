@@ -2,13 +2,16 @@
 
 use cts_num::NoMemory;
 use std::alloc::{AllocError, AllocFailed};
+use thiserror::Error;
 
 /// Why a placed tree is not balanced.
-#[derive(Clone, Copy, Debug, PartialEq, Eq)]
+#[derive(Clone, Copy, Debug, PartialEq, Eq, Error)]
 pub enum BalanceEnd {
     /// The least number of a node that is over the limits of wires, loads or delays.
+    #[error("beyond the limits at node {node}")]
     Beyond { node: u32 },
     /// Memory ran out.
+    #[error("no memory")]
     NoMemory,
 }
 
