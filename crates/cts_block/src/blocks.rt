@@ -1,3 +1,5 @@
+//! Blocks and their kinds.
+
 /// What a block keeps out.
 #[derive(Clone, Copy, PartialEq, Eq, Debug)]
 pub enum Kind {

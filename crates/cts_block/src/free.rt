@@ -1,3 +1,5 @@
+//! Points that blocks leave free.
+
 ghost use Rattle.std.specs.Prelude.{◌↔◌, ◌^◌, pos, ◌+ℤ◌, ◌*ℤ◌, ◌≤ℤ◌, IsTrue};
 ghost use Rattle.cts_geom.specs.Points.{IsSpotInRange, point_of};
 ghost use Rattle.cts_block.specs.FreePoints.{IsPointInRange, IsBetween, IsStrictlyBetween, IsInDie, IsInside, IsFreeForWire, IsFreeForBuffer, IsOpenToWires, IsOpenToBuffers};

@@ -18,7 +18,7 @@ GapIsLeast = (a b : Region) (gap : ℕ) → IsGap a b gap ↔ (gap ≡ gap_of a 
 abbrev pub NearestIsOne : Type 0
 NearestIsOne = (region : Region) (to p : Spot) → IsNearest region to p ↔ (p ≡ nearest_of region to)
 
--- the two lengths are no more than the gap together, or one of them is 0
+-- the two lengths are the gap together, or one of them is 0
 abbrev pub IsTight : Region → ℕ → Region → ℕ → Type 0
 IsTight a ea b eb = (ea + eb ≡ gap_of a b) ⊎ ((ea ≡ 0) ⊎ (eb ≡ 0))
 

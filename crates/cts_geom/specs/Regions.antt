@@ -1,4 +1,4 @@
--- Regions as sets of spots, how far apart they are, and where two of them can be joined.
+-- The spots of a region, how far apart two regions are, and where they can be joined.
 use Rattle.std.specs.Prelude.{◌≡◌, ℕ, ◌≤◌, max, pos, ◌-ℤ◌, ◌≤ℤ◌}
 use Rattle.std.specs.Int.{int_max}
 use Rattle.cts_geom.specs.declared.points.Spot.{Spot}

@@ -1,4 +1,5 @@
 //! What the words of the contracts mean, as laws: each is the contract of a function that does nothing.
+
 ghost use Rattle.cts_geom.specs.PointLaws.{DistanceIsManhattan, SpotsAreApart};
 ghost use Rattle.cts_geom.specs.RegionLaws.{RegionsAreSets, GapIsLeast, NearestIsOne, MeetStaysInBox, MeetIsSegment};
 
@@ -27,7 +28,7 @@ pub fn nearest_is_one()
     ensures { NearestIsOne }
 {}
 
-/// Where the lengths are no more than the gap together, or one of them is 0, the points of a meet
+/// Where the lengths are the gap together, or one of them is 0, the points of a meet
 /// lie in every box in x and y in which all points of the two regions lie.
 pub fn meet_stays_in_box()
     ensures { MeetStaysInBox }

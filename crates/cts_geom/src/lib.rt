@@ -3,7 +3,7 @@
 //! A point (x, y) is kept as its spot (u, v) = (x + y, x - y), because there the points within some
 //! Manhattan distance of a point form a square. Lengths are whole nm; a point whose coordinates are
 //! half nm is a spot too where x and y are both half. A region is a rectangle of whole (u, v), never
-//! empty; contracts see it as the set of its spots.
+//! empty; contracts see its four numbers, and speak of the set of its spots by `ContainsSpot`.
 //!
 //! Every call takes coordinates of at most 2^40 in size, and none takes memory.
 //!

@@ -1,4 +1,5 @@
 //! Distances of regions and the regions in which two of them can be joined.
+
 ghost use Rattle.std.specs.Prelude.{◌≡◌, ◌+◌, ◌^◌, ◌≤◌, pos, ◌+ℤ◌, ◌-ℤ◌, ◌≤ℤ◌};
 ghost use Rattle.std.specs.Int.{int_min, int_max};
 ghost use Rattle.cts_geom.specs.Coordinate.{IsCoordinate, interval_gap};

@@ -1,3 +1,5 @@
+//! Points in half nm, and in coordinates that are turned by 45 degrees.
+
 ghost use Rattle.std.specs.Prelude.{◌≡◌, ◌*◌, ◌^◌, ◌≤◌, ◌↔◌, pos, ◌+ℤ◌, ◌-ℤ◌, ◌*ℤ◌, IsNone, IfSome};
 ghost use Rattle.cts_geom.specs.Coordinate.{IsCoordinate, IsOdd};
 ghost use Rattle.cts_geom.specs.Points.{IsSpotInRange, IsHalfInRange, spot_at, point_of, manhattan_of, distance_of};

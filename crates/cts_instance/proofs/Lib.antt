@@ -5,3 +5,5 @@ pub mod TestLemmas
 pub mod AllowLemmas
 pub mod ValidityLemmas
 pub mod PlaceLemmas
+mod Rows
+pub mod IdLemmas

@@ -18,7 +18,7 @@ use Rattle.cts_instance.specs.declared.fault.Fault.TheVariants.{NoSink, TwiceSin
 use Rattle.cts_instance.specs.declared.fault.CheckEnd.{CheckEnd}
 use Rattle.cts_instance.specs.declared.fault.CheckEnd.TheVariants.{Fault as told, NoMemory as out_of_memory}
 use Rattle.cts_instance.specs.declared.fault.Item.TheVariants as item
-use Rattle.cts_instance.specs.Tests.{is_die, is_in_die, is_bounded, is_wire, is_limits, is_buffer, is_sink, is_upright, is_block_in_die, has_room, is_clear, stops_buffers, stops_wires}
+use Rattle.cts_instance.specs.Tests.{is_die, is_in_die, is_bounded, is_wire, is_limits, is_buffer, is_sink, is_upright, is_block_in_die, has_room, is_clear, is_kind_buffer, is_kind_all}
 
 -- a rule of a line: where it is broken, its fault, else what the later rules say
 abbrev pub unless : Bool → Fault → Option Fault → Option Fault
@@ -81,8 +81,8 @@ block_fault die x y sinks counts block =
 -- how many blocks there are of each kind
 unfoldable pub counts_of : List Block → BlockCounts
 counts_of blocks = record {
-  buffer = count_by (λ block. stops_buffers block.kind) blocks;
-  all = count_by (λ block. stops_wires block.kind) blocks;
+  buffer = count_by (λ block. is_kind_buffer block.kind) blocks;
+  all = count_by (λ block. is_kind_all block.kind) blocks;
 }
 
 -- the counts after one more block of this kind

@@ -6,3 +6,4 @@ pub mod Laws
 pub use Rattle.cts_geom.specs.Coordinate
 pub use Rattle.cts_units.specs.Limits
 pub use Rattle.cts_block.specs.FreePoints
+pub mod Ids

@@ -60,13 +60,13 @@ unfoldable pub is_block_in_die : Die → Block → Bool
 is_block_in_die die block = is_in_die die block.x1 block.y1 && is_in_die die block.x2 block.y2
 
 -- which kind a block is of
-abbrev pub stops_buffers : Kind → Bool
-stops_buffers of_buffers = true
-stops_buffers of_all = false
+abbrev pub is_kind_buffer : Kind → Bool
+is_kind_buffer of_buffers = true
+is_kind_buffer of_all = false
 
-abbrev pub stops_wires : Kind → Bool
-stops_wires of_buffers = false
-stops_wires of_all = true
+abbrev pub is_kind_all : Kind → Bool
+is_kind_all of_buffers = false
+is_kind_all of_all = true
 
 -- the blocks before this one have left room for another of its kind
 unfoldable pub has_room : BlockCounts → Kind → Bool
@@ -80,4 +80,4 @@ is_empty x y sinks block =
 
 -- a block that stops wires has nothing inside that the tree has to reach
 unfoldable pub is_clear : ℤ → ℤ → List Sink → Block → Bool
-is_clear x y sinks block = not (stops_wires block.kind) || is_empty x y sinks block
+is_clear x y sinks block = not (is_kind_all block.kind) || is_empty x y sinks block

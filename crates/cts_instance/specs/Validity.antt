@@ -1,13 +1,14 @@
 -- What a valid instance is.
-use Rattle.std.specs.Prelude.{◌≢◌, ℕ, ◌^◌, ◌≤◌, ◌<◌, ℤ, pos, ◌≤ℤ◌, List, length, All, AllPairs, count_by}
+use Rattle.std.specs.Prelude.{ℕ, ◌^◌, ◌≤◌, ◌<◌, ℤ, pos, ◌≤ℤ◌, List, length, All, count_by}
 use Rattle.cts_geom.specs.declared.bounds.Die.{Die}
 use Rattle.cts_units.specs.declared.params.Sink.{Sink}
+use Rattle.cts_units.specs.Ids.{HasDistinctIds}
 use Rattle.cts_units.specs.Limits.{IsParams}
 use Rattle.cts_block.specs.declared.blocks.Block.{Block}
 use Rattle.cts_block.specs.FreePoints.{StopsWires}
 use Rattle.cts_instance.specs.declared.parts.Parts.{Parts}
 use Rattle.cts_instance.specs.Places.{IsInDie, IsInside}
-use Rattle.cts_instance.specs.Tests.{stops_buffers, stops_wires}
+use Rattle.cts_instance.specs.Tests.{is_kind_buffer, is_kind_all}
 
 -- the corners are from 0 to 10^8 nm, lower left and upper right
 pub record IsDie (die : Die) : Type 0 where
@@ -49,9 +50,9 @@ pub record IsValid (parts : Parts) : Type 0 where
   pub some_sink : 1 ≤ length parts.sinks
   pub sink_count : length parts.sinks ≤ 65536
   pub sinks : All (IsSink parts.die) parts.sinks
-  pub ids : AllPairs (λ a b. a.id ≢ b.id) parts.sinks
+  pub ids : HasDistinctIds (λ s. s.id) parts.sinks
   pub blocks : All (IsBlock parts.die) parts.blocks
   pub block_count : length parts.blocks ≤ 4160
-  pub buffer_blocks : count_by (λ block. stops_buffers block.kind) parts.blocks ≤ 4096
-  pub all_blocks : count_by (λ block. stops_wires block.kind) parts.blocks ≤ 64
+  pub buffer_blocks : count_by (λ block. is_kind_buffer block.kind) parts.blocks ≤ 4096
+  pub all_blocks : count_by (λ block. is_kind_all block.kind) parts.blocks ≤ 64
   pub clear : All (IsClear parts.source_x parts.source_y parts.sinks) parts.blocks

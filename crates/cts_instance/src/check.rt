@@ -145,6 +145,3 @@ pub fn check_instance(alloc: Global, parts: Parts) -> Result<Instance, CheckEnd>
         None => Ok(Instance::of(parts)),
     }
 }
-
-#[cfg(test)]
-mod tests;

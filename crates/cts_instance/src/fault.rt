@@ -1,9 +1,10 @@
 //! What can be wrong with the parts of an instance, and where.
 
 use cts_num::NoMemory;
+use thiserror::Error;
 
 /// The part of an instance, or of a script of edits, that a fault is about. Lists are counted from 0.
-#[derive(Clone, Copy, PartialEq, Eq, Debug)]
+#[derive(Clone, Copy, Debug)]
 pub enum Item {
     Die,
     Source,
@@ -20,28 +21,36 @@ pub enum Item {
 }
 
 /// What is wrong with the parts of an instance.
-#[derive(Clone, Copy, PartialEq, Eq, Debug)]
+#[derive(Clone, Copy, Debug, Error)]
 pub enum Fault {
     /// There are no sinks.
+    #[error("no sink")]
     NoSink,
     /// An earlier sink has the same id.
+    #[error("sink {id} twice")]
     TwiceSink { id: u32 },
     /// A source, a sink or a block that isn't wholly in the closed die.
+    #[error("outside the die: {item:?}")]
     Outside { item: Item },
     /// A block of kind `All` with the source or a sink strictly inside.
+    #[error("source or sink in block: {item:?}")]
     InBlock { item: Item },
     /// A number is beyond its limits, or two corners are in the wrong order.
+    #[error("out of range: {item:?}")]
     Range { item: Item },
     /// There are more of these than an instance may have.
+    #[error("too many: {item:?}")]
     TooMany { item: Item },
 }
 
 /// Why the parts of an instance were refused.
-#[derive(Clone, Copy, PartialEq, Eq, Debug)]
+#[derive(Clone, Copy, Debug, Error)]
 pub enum CheckEnd {
     /// The first fault of the parts.
+    #[error(transparent)]
     Fault(Fault),
     /// Memory ran out.
+    #[error("no memory")]
     NoMemory,
 }
 

@@ -1,34 +1,53 @@
 //! The ids of the sinks that were seen so far.
 
+ghost use Rattle.std.specs.Prelude.{◌≡◌, ◌≤◌, length, OnOk};
+ghost use Rattle.cts_instance.specs.Ids.{HasFirst};
+
 use cts_num::NoMemory;
-use indexmap::IndexSet;
 use std::alloc::Global;
+use std::collections::BTreeSet;
 use std::marker::Model;
 
 /// Distinct ids, in the order in which they came.
+///
+/// An id above all others is new without a look. The others are looked for in an ordered set, to
+/// which the ids before them are added first. So ids that rise cost next to nothing, and no choice of
+/// ids costs more than their number times its logarithm.
 #[derive(Drop)]
 pub struct SinkIds {
-    ids: IndexSet<u32>,
+    ids: Vec<u32>,
+    /// The first `ordered` ids.
+    known: BTreeSet<u32>,
+    ordered: usize,
+    /// One more than the greatest id, or 0.
+    end: u64,
 }
 
 impl Model for SinkIds {
     ghost use Rattle.std.specs.Prelude.{ℕ, List};
+    ghost use Rattle.cts_instance.specs.Ids.{IsOrderedInPart};
 
     ghost Value = { List ℕ };
 
-    ghost view = { λ seen. seen.ids.keys };
+    ghost view = { λ seen. seen.ids.items };
+
+    ghost invariant = { λ seen. IsOrderedInPart seen.ids.items seen.known seen.ordered seen.end };
 }
 
 impl SinkIds {
-    ghost use Rattle.std.specs.Prelude.{◌≡◌, [], ◌∷◌, ◌++◌, length, nat_eq, not, if◌then◌else◌, IfOk, OnOk, OnErr};
+    ghost use Rattle.std.specs.Prelude.{[], ◌∷◌, ◌++◌, nat_eq, not, if◌then◌else◌, IfOk, OnErr};
     ghost use Rattle.std.specs.List.{list_any};
 
     /// No ids yet, with room for this many.
     pub fn with_capacity(alloc: Global, count: usize) -> Result<SinkIds, NoMemory>
         ensures { IfOk result (λ ids. ids ≡ []) }
     {
-        let ids = IndexSet::with_capacity(alloc, count)?;
-        Ok(SinkIds { ids })
+        Ok(SinkIds {
+            ids: Vec::with_capacity(alloc, count)?,
+            known: BTreeSet::new(alloc),
+            ordered: 0,
+            end: 0,
+        })
     }
 
     /// How many ids there are.
@@ -46,7 +65,47 @@ impl SinkIds {
             ≡ (if list_any (nat_eq id) self.old then self.old else self.old ++ id ∷ [])) }
         ensures err { OnErr result (self.new ≡ self.old) }
     {
-        let (_, is_new) = self.ids.insert_full(id)?;
-        Ok(is_new)
+        if self.has(id)? {
+            return Ok(false);
+        }
+        self.push(id)?;
+        Ok(true)
     }
+
+    /// Whether an id is there.
+    fn has(&mut self, id: u32) -> Result<bool, NoMemory>
+        ensures has { IfOk result (λ has. has ≡ list_any (nat_eq id) self.old) }
+        ensures kept { self.new ≡ self.old }
+    {
+        if u64::from(id) >= self.end {
+            return Ok(false);
+        }
+        order(&self.ids, &mut self.known, &mut self.ordered)?;
+        Ok(self.known.contains(&id))
+    }
+
+    /// Adds an id at the end.
+    fn push(&mut self, id: u32) -> Result<(), NoMemory>
+        ensures added { OnOk result (self.new ≡ self.old ++ id ∷ []) }
+        ensures err { OnErr result (self.new ≡ self.old) }
+    {
+        self.ids.push(id)?;
+        self.end = self.end.max(u64::from(id) + 1);
+        Ok(())
+    }
+}
+
+/// Puts all ids into the ordered set, of which it has the first `ordered`.
+fn order(ids: &[u32], known: &mut BTreeSet<u32>, ordered: &mut usize) -> Result<(), NoMemory>
+    requires within { ordered.old ≤ length ids.now }
+    requires first { HasFirst ids.now ordered.old known.old }
+    ensures within { ordered.new ≤ length ids.now }
+    ensures first { HasFirst ids.now ordered.new known.new }
+    ensures all { OnOk result (ordered.new ≡ length ids.now) }
+{
+    while *ordered < ids.len() {
+        known.insert(ids[*ordered])?;
+        *ordered += 1;
+    }
+    Ok(())
 }

@@ -45,6 +45,7 @@ fn is_side(low: i64, high: i64) -> bool
     is_between(0, high, low) && high <= GREATEST_COORDINATE
 }
 
+/// The sides of the die are from 0 to 10^8 nm, and their ends are in order.
 #[tactic(auto, unfolding(crate::specs::Tests::is_die))]
 pub fn is_die(die: &Die) -> bool
     ensures { result ≡ is_die die.now }
@@ -52,6 +53,7 @@ pub fn is_die(die: &Die) -> bool
     is_side(die.x1, die.x2) && is_side(die.y1, die.y2)
 }
 
+/// The point (x, y) lies in the die or on its edges.
 #[tactic(auto, unfolding(crate::specs::Tests::is_in_die))]
 pub fn is_in_die(die: &Die, x: i64, y: i64) -> bool
     ensures { result ≡ is_in_die die.now x y }
@@ -66,12 +68,14 @@ fn is_inside(block: &Block, x: i64, y: i64) -> bool
     is_strictly_between(block.x1, block.x2, x) && is_strictly_between(block.y1, block.y2, y)
 }
 
+/// A number without a limit of its own is below 10^18 of its unit.
 pub fn is_bounded(number: u64) -> bool
     ensures { result ≡ is_bounded number }
 {
     number < NUMBER_END
 }
 
+/// The resistance in µΩ and the capacitance in zF of one nm of wire are from 1 to 10^6.
 #[tactic(auto, unfolding(crate::specs::Tests::is_wire))]
 pub fn is_wire(wire: Wire) -> bool
     ensures { result ≡ is_wire wire }
@@ -79,6 +83,7 @@ pub fn is_wire(wire: Wire) -> bool
     1 <= wire.r && wire.r <= GREATEST_WIRE && 1 <= wire.c && wire.c <= GREATEST_WIRE
 }
 
+/// The insertion threshold, the load limit and the slew limit are below 10^18 of their units.
 #[tactic(auto, unfolding(crate::specs::Tests::is_limits))]
 pub fn is_limits(insert_at: u64, load: u64, slew: u64) -> bool
     ensures { result ≡ is_limits insert_at load slew }
@@ -86,6 +91,7 @@ pub fn is_limits(insert_at: u64, load: u64, slew: u64) -> bool
     is_bounded(insert_at) && is_bounded(load) && is_bounded(slew)
 }
 
+/// The input capacitance is at most 10^12 zF; the resistance and the delay are below 10^18.
 #[tactic(auto, unfolding(crate::specs::Tests::is_buffer))]
 pub fn is_buffer(buffer: &Buffer) -> bool
     ensures { result ≡ is_buffer buffer.now }
@@ -93,6 +99,7 @@ pub fn is_buffer(buffer: &Buffer) -> bool
     buffer.cin <= GREATEST_CAPACITANCE && is_bounded(buffer.rout) && is_bounded(buffer.intrinsic)
 }
 
+/// The id is at most 999,999,999 and the capacitance at most 10^12 zF.
 #[tactic(auto, unfolding(crate::specs::Tests::is_sink))]
 pub fn is_sink(sink: &Sink) -> bool
     ensures { result ≡ is_sink sink.now }
@@ -100,6 +107,7 @@ pub fn is_sink(sink: &Sink) -> bool
     sink.id <= GREATEST_ID && sink.cap <= GREATEST_CAPACITANCE
 }
 
+/// The first corner is the lower left one and the second the upper right one, or they share a side.
 #[tactic(auto, unfolding(crate::specs::Tests::is_upright))]
 pub fn is_upright(block: &Block) -> bool
     ensures { result ≡ is_upright block.now }
@@ -107,6 +115,7 @@ pub fn is_upright(block: &Block) -> bool
     block.x1 <= block.x2 && block.y1 <= block.y2
 }
 
+/// Both corners of the block lie in the die.
 #[tactic(auto, unfolding(crate::specs::Tests::is_block_in_die))]
 pub fn is_block_in_die(die: &Die, block: &Block) -> bool
     ensures { result ≡ is_block_in_die die.now block.now }
@@ -114,6 +123,7 @@ pub fn is_block_in_die(die: &Die, block: &Block) -> bool
     is_in_die(die, block.x1, block.y1) && is_in_die(die, block.x2, block.y2)
 }
 
+/// The blocks before this one leave room for another of its kind.
 #[tactic(auto, unfolding(crate::specs::Tests::has_room))]
 pub fn has_room(counts: BlockCounts, kind: Kind) -> bool
     ensures { result ≡ has_room counts kind }
@@ -137,6 +147,7 @@ fn is_empty(block: &Block, x: i64, y: i64, sinks: &[Sink]) -> bool
     !is_inside(block, x, y) && has_no_sink_inside(block, sinks)
 }
 
+/// A block of kind `All` has neither the source nor a sink strictly inside.
 #[tactic(auto, unfolding(crate::specs::Tests::is_clear))]
 pub fn is_clear(block: &Block, x: i64, y: i64, sinks: &[Sink]) -> bool
     ensures { result ≡ is_clear x y sinks.now block.now }

@@ -1,13 +1,16 @@
 -- The first piece of a text, and the end of its line.
 use Rattle.std.proofs.lemmas.List.{length-map}
-use Rattle.std.proofs.Common.{◌≡◌, ℕ, suc, zero, ◌+◌, ◌-◌, ◌<◌, ◌≤◌, ◌⊎◌, inl, inr, Bool, true, false, cond, eqb, List, [], ◌∷◌, ◌++◌, length, get_or, take, drop, Some, None, refl, sym, ap, ◌∙◌, append_assoc, append-nil, add-one, arith, ltb, position, ◌≢◌}
+use Rattle.std.proofs.Common.{◌≡◌, ℕ, suc, zero, ◌+◌, ◌-◌, ◌<◌, ◌≤◌, ◌⊎◌, inl, inr, Bool, true, false, cond, eqb, List, [], ◌∷◌, ◌++◌, length, get_or, take, drop, Some, None, refl, sym, ap, ◌∙◌, append_assoc, append-nil, add-one, arith, ltb, position, ◌≢◌, All}
 use Rattle.std.proofs.lemmas.List.Quantifiers.{position-Some}
 use Rattle.std.proofs.lemmas.List.Sums.{fails_before_first}
 use Rattle.std.proofs.lemmas.Bool.{eqb-true, lt-ltb, cases_lt, ne_eqb}
 use Rattle.std.proofs.Math.Seq.{split_at}
 use Rattle.std.proofs.Math.ListN.{drop_of_length-le}
 use Rattle.std.specs.List.{position_or_len}
-use Rattle.cts_io.specs.Lines.{pieces_of, without_cr, lines_of, IsLineEnd, HasNoLineFeed, onto_first}
+use Rattle.std.specs.List.{onto_first}
+use Rattle.std.specs.Str.Lines.{strip_carriage_return}
+use Rattle.std.proofs.lemmas.List.Elements.{All-head, All-tail}
+use Rattle.cts_io.specs.Lines.{pieces_of, lines_of, IsLineEnd}
 
 -- an LF at i, and none before it
 pub pieces_of-first : (xs : List ℕ) (i : ℕ) → i < length xs → eqb (get_or xs i 0) 10 ≡ true → ((k : ℕ) → k < i → eqb (get_or xs k 0) 10 ≡ false)
@@ -36,7 +39,7 @@ last_byte xs i x l e =
     split_at xs i 0 (omega arith) ∙ rw (e, none) refl
 
 -- a piece is its line, and the CR that it may end with
-cr_end : (b : Bool) (piece : List ℕ) → eqb (get_or piece (length piece - 1) 0) 13 ≡ b → (piece ≡ without_cr piece) ⊎ (piece ≡ without_cr piece ++ (13 ∷ []))
+cr_end : (b : Bool) (piece : List ℕ) → eqb (get_or piece (length piece - 1) 0) 13 ≡ b → (piece ≡ strip_carriage_return piece) ⊎ (piece ≡ strip_carriage_return piece ++ (13 ∷ []))
 cr_end false piece e = inl (rw e refl)
 cr_end true [] e = cc
 cr_end true (x ∷ xs) e =
@@ -44,27 +47,27 @@ cr_end true (x ∷ xs) e =
     let last : get_or (x ∷ xs) (length xs) 0 ≡ 13 = rw one at (eqb-true _ _ e) in
     inr (rw e (rw one (last_byte (x ∷ xs) (length xs) 13 refl last)))
 
-pub cr_or_none : (piece : List ℕ) → (piece ≡ without_cr piece) ⊎ (piece ≡ without_cr piece ++ (13 ∷ []))
+pub cr_or_none : (piece : List ℕ) → (piece ≡ strip_carriage_return piece) ⊎ (piece ≡ strip_carriage_return piece ++ (13 ∷ []))
 cr_or_none piece = cr_end (eqb (get_or piece (length piece - 1) 0) 13) piece refl
 
 none_below : (m n : ℕ) → None ≡ cond (ltb m n) (Some m) None → n ≤ m
 none_below m n e = elim (cases_lt m n) [ inl l ↦ absurd (let yes' : ltb m n ≡ true = lt-ltb m n l in let e' : None ≡ Some m = rw yes' at e in cc) | inr h ↦ h ]
 
 -- the first line of a text with an LF at i
-pub lines_of-first : (text line : List ℕ) (i : ℕ) → Some i ≡ position (λ byte. eqb byte 10) text → line ≡ without_cr (take i text) → lines_of text ≡ line ∷ lines_of (drop (i + 1) text)
+pub lines_of-first : (text line : List ℕ) (i : ℕ) → Some i ≡ position (λ byte. eqb byte 10) text → line ≡ strip_carriage_return (take i text) → lines_of text ≡ line ∷ lines_of (drop (i + 1) text)
 lines_of-first text line i p w =
     let found = position-Some (λ byte. eqb byte 10) text i 0 (sym p) in
     rw (pieces_of-first text i found.0 found.1 found.2, w, add-one) refl
 
 -- the only line of a text without LF
-pub lines_of-last : (text line : List ℕ) → 0 < length text → None ≡ position (λ byte. eqb byte 10) text → line ≡ without_cr text → lines_of text ≡ line ∷ []
+pub lines_of-last : (text line : List ℕ) → 0 < length text → None ≡ position (λ byte. eqb byte 10) text → line ≡ strip_carriage_return text → lines_of text ≡ line ∷ []
 lines_of-last text line l p w =
     let end : length text ≤ position_or_len (λ byte. eqb byte 10) text = none_below _ _ p in
     let none : (k : ℕ) → k < length text → eqb (get_or text k 0) 10 ≡ false = λ k h. fails_before_first (λ byte. eqb byte 10) text k 0 (omega arith) in
     rw (pieces_of-last text l none, w) refl
 
 -- what of the text the first line and its end are
-pub taken-first : (text line : List ℕ) (i : ℕ) → Some i ≡ position (λ byte. eqb byte 10) text → line ≡ without_cr (take i text)
+pub taken-first : (text line : List ℕ) (i : ℕ) → Some i ≡ position (λ byte. eqb byte 10) text → line ≡ strip_carriage_return (take i text)
     → (end : List ℕ) × IsLineEnd end (drop (i + 1) text) × (text ≡ line ++ end ++ drop (i + 1) text)
 taken-first text line i p w =
     let found = position-Some (λ byte. eqb byte 10) text i 0 (sym p) in
@@ -75,22 +78,23 @@ taken-first text line i p w =
       | inr e ↦ (13 ∷ 10 ∷ [], inr (inl refl), whole ∙ ap (λ l. l ++ 10 ∷ drop (i + 1) text) e ∙ rw (w, append_assoc, append_assoc) refl)
     ]
 
-pub taken-last : (text line : List ℕ) → line ≡ without_cr text → (end : List ℕ) × IsLineEnd end [] × (text ≡ line ++ end ++ [])
+pub taken-last : (text line : List ℕ) → line ≡ strip_carriage_return text → (end : List ℕ) × IsLineEnd end [] × (text ≡ line ++ end ++ [])
 taken-last text line w =
     elim (cr_or_none text) [
-      | inl e ↦ ([], inr (inr (refl, inr refl)), e ∙ rw w (sym (append-nil (without_cr text ++ []) ∙ append-nil (without_cr text))))
+      | inl e ↦ ([], inr (inr (refl, inr refl)), e ∙ rw w (sym (append-nil (strip_carriage_return text ++ []) ∙ append-nil (strip_carriage_return text))))
       | inr e ↦ (13 ∷ [], inr (inr (refl, inl refl)), e ∙ rw (w, append-nil) refl)
     ]
 
 -- an LF behind a piece without LF
-pieces_of-append : (piece rest : List ℕ) → HasNoLineFeed piece → pieces_of (piece ++ 10 ∷ rest) ≡ piece ∷ pieces_of rest
+pieces_of-append : (piece rest : List ℕ) → All (λ b. b ≢ 10) piece → pieces_of (piece ++ 10 ∷ rest) ≡ piece ∷ pieces_of rest
 pieces_of-append [] rest h = refl
 pieces_of-append (b ∷ bs) rest h =
-    let here : eqb b 10 ≡ false = ne_eqb b 10 h.0 in
-    let after = pieces_of-append bs rest h.1 in
+    let here : eqb b 10 ≡ false = ne_eqb b 10 (All-head (λ (x : ℕ). x ≢ 10) b bs h) in
+    let after = pieces_of-append bs rest (All-tail (λ (x : ℕ). x ≢ 10) b bs h) in
     rw (here, after) refl
 
-pub line_comes_back : (line rest : List ℕ) → HasNoLineFeed line → get_or line (length line - 1) 0 ≢ 13 → lines_of (line ++ 10 ∷ rest) ≡ line ∷ lines_of rest
+pub line_comes_back : (line rest : List ℕ) → All (λ b. b ≢ 10) line → get_or line (length line - 1) 0 ≢ 13
+    → lines_of (line ++ 10 ∷ rest) ≡ line ∷ lines_of rest
 line_comes_back line rest h n =
     let last : eqb (get_or line (length line - 1) 0) 13 ≡ false = ne_eqb _ 13 n in
     let after = pieces_of-append line rest h in

@@ -1,4 +1,5 @@
-// A buffer between a text that is made of many small pieces and its sink.
+//! A buffer between a text that is made of many small pieces and its sink.
+
 ghost use Rattle.std.specs.Prelude.{◌≡◌, ℕ, ◌+◌, ◌≤◌, [], ◌++◌, length, take};
 ghost use Rattle.cts_io.specs.Pending.{Pending, fresh};
 ghost use Rattle.cts_io.specs.Text.{Finishes, Puts};
@@ -35,6 +36,7 @@ impl Model for SinkBuffer {
 }
 
 impl SinkBuffer {
+    /// An empty buffer, for a text of which nothing is written yet.
     pub fn new() -> SinkBuffer
         ensures { result ≡ fresh }
     {

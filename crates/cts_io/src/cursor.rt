@@ -1,6 +1,8 @@
-// The lines of a text, by a cursor.
+//! The lines of a text, by a cursor.
+
 ghost use Rattle.std.specs.Prelude.{◌≡◌, ℕ, List, [], ◌∷◌, ◌++◌, ◌+◌, ◌^◌, ◌<◌, ◌≤◌, ◌↔◌, ◌==◌, length, position, IsNone, IfNone, IfSome};
-ghost use Rattle.cts_io.specs.Lines.{lines_of, pieces_of, IsLineEnd, without_cr as cut_line};
+ghost use Rattle.std.specs.Str.Lines.{strip_carriage_return};
+ghost use Rattle.cts_io.specs.Lines.{lines_of, pieces_of, IsLineEnd};
 
 use std::marker::Model;
 
@@ -98,7 +100,7 @@ fn find_line_feed(text: &[u8]) -> Option<usize>
 
 /// A piece less the one CR at its end.
 fn without_cr(piece: &[u8]) -> &[u8]
-    ensures { result.now ≡ cut_line piece.now }
+    ensures { result.now ≡ strip_carriage_return piece.now }
 {
     match piece {
         [line @ .., b'\r'] => line,

@@ -1,4 +1,5 @@
-// The two traits by which bytes come in and go out.
+//! The two traits by which bytes come in and go out.
+
 ghost use Rattle.std.specs.Prelude.{◌≡◌, ℕ, List, Option, ◌<◌, ◌≤◌, length, take, IfOk, OnErr};
 ghost use Rattle.std.specs.Io.KnownBytes.{Appends, Consumes, IsAtEnd};
 ghost use Rattle.cts_io.specs.Faults.{Rose};

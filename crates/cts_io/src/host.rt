@@ -1,13 +1,18 @@
-// The edge to the host: std's readers and writers as a source and a sink.
+//! The edge to the host: std's readers and writers as a source and a sink.
+
 ghost use Rattle.std.specs.Prelude.{◌≡◌, ℕ, None, ◌<◌, ◌≤◌, length, IfOk, OnOk, OnErr};
+ghost use Rattle.std.specs.Io.KnownBytes.{ReadConsumes, WriteAppends};
 ghost use Rattle.cts_io.specs.Faults.{Rose, next_count};
 
 use crate::device::{ByteSink, ByteSource, Failed};
 use std::io::{Read, Write};
 use std::marker::Model;
 
-/// A reader of std as a source. It tells no bytes. Contracts see it as its count of faults, which
-/// rises where a read of the host failed, until it stands at 2^64 - 1.
+/// A reader of std as a source. Contracts see the reader and a count of faults, which rises where a
+/// read of the host failed, until it stands at 2^64 - 1.
+///
+/// As a source it tells no bytes, since the host's streams don't. Where its reader does, a read takes
+/// exactly what the reader gave.
 #[derive(Drop)]
 pub struct HostSource<R> {
     reader: R,
@@ -15,16 +20,17 @@ pub struct HostSource<R> {
 }
 
 impl<R> Model for HostSource<R> {
-    ghost use Rattle.std.specs.Prelude.{ℕ};
+    ghost use Rattle.cts_io.specs.Host.{HostState};
 
-    ghost Value = { ℕ };
+    ghost Value = { HostState R };
 
-    ghost view = { λ s. s.faults };
+    ghost view = { λ s. record { device = s.reader; faults = s.faults } };
 }
 
 impl<R> HostSource<R> {
+    /// A source before this reader, without a fault so far.
     pub fn new(reader: R) -> HostSource<R>
-        ensures { result ≡ 0 }
+        ensures { result ≡ record { device = reader; faults = 0 } }
     {
         HostSource { reader, faults: 0 }
     }
@@ -33,15 +39,17 @@ impl<R> HostSource<R> {
 impl<R: Read> ByteSource for HostSource<R> {
     ghost left = { λ _. None };
 
-    ghost faults = { λ n. n };
+    ghost faults = { λ s. s.faults };
 
     fn read(&mut self, buf: &mut [u8]) -> Result<usize, Failed>
         ensures bound { IfOk result (λ n. n ≤ length buf.new) }
-        ensures failed { OnErr result (Rose self.old self.new) }
-        ensures counted { self.old ≤ self.new }
+        ensures failed { OnErr result (Rose self.old.faults self.new.faults) }
+        ensures counted { self.old.faults ≤ self.new.faults }
 
-        ensures ok { OnOk result (self.new ≡ self.old) }
-        ensures err { OnErr result (self.new ≡ next_count self.old) }
+        // What the reader gave is at the front of the buffer, and nothing else was taken of it.
+        ensures bytes { ReadConsumes (R.remaining self.old.device) (R.remaining self.new.device) result buf.new }
+        ensures ok { OnOk result (self.new.faults ≡ self.old.faults) }
+        ensures err { OnErr result (self.new.faults ≡ next_count self.old.faults) }
     {
         match self.reader.read(buf) {
             Ok(count) => Ok(count),
@@ -53,9 +61,12 @@ impl<R: Read> ByteSource for HostSource<R> {
     }
 }
 
-/// A writer of std as a sink. It tells no bytes. Contracts see it as its count of faults, which
-/// rises where a write of the host failed, or took nothing of a piece that isn't empty, until it
-/// stands at 2^64 - 1.
+/// A writer of std as a sink. Contracts see the writer and a count of faults, which rises where a
+/// write of the host failed, or took nothing of a piece that isn't empty, until it stands at
+/// 2^64 - 1.
+///
+/// As a sink it tells no bytes, since the host's streams don't. Where its writer does, a write hands
+/// over exactly what it says.
 #[derive(Drop)]
 pub struct HostSink<W> {
     writer: W,
@@ -63,16 +74,17 @@ pub struct HostSink<W> {
 }
 
 impl<W> Model for HostSink<W> {
-    ghost use Rattle.std.specs.Prelude.{ℕ};
+    ghost use Rattle.cts_io.specs.Host.{HostState};
 
-    ghost Value = { ℕ };
+    ghost Value = { HostState W };
 
-    ghost view = { λ s. s.faults };
+    ghost view = { λ s. record { device = s.writer; faults = s.faults } };
 }
 
 impl<W> HostSink<W> {
+    /// A sink before this writer, without a fault so far.
     pub fn new(writer: W) -> HostSink<W>
-        ensures { result ≡ 0 }
+        ensures { result ≡ record { device = writer; faults = 0 } }
     {
         HostSink { writer, faults: 0 }
     }
@@ -81,16 +93,18 @@ impl<W> HostSink<W> {
 impl<W: Write> ByteSink for HostSink<W> {
     ghost held = { λ _. None };
 
-    ghost faults = { λ n. n };
+    ghost faults = { λ s. s.faults };
 
     fn write(&mut self, bytes: &[u8]) -> Result<usize, Failed>
         ensures bound { IfOk result (λ n. n ≤ length bytes.now) }
         ensures some { IfOk result (λ n. 0 < length bytes.now → 0 < n) }
-        ensures failed { OnErr result (Rose self.old self.new) }
-        ensures counted { self.old ≤ self.new }
+        ensures failed { OnErr result (Rose self.old.faults self.new.faults) }
+        ensures counted { self.old.faults ≤ self.new.faults }
 
-        ensures ok { OnOk result (self.new ≡ self.old) }
-        ensures err { OnErr result (self.new ≡ next_count self.old) }
+        // The writer took as many bytes of the piece as is answered.
+        ensures bytes { WriteAppends (W.contents self.old.device) (W.contents self.new.device) result bytes.now }
+        ensures ok { OnOk result (self.new.faults ≡ self.old.faults) }
+        ensures err { OnErr result (self.new.faults ≡ next_count self.old.faults) }
     {
         match self.writer.write(bytes) {
             Ok(count) if count > 0 || bytes.is_empty() => Ok(count),

@@ -1,4 +1,5 @@
-// Laws on the definitions that contracts cite, for the layers above.
+//! What the words of the contracts mean, as laws: each is the contract of a function that does nothing.
+
 ghost use Rattle.cts_io.specs.Lines.{LinesComeBack, NoMoreLinesThanBytes};
 ghost use Rattle.cts_io.specs.Text.{CutIsExact};
 

@@ -1,4 +1,5 @@
-// A source and a sink in memory, whose failures are chosen beforehand.
+//! A source and a sink in memory, whose failures are chosen beforehand.
+
 ghost use Rattle.std.specs.Prelude.{◌≡◌, ℕ, List, Some, [], ◌++◌, ◌+◌, ◌-◌, ◌<◌, ◌≤◌, ◌⊎◌, ◌↔◌, length, take, drop, min, IfOk, OnErr, IsErr, Contains, vec_len, vec_capacity};
 ghost use Rattle.std.specs.Io.KnownBytes.{Appends, Consumes, IsAtEnd};
 ghost use Rattle.cts_io.specs.Faults.{Rose, next_count};
@@ -39,6 +40,7 @@ impl Model for MemSource {
 }
 
 impl MemSource {
+    /// A source of these bytes, of which none is taken yet.
     pub fn new(bytes: Vec<u8>, failing: Vec<u64>, most: usize) -> MemSource
         requires { 0 < most }
         ensures left { result.left ≡ bytes.items }

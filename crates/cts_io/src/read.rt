@@ -1,4 +1,5 @@
-// Reading all that a source has.
+//! Reading all that a source has.
+
 ghost use Rattle.std.specs.Prelude.{◌≡◌, ℕ, List, ◌+◌, ◌^◌, ◌<◌, ◌≤◌, length, vec_len, IfOk, IfSome, OnOk, IsErrOf};
 ghost use Rattle.std.specs.Io.KnownBytes.{IsAtEnd};
 ghost use Rattle.cts_io.specs.Faults.{Rose};
@@ -15,10 +16,13 @@ const BLOCK: usize = 65_536;
 /// Why not all of an input was read.
 #[derive(Debug, Drop, Error)]
 pub enum ReadEnd {
+    /// A read failed.
     #[error("the input can't be read")]
     ReadFault,
+    /// The input is longer than is accepted.
     #[error("the input is too long")]
     TooLong,
+    /// Memory ran out.
     #[error("no memory")]
     NoMemory,
 }

@@ -1,3 +1,5 @@
+//! Sources and sinks of the host and in memory, whole texts, and lines.
+
 ghost use Rattle.std.specs.Prelude.{◌≡◌, ◌++◌, codes, Ok, Err};
 ghost use Rattle.cts_io.specs.Text.{Puts, Writes};
 
@@ -97,6 +99,53 @@ impl Write for Broken {
     fn flush(&mut self) -> io::Result<()> {
         Ok(())
     }
+}
+
+/// A writer that takes at most 3 bytes a call.
+#[derive(Drop)]
+struct Narrow<'a> {
+    held: &'a mut Vec<u8>,
+    calls: u32,
+}
+
+impl Write for Narrow<'_> {
+    fn write(&mut self, bytes: &[u8]) -> io::Result<usize> {
+        self.calls = self.calls.saturating_add(1);
+        self.held.write(&bytes[..bytes.len().min(3)])
+    }
+
+    fn flush(&mut self) -> io::Result<()> {
+        Ok(())
+    }
+}
+
+#[test]
+fn writes_whole_over_short_writes(rt: HostRuntime) -> Result<(), Fail> {
+    let mut held = Vec::new(rt.alloc());
+    let mut device = Narrow {
+        held: &mut held,
+        calls: 0,
+    };
+    let mut sink = HostSink::new(&mut device);
+    write_all(&mut sink, TEXT)?;
+    assert_eq!(rt; device.calls, 14);
+    assert_eq!(rt; held.as_slice(), TEXT);
+    Ok(())
+}
+
+#[test]
+fn reads_whole_over_many_blocks(rt: HostRuntime) -> Result<(), Fail> {
+    // A prime period, so that no byte of a block stands for that of another one.
+    let mut bytes = Vec::with_capacity(rt.alloc(), 200_000)?;
+    for place in 0..200_000u32 {
+        bytes.push((place % 251) as u8)?;
+    }
+    let mut text = bytes.as_slice();
+    let mut source = HostSource::new(&mut text);
+    let all = read_all(rt.alloc(), &mut source, 200_000)?;
+    assert_eq!(rt; all.len(), 200_000);
+    assert!(rt; all.as_slice() == bytes.as_slice());
+    Ok(())
 }
 
 #[test]

@@ -1,4 +1,5 @@
-// Writing all of a piece.
+//! Writing all of a piece.
+
 ghost use Rattle.std.specs.Prelude.{◌≡◌, [], ◌<◌, ◌≤◌, length, take, IfErr, OnErr, OnOk, IsOk};
 ghost use Rattle.std.specs.Io.KnownBytes.{Appends};
 ghost use Rattle.cts_io.specs.Faults.{Rose};

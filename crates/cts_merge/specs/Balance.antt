@@ -1,6 +1,7 @@
 -- The lengths of a pair's wires over the routes to its two children, in the balance of a placed tree.
-use Rattle.std.specs.Prelude.{ℕ, ◌-◌, ◌^◌, ◌≤◌}
+use Rattle.std.specs.Prelude.{ℕ, ◌≤◌}
 use Rattle.cts_units.specs.declared.params.Wire.{Wire}
+use Rattle.cts_units.specs.Limits.{max_length}
 use Rattle.cts_merge.specs.declared.side.Side.{Side}
 use Rattle.cts_merge.specs.LeastPair.{IsLeastPair, IsTooLong, Covers}
 use Rattle.cts_merge.specs.Side.{delay_through}
@@ -12,8 +13,8 @@ IsBalancePair wire a la b lb xa xb = IsLeastPair (delay_through wire a) (delay_t
 -- that pair, with both lengths within the limit of one wire
 pub record IsBalanced (wire : Wire) (a : Side) (la : ℕ) (b : Side) (lb xa xb : ℕ) : Type 0 where
   pub least : IsBalancePair wire a la b lb xa xb
-  pub xa_within : xa ≤ 2 ^ 31 - 1
-  pub xb_within : xb ≤ 2 ^ 31 - 1
+  pub xa_within : xa ≤ max_length
+  pub xb_within : xb ≤ max_length
 
 -- that pair has a length over the limit of one wire
 abbrev pub IsBeyondBalance : Wire → Side → ℕ → Side → ℕ → Type 0

@@ -1,8 +1,9 @@
 -- The order of pairs of wire lengths, the pairs that are admissible, and the least of them. The delay of each
 -- of the two sides is a function of the length of its wire, and lengths have no upper bound here.
 -- After the exact zero-skew merge of Tsay; the choice in whole units is this project's.
-use Rattle.std.specs.Prelude.{◌≡◌, ℕ, ◌+◌, ◌-◌, ◌^◌, ◌<◌, ◌≤◌, ◌⊎◌}
+use Rattle.std.specs.Prelude.{◌≡◌, ℕ, ◌+◌, ◌<◌, ◌≤◌, ◌⊎◌}
 use Rattle.std.specs.Int.{abs_diff}
+use Rattle.cts_units.specs.Limits.{max_length}
 
 -- (difference, total, length) comes before another such triple, or is equal to it
 pub record IsNoLater (difference total length difference' total' length' : ℕ) : Type 0 where
@@ -36,4 +37,4 @@ pub record IsTooLong (first second : ℕ → ℕ) (Admissible : ℕ → ℕ → 
   pub ea : ℕ
   pub eb : ℕ
   pub least : IsLeastPair first second Admissible ea eb
-  pub long : (2 ^ 31 - 1 < ea) ⊎ (2 ^ 31 - 1 < eb)
+  pub long : (max_length < ea) ⊎ (max_length < eb)

@@ -1,5 +1,5 @@
 -- What the upward pass makes of a sink, and of two sides: the least pair, the merging region, the buffer choice, or beyond.
-use Rattle.std.specs.Prelude.{◌≡◌, ℕ, ◌+◌, ◌-◌, ◌*◌, ◌^◌, ◌<◌, ◌≤◌, max, Option, None, ◌↔◌, ◌⊎◌}
+use Rattle.std.specs.Prelude.{◌≡◌, ℕ, ◌+◌, ◌*◌, ◌<◌, ◌≤◌, max, Option, None, ◌↔◌, ◌⊎◌, Result, IfOk, IfErr}
 use Rattle.cts_geom.specs.declared.points.Spot.{Spot}
 use Rattle.cts_geom.specs.Points.{spot_at}
 use Rattle.cts_geom.specs.Regions.{ContainsSpot, IsMeet, gap_of}
@@ -7,10 +7,12 @@ use Rattle.cts_units.specs.declared.params.Sink.{Sink}
 use Rattle.cts_units.specs.declared.params.Wire.{Wire}
 use Rattle.cts_units.specs.declared.params.Params.{Params}
 use Rattle.cts_units.specs.Choice.{IsBufferChoice, added_delay_of, seen_load_of}
+use Rattle.cts_units.specs.Limits.{max_length, max_load, max_delay}
 use Rattle.cts_merge.specs.declared.side.Side.{Side}
 use Rattle.cts_merge.specs.declared.side.Finished.{Finished}
+use Rattle.cts_merge.specs.declared.side.Beyond.{Beyond}
 use Rattle.cts_merge.specs.LeastPair.{IsLeastPair, Spans}
-use Rattle.cts_merge.specs.Side.{delay_through}
+use Rattle.cts_merge.specs.Side.{IsSideInRange, delay_through}
 
 -- a leaf: no delay, the sink's capacitance, its one point, and no wires or buffer below it
 pub record IsLeaf (sink : Sink) (leaf : Finished) : Type 0 where
@@ -44,16 +46,16 @@ pub record IsMerged (params : Params) (a b : Side) (pair : Finished) : Type 0 wh
   pub greatest : pair.side.greatest
       ≡ pair_delay_of params.wire a b pair.ea pair.eb
       + added_delay_of params.library pair.buffer (pair_load_of params.wire a b pair.ea pair.eb)
-  pub ea_within : pair.ea ≤ 2 ^ 31 - 1
-  pub eb_within : pair.eb ≤ 2 ^ 31 - 1
-  pub load_within : pair_load_of params.wire a b pair.ea pair.eb ≤ 2 ^ 56
-  pub greatest_within : pair.side.greatest ≤ 2 ^ 104
+  pub ea_within : pair.ea ≤ max_length
+  pub eb_within : pair.eb ≤ max_length
+  pub load_within : pair_load_of params.wire a b pair.ea pair.eb ≤ max_load
+  pub greatest_within : pair.side.greatest ≤ max_delay
 
 -- the greatest delay of a pair of these lengths is above the limit, with the buffer that the pair takes
 pub record IsTooSlow (params : Params) (a b : Side) (ea eb : ℕ) : Type 0 where
   pub buffer : Option ℕ
   pub choice : IsBufferChoice params (pair_load_of params.wire a b ea eb) buffer
-  pub over : 2 ^ 104
+  pub over : max_delay
       < pair_delay_of params.wire a b ea eb + added_delay_of params.library buffer (pair_load_of params.wire a b ea eb)
 
 -- Beyond, upward: the least pair has a wire over the limit, or a load before the buffer, or a greatest delay after it.
@@ -61,5 +63,11 @@ pub record IsBeyond (params : Params) (a b : Side) : Type 0 where
   pub ea : ℕ
   pub eb : ℕ
   pub least : IsMergePair params.wire a b ea eb
-  pub over : (2 ^ 31 - 1 < ea) ⊎ ((2 ^ 31 - 1 < eb)
-      ⊎ ((2 ^ 56 < pair_load_of params.wire a b ea eb) ⊎ IsTooSlow params a b ea eb))
+  pub over : (max_length < ea) ⊎ ((max_length < eb)
+      ⊎ ((max_load < pair_load_of params.wire a b ea eb) ⊎ IsTooSlow params a b ea eb))
+
+-- how the merge of two sides ends: with their pair, whose numbers are in range, or beyond
+pub record Merges (params : Params) (a b : Side) (result : Result Finished Beyond) : Type 0 where
+  pub merged : IfOk result (λ pair. IsMerged params a b pair)
+  pub in_range : IfOk result (λ pair. IsSideInRange pair.side)
+  pub beyond : IfErr result (λ _. IsBeyond params a b)

@@ -2,7 +2,7 @@
 
 ghost use Rattle.std.specs.Prelude.{◌≡◌, ◌+◌, ◌-◌, ◌*◌, ◌^◌, ◌<◌, ◌≤◌, MatchOption, IfOk, IfErr};
 ghost use Rattle.cts_units.specs.Delay.{wire_delay_of};
-ghost use Rattle.cts_units.specs.Limits.{IsWire};
+ghost use Rattle.cts_units.specs.Limits.{IsWire, max_length, max_load};
 ghost use Rattle.cts_merge.specs.LeastPair.{IsLeastPair, IsTooLong, Spans};
 ghost use Rattle.cts_merge.specs.Side.{IsSideInRange, delay_through};
 ghost use Rattle.cts_merge.specs.Stretch.{IsStretch, IsLongStretch, IsLongest};
@@ -26,9 +26,9 @@ pub(crate) fn delay_through(wire: Wire, side: &Side, length: u64) -> u128
 #[tactic(auto, using(cts_units::proofs::WireDelay::no_wire_no_delay))]
 fn longest(wire: Wire, load: u64, delay: u128) -> Option<u64>
     requires wire { IsWire wire }
-    requires load { load ≤ 2 ^ 56 }
+    requires load { load ≤ max_load }
     ensures { MatchOption result
-        (wire_delay_of wire.r wire.c (2 ^ 31) load ≤ delay)
+        (wire_delay_of wire.r wire.c (max_length + 1) load ≤ delay)
         (λ len. IsLongest wire load delay len) }
 {
     let mut low = 0;
@@ -55,7 +55,7 @@ pub(crate) fn stretched(wire: Wire, side: &Side, base: u64, target: u128) -> Res
     requires target { target ≤ 2 ^ 111 }
     requires room { delay_through wire side.now base ≤ target }
     ensures stretch { IfOk result (λ len. IsStretch (delay_through wire side.now) base target len) }
-    ensures within { IfOk result (λ len. len ≤ 2 ^ 31 - 1) }
+    ensures within { IfOk result (λ len. len ≤ max_length) }
     ensures beyond { IfErr result (λ _. IsLongStretch (delay_through wire side.now) base target) }
 {
     let Some(low) = longest(wire, side.load, target - side.greatest) else {
@@ -127,8 +127,8 @@ pub(crate) fn least_pair(wire: Wire, a: &Side, b: &Side, gap: u64) -> Result<(u6
     requires b { IsSideInRange b.now }
     ensures least { IfOk result (λ pair.
         IsLeastPair (delay_through wire a.now) (delay_through wire b.now) (Spans gap) pair.0 pair.1) }
-    ensures first_within { IfOk result (λ pair. pair.0 ≤ 2 ^ 31 - 1) }
-    ensures second_within { IfOk result (λ pair. pair.1 ≤ 2 ^ 31 - 1) }
+    ensures first_within { IfOk result (λ pair. pair.0 ≤ max_length) }
+    ensures second_within { IfOk result (λ pair. pair.1 ≤ max_length) }
     ensures beyond { IfErr result (λ _. IsTooLong (delay_through wire a.now) (delay_through wire b.now) (Spans gap)) }
 {
     if gap > 2 * MAX_LENGTH {

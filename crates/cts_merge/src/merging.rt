@@ -1,13 +1,13 @@
 //! One step of the upward pass: a sink, and a pair of sides.
 
-ghost use Rattle.std.specs.Prelude.{◌≡◌, ◌+◌, ◌-◌, ◌*◌, ◌^◌, ◌≤◌, ◌+ℤ◌, ◌-ℤ◌, ◌↔◌, IfOk, IfErr};
+ghost use Rattle.std.specs.Prelude.{◌≡◌, ◌+◌, ◌-◌, ◌*◌, ◌^◌, ◌≤◌, ◌+ℤ◌, ◌-ℤ◌, ◌↔◌};
 ghost use Rattle.cts_geom.specs.Coordinate.{IsCoordinate};
 ghost use Rattle.cts_geom.specs.declared.points.Spot.{Spot};
-ghost use Rattle.cts_geom.specs.Regions.{ContainsSpot, IsRegionInRange};
+ghost use Rattle.cts_geom.specs.Regions.{ContainsSpot};
 ghost use Rattle.cts_units.specs.Choice.{IsBufferChoice, added_delay_of, seen_load_of};
-ghost use Rattle.cts_units.specs.Limits.{IsParams, IsWire};
-ghost use Rattle.cts_merge.specs.Merge.{IsLeaf, IsMergePair, IsMerged, IsBeyond};
-ghost use Rattle.cts_merge.specs.Side.{IsSideInRange};
+ghost use Rattle.cts_units.specs.Limits.{IsParams, IsWire, max_length, max_load};
+ghost use Rattle.cts_merge.specs.Merge.{IsLeaf, IsMergePair, Merges};
+ghost use Rattle.cts_merge.specs.Side.{IsMergeable, IsSideInRange};
 
 use crate::lengths::{delay_through, least_pair};
 use crate::side::{Beyond, Finished, Side};
@@ -36,7 +36,7 @@ fn point(at: Spot) -> Region
 pub fn leaf(sink: &Sink) -> Finished
     requires x { IsCoordinate sink.now.x }
     requires y { IsCoordinate sink.now.y }
-    requires cap { sink.now.cap ≤ 2 ^ 56 }
+    requires cap { sink.now.cap ≤ max_load }
     ensures leaf { IsLeaf sink.now result }
     ensures in_range { IsSideInRange result.side }
     ensures u1 { result.side.region.u1 ≡ sink.now.x +ℤ sink.now.y }
@@ -69,12 +69,12 @@ fn wire_load(wire: Wire, length: u64) -> u64
 /// The delay that a node's buffer adds over a load, and the load that is seen from above it.
 fn buffered(params: &Params, buffer: Option<u16>, load: u64) -> (u128, u64)
     requires params { IsParams params.now }
-    requires load { load ≤ 2 ^ 56 }
+    requires load { load ≤ max_load }
     requires choice { IsBufferChoice params.now load buffer }
     ensures added { result.0 ≡ added_delay_of params.now.library buffer load }
     ensures added_bound { result.0 ≤ 2 ^ 118 }
     ensures seen { result.1 ≡ seen_load_of params.now.library buffer load }
-    ensures seen_bound { result.1 ≤ 2 ^ 56 }
+    ensures seen_bound { result.1 ≤ max_load }
 {
     match buffer {
         Some(index) => {
@@ -88,16 +88,12 @@ fn buffered(params: &Params, buffer: Option<u16>, load: u64) -> (u128, u64)
 /// The pair of two sides with wires of these lengths, its least pair.
 fn join(params: &Params, a: &Side, ea: u64, b: &Side, eb: u64) -> Result<Finished, Beyond>
     requires params { IsParams params.now }
-    requires a { IsSideInRange a.now }
-    requires b { IsSideInRange b.now }
-    requires a_region { IsRegionInRange a.now.region }
-    requires b_region { IsRegionInRange b.now.region }
+    requires a { IsMergeable a.now }
+    requires b { IsMergeable b.now }
     requires least { IsMergePair params.now.wire a.now b.now ea eb }
-    requires ea { ea ≤ 2 ^ 31 - 1 }
-    requires eb { eb ≤ 2 ^ 31 - 1 }
-    ensures merged { IfOk result (λ pair. IsMerged params.now a.now b.now pair) }
-    ensures in_range { IfOk result (λ pair. IsSideInRange pair.side) }
-    ensures beyond { IfErr result (λ _. IsBeyond params.now a.now b.now) }
+    requires ea { ea ≤ max_length }
+    requires eb { eb ≤ max_length }
+    ensures { Merges params.now a.now b.now result }
 {
     let load = a.load + b.load + wire_load(params.wire, ea + eb);
     if load > MAX_LOAD {
@@ -126,13 +122,9 @@ fn join(params: &Params, a: &Side, ea: u64, b: &Side, eb: u64) -> Result<Finishe
 /// The pair of two sides.
 fn pair_of(params: &Params, a: &Side, b: &Side) -> Result<Finished, Beyond>
     requires params { IsParams params.now }
-    requires a { IsSideInRange a.now }
-    requires b { IsSideInRange b.now }
-    requires a_region { IsRegionInRange a.now.region }
-    requires b_region { IsRegionInRange b.now.region }
-    ensures merged { IfOk result (λ pair. IsMerged params.now a.now b.now pair) }
-    ensures in_range { IfOk result (λ pair. IsSideInRange pair.side) }
-    ensures beyond { IfErr result (λ _. IsBeyond params.now a.now b.now) }
+    requires a { IsMergeable a.now }
+    requires b { IsMergeable b.now }
+    ensures { Merges params.now a.now b.now result }
 {
     let (ea, eb) = least_pair(params.wire, a, b, gap(&a.region, &b.region))?;
     join(params, a, ea, b, eb)
@@ -150,13 +142,9 @@ pub fn merge<L: Ledger>(
     steps: &mut Steps<L>,
 ) -> Result<Finished, Beyond>
     requires params { IsParams params.now }
-    requires a { IsSideInRange a.now }
-    requires b { IsSideInRange b.now }
-    requires a_region { IsRegionInRange a.now.region }
-    requires b_region { IsRegionInRange b.now.region }
-    ensures merged { IfOk result (λ pair. IsMerged params.now a.now b.now pair) }
-    ensures in_range { IfOk result (λ pair. IsSideInRange pair.side) }
-    ensures beyond { IfErr result (λ _. IsBeyond params.now a.now b.now) }
+    requires a { IsMergeable a.now }
+    requires b { IsMergeable b.now }
+    ensures merges { Merges params.now a.now b.now result }
     ensures tick { steps.new ≡ steps.old + 1 }
 {
     steps.tick();

@@ -1,6 +1,7 @@
 //! What is known of a subtree where it is merged.
 
 use cts_geom::Region;
+use thiserror::Error;
 
 /// A subtree as a merge above it sees it.
 #[derive(Clone, Copy)]
@@ -28,5 +29,6 @@ pub struct Finished {
 
 /// A pair is over the limits: a wire of it is longer than 2^31 - 1 nm, its load is above 2^56 zF, or its
 /// greatest doubled delay is above 2^104 of 10^-27 s.
-#[derive(Clone, Copy, PartialEq, Eq, Debug)]
+#[derive(Clone, Copy, PartialEq, Eq, Debug, Error)]
+#[error("beyond the limits of wires, loads or delays")]
 pub struct Beyond;

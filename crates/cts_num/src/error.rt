@@ -1,4 +1,4 @@
-// The error for want of memory.
+//! The error for want of memory.
 
 use std::alloc::{AllocError, AllocFailed};
 use thiserror::Error;

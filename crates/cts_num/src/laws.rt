@@ -1,4 +1,5 @@
-// What holds of every decimal text, as laws that proofs cite.
+//! What the words of the contracts mean, as laws: each is the contract of a function that does nothing.
+
 ghost use Rattle.cts_num.specs.Laws.{DecimalIsReadBack, ReadingIsComputed, ReadingIsUnique, ValueIsUnique, WrittenIsRead};
 
 /// A text writes at most one value at each number of places.

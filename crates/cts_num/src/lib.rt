@@ -1,19 +1,16 @@
 //! Decimal numbers as text, and the error for want of memory: the lowest layer.
 //!
 //! The layers above may use [`decimal`], which writes a number as its canonical decimal text,
-//! [`read_decimal`], which reads a decimal text or names the first fault in it, the laws that tie
+//! [`read_decimal`], which reads a decimal text or names the first fault in it, the [`laws`] that tie
 //! the two, and [`NoMemory`], to which `?` turns every failed allocation.
 #![tactic(auto)]
 
 mod error;
-mod laws;
+pub mod laws;
 mod powers;
 mod read;
 mod write;
 
 pub use error::NoMemory;
-pub use laws::{
-    decimal_is_read_back, reading_is_computed, reading_is_unique, value_is_unique, written_is_read,
-};
 pub use read::{DecimalFault, read_decimal};
 pub use write::{Digits, decimal};

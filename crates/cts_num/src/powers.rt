@@ -1,5 +1,6 @@
-// The powers of ten up to the greatest number of places.
+//! The powers of ten up to the greatest number of places.
 
+/// Ten to the power of each index.
 pub static POWERS_OF_TEN: [u64; 17] = [
     1,
     10,

@@ -1,22 +1,28 @@
-// Decimal text read as a number.
+//! Decimal text read as a number.
+
 ghost use Rattle.std.specs.Prelude.{◌≡◌, ◌≢◌, ◌↔◌, ℕ, ◌+◌, ◌-◌, ◌*◌, ◌^◌, ◌<◌, ◌≤◌, min, length, take, slice_index, OnOk, IfErr, MatchResult};
 ghost use Rattle.std.specs.Char.{IsAsciiDigit};
 ghost use Rattle.cts_num.specs.Number.{digit_number};
 ghost use Rattle.cts_num.specs.Reading.{IsDecimal, IsEmptyDecimal, IsFirstBadByte, IsFirstTooFine, IsReading, IsTailFault, reading_of};
 
 use crate::powers::POWERS_OF_TEN;
+use thiserror::Error;
 
 /// Why a text is not read as a number. A place counts the bytes of the text from 0, the point
 /// included.
-#[derive(Clone, Copy, Debug, PartialEq)]
+#[derive(Clone, Copy, Debug, PartialEq, Error)]
 pub enum DecimalFault {
     /// The text has no byte, or is one point.
+    #[error("a number without digits")]
     Empty,
     /// The first byte that is neither a digit nor the first point.
+    #[error("a bad byte in a number at {at}")]
     BadByte { at: usize },
     /// The first digit past the places that is not 0.
+    #[error("a number too fine at {at}")]
     TooFine { at: usize },
     /// The value is 10^18 units or more.
+    #[error("a number too great")]
     TooGreat,
 }
 

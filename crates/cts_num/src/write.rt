@@ -1,4 +1,5 @@
-// Numbers written as decimal text, from the last digit to the first.
+//! Numbers written as decimal text, from the last digit to the first.
+
 ghost use Rattle.std.specs.Prelude.{◌≡◌, ℕ, ◌+◌, ◌-◌, ◌/◌, ◌%◌, ◌^◌, ◌<◌, ◌≤◌, List, ◌++◌, length, drop};
 ghost use Rattle.cts_num.specs.Decimal.{decimal_text, fraction_text, padded_text, pair_text, whole_text};
 

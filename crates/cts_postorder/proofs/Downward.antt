@@ -5,12 +5,26 @@ use Rattle.std.proofs.lemmas.Bool.{cases_lt}
 use Rattle.cts_postorder.specs.BinaryTree.{BinaryTree, fork, root_number}
 use Rattle.cts_postorder.specs.PostOrder.{IsPostOrder, root_of}
 use Rattle.cts_postorder.specs.Occurrence.{Occurrence, occurrence, occurrences, occurrences_of, IsDownFrom}
-use Rattle.cts_postorder.specs.Pass.{IsDue, root, part, IsSettled}
 use Rattle.cts_postorder.proofs.Zips.{all_zip-from}
 use Rattle.cts_postorder.proofs.Sizes.{size_pos, root_number-next}
 use Rattle.cts_postorder.proofs.Places.{get_or-occurrences-root}
 use Rattle.cts_postorder.proofs.Parents.{ParentOf, parent_of}
 use Rattle.cts_postorder.proofs.Lists.{Whole, whole_of, IsPair, length-occurrences_of}
+
+-- In a downward pass that has come down to the number k, the value at a number is due where it is the root's, or that
+-- of a part of a pair from k on. `e` stands for a node past the end.
+pub data IsDue {N : Type 0} (kids : N → Option (ℕ × ℕ)) (nodes : List N) (e : N) (k number : ℕ) : Type 0 where
+  root : number + 1 ≡ length nodes → IsDue kids nodes e k number
+  part : (i : ℕ) (p : ℕ × ℕ) → k ≤ i → i < length nodes → kids (get_or nodes i e) ≡ Some p
+      → (number ≡ p.0) ⊎ (number ≡ p.1) → IsDue kids nodes e k number
+
+-- The state of a downward pass: there is a place for each node, and each value that is due is right, that is, one that
+-- `IsValue` relates to the subtree and the pairs above it.
+pub record IsSettled {N V : Type 0} (kids : N → Option (ℕ × ℕ)) (nodes : List N) (e : N)
+    (IsValue : Occurrence N → V → Type 0) (k : ℕ) (out : List V) : Type 0 where
+  pub long : length out ≡ length nodes
+  pub right : (number : ℕ) (v : V) (o : Occurrence N) → IsDue kids nodes e k number
+      → IsValue (get_or (occurrences_of kids nodes) number o) (get_or out number v)
 
 module _ {N : Type 0} (kids : N → Option (ℕ × ℕ)) where
   -- what is due at the counter itself: every node is the root, or a part of a later pair

@@ -1,6 +1,6 @@
 -- The trees of a list of nodes, read front by front.
 use Rattle.std.proofs.Common.{◌≡◌, ℕ, ◌+◌, ◌<◌, ◌≤◌, List, [], ◌∷◌, ◌++◌, Some, None, map, take, drop, length, get_or, Option, refl, sym, ap, ◌∙◌, arith, length-append, append_assoc, append-nil, take_all, take-take, take_at, take-append-drop, length-take-le}
-use Rattle.std.proofs.lemmas.List.{take_more, get_or-take, map_push, get_or_push}
+use Rattle.std.proofs.lemmas.List.{take_more, get_or-take, get_or-map, map_push, get_or_push}
 use Rattle.cts_postorder.specs.BinaryTree.{BinaryTree, label}
 use Rattle.cts_postorder.specs.PostOrder.{tree_over, grow, trees_of}
 
@@ -91,3 +91,9 @@ module _ {N : Type 0} (kids : N → Option (ℕ × ℕ)) where
   pub map-label-trees_of : (nodes : List N) → map label (trees_of kids nodes) ≡ nodes
   unfolding trees_of
   map-label-trees_of nodes = map-label-grow [] nodes
+
+  pub label-tree : (nodes : List N) (k : ℕ) (d : BinaryTree N) (e : N) → k < length nodes
+      → label (get_or (trees_of kids nodes) k d) ≡ get_or nodes k e
+  label-tree nodes k d e h =
+      sym (get_or-map label (trees_of kids nodes) k d e (omega (arith, length-trees_of nodes)))
+      ∙ ap (λ ns. get_or ns k e) (map-label-trees_of nodes)

@@ -8,5 +8,7 @@ pub mod Lists
 pub mod Upward
 pub mod Downward
 pub mod Decorated
+pub mod Tips
+pub mod Failures
 pub mod Statements
 mod Example

@@ -1,13 +1,16 @@
 -- The public laws, from the lemmas on numbered trees.
-use Rattle.std.proofs.Common.{◌≡◌, [], map, get_or, ap, subst, ◌∙◌, arith}
+use Rattle.std.proofs.Common.{◌≡◌, ◌≤◌, [], map, length, get_or, sym, ap, subst, ◌∙◌, arith, zero-add}
+use Rattle.std.specs.List.{All}
 use Rattle.std.specs.Option.{option_map_or}
 use Rattle.std.proofs.lemmas.Option.{get_or_from_slice_get, slice_get_within}
+use Rattle.cts_postorder.specs.BinaryTree.{depth}
 use Rattle.cts_postorder.specs.PostOrder.{IsPostOrder}
-use Rattle.cts_postorder.specs.Occurrence.{occurrences, occurrences_of}
-use Rattle.cts_postorder.specs.Laws.{PostOrderIsTree, TreesAreSubtrees, FrontsKeepTrees, ChildrenComeBefore}
+use Rattle.cts_postorder.specs.Occurrence.{Occurrence, occurrences, occurrences_of, tips}
+use Rattle.cts_postorder.specs.Laws.{PostOrderIsTree, TreesAreSubtrees, FrontsKeepTrees, ChildrenComeBefore, TipsAreOccurrences, TipsStandBelow}
 use Rattle.cts_postorder.proofs.Sizes.{size_pos, length-labels}
 use Rattle.cts_postorder.proofs.Growth.{trees_of-take}
 use Rattle.cts_postorder.proofs.Spelling.{Spelling, spelling_of, trees_of-labels, IsPostOrder-labels}
+use Rattle.cts_postorder.proofs.Tips.{filter-occurrences, length-tips, tips_below, tips_deep}
 use Rattle.cts_postorder.proofs.Lists.{IsPair, is_pair, root_of-labels}
 
 module _ (N : Type 0) where
@@ -35,3 +38,13 @@ module _ (N : Type 0) where
       let v : IsPair kids nodes k (left, right) (get_or nodes k n) =
       is_pair kids nodes ok k n (left, right) (slice_get_within nodes k n at) (ap kids here ∙ names) in
       (v.right_number, omega (arith, v.left_number, v.right_number, size_pos v.right))
+
+  pub tips_are_occurrences_lem : TipsAreOccurrences N
+  tips_are_occurrences_lem t = (
+    sym (filter-occurrences [] t),
+    length-tips [] t,
+    subst (λ d. All (λ (o : Occurrence N). length o.above ≤ d) (tips [] t)) (zero-add (depth t)) (tips_deep [] t),
+  )
+
+  pub tips_stand_below_lem : TipsStandBelow N
+  tips_stand_below_lem up t = tips_below [] up t

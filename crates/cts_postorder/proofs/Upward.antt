@@ -5,14 +5,15 @@ use Rattle.std.proofs.lemmas.List.{take_more, length-take-le}
 use Rattle.std.proofs.lemmas.Bool.{cases_lt}
 use Rattle.std.proofs.lemmas.Option.{slice_get-get_or, slice_get_within, get_or_from_slice_get}
 use Rattle.std.proofs.lemmas.Slice.Zip.{AllZip-long}
-use Rattle.cts_postorder.specs.BinaryTree.{BinaryTree, tip, fork}
+use Rattle.cts_postorder.specs.BinaryTree.{BinaryTree, tip, fork, label, size}
 use Rattle.cts_postorder.specs.PostOrder.{IsPostOrder, tree_over, trees_of}
 use Rattle.cts_postorder.specs.Pass.{IsLeastFailure}
 use Rattle.cts_postorder.proofs.Zips.{all_zip-push, all_zip-at}
-use Rattle.cts_postorder.proofs.Growth.{length-trees_of, trees_of-at}
+use Rattle.cts_postorder.proofs.Growth.{length-trees_of, trees_of-at, label-tree}
+use Rattle.cts_postorder.proofs.Failures.{size-tree}
 use Rattle.cts_postorder.proofs.Lists.{IsPair, is_pair}
 
--- The pair of number k: its parts have lower numbers, they stand in the relation to their values so far, and with a
+-- The pair of number k: its parts have lower numbers, they carry the nodes there, and stand in the relation to their values so far, and with a
 -- value for the pair itself there is one more.
 pub record UpAtPair {N V : Type 0} (kids : N → Option (ℕ × ℕ)) (nodes : List N) (R : BinaryTree N → V → Type 0)
     (k : ℕ) (p : ℕ × ℕ) (n : N) (out : List V) : Type 0 where
@@ -22,6 +23,10 @@ pub record UpAtPair {N V : Type 0} (kids : N → Option (ℕ × ℕ)) (nodes : L
   pub right_below : p.1 < k
   pub left_value : (v : V) → R left (get_or out (p.0) v)
   pub right_value : (v : V) → R right (get_or out (p.1) v)
+  pub left_label : (d : N) → label left ≡ get_or nodes (p.0) d
+  pub right_label : (d : N) → label right ≡ get_or nodes (p.1) d
+  pub left_size : size left ≤ k
+  pub right_size : size right ≤ k
   pub here : slice_get (trees_of kids nodes) k ≡ Some (fork left right n)
   pub next : (v : V) → R (fork left right n) v → AllZip R (take (k + 1) (trees_of kids nodes)) (out ++ v ∷ [])
 
@@ -68,6 +73,8 @@ module _ {N V : Type 0} (kids : N → Option (ℕ × ℕ)) (R : BinaryTree N →
       let at : (i : ℕ) (t : BinaryTree N) (u : V) → i < k → get_or trees i (tip e) ≡ t → R t (get_or out i u) =
       λ i t u w is. subst (λ s. R s (get_or out i u)) (get_or-take k trees i (tip e) w ∙ is)
       (all_zip-at R (take k trees) out i (tip e) u all (omega arith)) in
+      let small : (i : ℕ) (t : BinaryTree N) → i < k → get_or trees i (tip e) ≡ t → size t ≤ k =
+      λ i t w is. omega (arith, size-tree kids nodes ok i (tip e) (omega arith), ap size is) in
       record {
         left = v.left;
         right = v.right;
@@ -75,6 +82,10 @@ module _ {N V : Type 0} (kids : N → Option (ℕ × ℕ)) (R : BinaryTree N →
         right_below = v.right_below;
         left_value = λ u. at (p.0) v.left u v.left_below (v.left_tree (tip e));
         right_value = λ u. at (p.1) v.right u v.right_below (v.right_tree (tip e));
+        left_label = λ d. ap label (sym (v.left_tree (tip d))) ∙ label-tree kids nodes (p.0) (tip d) d (omega (arith, v.left_below));
+        right_label = λ d. ap label (sym (v.right_tree (tip d))) ∙ label-tree kids nodes (p.1) (tip d) d (omega (arith, v.right_below));
+        left_size = small (p.0) v.left v.left_below (v.left_tree (tip e));
+        right_size = small (p.1) v.right v.right_below (v.right_tree (tip e));
         here = slice_get-get_or trees k (tip e) (omega arith) ∙ ap Some (v.tree (tip e));
         next = λ u here. up_more nodes k (fork v.left v.right n) (tip e) out u h (v.tree (tip e)) all here;
       }

@@ -1,5 +1,5 @@
 -- Binary trees whose places carry nodes, and the numbering of their nodes in post-order.
-use Rattle.std.specs.Prelude.{◌≡◌, ℕ, ◌+◌, max, List, [], ◌∷◌, ◌++◌, Option, Some, None}
+use Rattle.std.specs.Prelude.{◌≡◌, ℕ, ◌+◌, max, Bool, true, false, List, [], ◌∷◌, ◌++◌, Option, Some, None}
 
 -- A binary tree: each place carries a node, and a place is a tip or has a left and a right part.
 pub data BinaryTree (N : Type 0) : Type 0 where
@@ -10,6 +10,11 @@ pub data BinaryTree (N : Type 0) : Type 0 where
 unfoldable pub label : {N : Type 0} → BinaryTree N → N
 label (tip n) = n
 label (fork l r n) = n
+
+-- whether it has no parts
+abbrev pub is_tip : {N : Type 0} → BinaryTree N → Bool
+is_tip (tip n) = true
+is_tip (fork l r n) = false
 
 -- how many nodes a tree has
 unfoldable pub size : {N : Type 0} → BinaryTree N → ℕ

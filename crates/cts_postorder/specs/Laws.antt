@@ -1,8 +1,8 @@
 -- What holds of every list of nodes in post-order, whatever its nodes are.
-use Rattle.std.specs.Prelude.{◌≡◌, ℕ, ◌+◌, ◌<◌, ◌≤◌, ◌↔◌, List, [], map, take, length, slice_get, Option, Some}
-use Rattle.cts_postorder.specs.BinaryTree.{BinaryTree, size, labels, subtrees, IsNumbered}
+use Rattle.std.specs.Prelude.{◌≡◌, ℕ, ◌+◌, ◌<◌, ◌≤◌, ◌↔◌, List, [], ◌++◌, map, filter, take, length, slice_get, All, Option, Some}
+use Rattle.cts_postorder.specs.BinaryTree.{BinaryTree, is_tip, size, depth, labels, subtrees, IsNumbered}
 use Rattle.cts_postorder.specs.PostOrder.{IsPostOrder, trees_of, root_of}
-use Rattle.cts_postorder.specs.Occurrence.{occurrences, occurrences_of}
+use Rattle.cts_postorder.specs.Occurrence.{Occurrence, occurrence, occurrences, occurrences_of, tips}
 
 -- a list of nodes is in post-order exactly where they are the nodes of a tree that is numbered from 0
 abbrev pub PostOrderIsTree : Type 0 → Type 0
@@ -29,3 +29,18 @@ ChildrenComeBefore N =
     (kids : N → Option (ℕ × ℕ)) (nodes : List N) → IsPostOrder (map kids nodes)
     → (k : ℕ) (n : N) (left right : ℕ) → slice_get nodes k ≡ Some n → kids n ≡ Some (left, right)
     → (right + 1 ≡ k) × (left < right)
+
+-- the tips are the occurrences without parts, in their order, one more than there are pairs, and the pairs above each are at
+-- most the depth
+abbrev pub TipsAreOccurrences : Type 0 → Type 0
+TipsAreOccurrences N =
+    (t : BinaryTree N)
+    → (tips [] t ≡ filter (λ (o : Occurrence N). is_tip o.here) (occurrences [] t))
+    × (length (tips [] t) + length (tips [] t) ≡ size t + 1)
+    × All (λ (o : Occurrence N). length o.above ≤ depth t) (tips [] t)
+
+-- the tips of a tree that stands below the pairs `up` are its own tips, with these pairs above their own
+abbrev pub TipsStandBelow : Type 0 → Type 0
+TipsStandBelow N =
+    (up : List (BinaryTree N)) (t : BinaryTree N)
+    → tips up t ≡ map (λ (o : Occurrence N). occurrence (o.above ++ up) o.here) (tips [] t)

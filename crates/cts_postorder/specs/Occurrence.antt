@@ -22,6 +22,16 @@ occurrences up (fork l r n) =
 unfoldable pub occurrences_of : {N : Type 0} → (N → Option (ℕ × ℕ)) → List N → List (Occurrence N)
 occurrences_of kids nodes = option_map_or (occurrences []) (root_of kids nodes) []
 
+-- The tips of a tree below the pairs `up`, from left to right, each with the pairs above it. With no pair in `up` they
+-- are told as they lie below the tree's own root: their pairs are those from the root down to the tip.
+unfoldable pub tips : {N : Type 0} → List (BinaryTree N) → BinaryTree N → List (Occurrence N)
+tips up (tip n) = occurrence up (tip n) ∷ []
+tips up (fork l r n) = tips (fork l r n ∷ up) l ++ tips (fork l r n ∷ up) r
+
+-- the tips of a list of nodes
+unfoldable pub tips_of : {N : Type 0} → (N → Option (ℕ × ℕ)) → List N → List (Occurrence N)
+tips_of kids nodes = option_map_or (tips []) (root_of kids nodes) []
+
 -- A tree of the same form with other nodes: each is told from the subtree and the pairs above it.
 unfoldable pub decorate : {N M : Type 0} → (Occurrence N → M) → List (BinaryTree N) → BinaryTree N → BinaryTree M
 decorate g up (tip n) = tip (g (occurrence up (tip n)))

@@ -7,13 +7,13 @@
 //! in post-order and the tree at each number, `specs/Occurrence.antt` the pairs above each node,
 //! and `specs/Pass.antt` the states of upward and downward passes; all of them whatever the nodes
 //! are, given what children a node names. A layer above cites these definitions, the laws below,
-//! and the lemmas of `proofs/`: `Lists` for what stands at a number, `Upward` and `Downward` for
-//! the steps of passes, `Decorated` for trees of the same form with other nodes, and `Zips` for lists
+//! and the lemmas of `proofs/`: `Lists` for what stands at a number, `Tips` for the tips of a tree,
+//! `Upward` and `Downward` for the steps of passes, `Failures` for those that stop, `Decorated` for trees of the same form with other nodes, and `Zips` for lists
 //! that are related place by place. Passes are stated over a relation between trees or occurrences
 //! and their values, so that a layer need not compute what it defines.
 #![tactic(auto)]
 
-ghost use Rattle.cts_postorder.specs.Laws.{PostOrderIsTree, TreesAreSubtrees, FrontsKeepTrees, ChildrenComeBefore};
+ghost use Rattle.cts_postorder.specs.Laws.{ChildrenComeBefore, FrontsKeepTrees, PostOrderIsTree, TipsAreOccurrences, TipsStandBelow, TreesAreSubtrees};
 
 /// A law: a list of nodes is in post-order exactly where it has the nodes of a tree that is
 /// numbered from 0.
@@ -35,4 +35,15 @@ pub fn fronts_keep_trees<N>()
 /// of the right part.
 pub fn children_come_before<N>()
     ensures { ChildrenComeBefore N }
+{}
+
+/// A law: the tips of a tree are its subtrees without parts, from left to right. There is one more of
+/// them than there are pairs, and the pairs above each are at most the depth.
+pub fn tips_are_occurrences<N>()
+    ensures { TipsAreOccurrences N }
+{}
+
+/// A law: below further pairs a tree has the same tips, with these pairs above their own.
+pub fn tips_stand_below<N>()
+    ensures { TipsStandBelow N }
 {}

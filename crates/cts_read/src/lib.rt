@@ -17,6 +17,3 @@ mod words;
 
 pub use read::{Taken, read_instance, read_rest};
 pub use stop::{Cause, ReadStop};
-
-#[cfg(test)]
-mod tests;

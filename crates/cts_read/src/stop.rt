@@ -6,7 +6,7 @@ use std::alloc::{AllocError, AllocFailed};
 
 /// Why a line is refused: the first cause of the line, in this order but for the numbers and the
 /// kinds, which go from left to right.
-#[derive(Clone, Copy, Debug, PartialEq)]
+#[derive(Clone, Copy, Debug)]
 pub enum Cause {
     /// The line holds a byte that is neither printable ASCII nor a tab.
     NotAscii,
@@ -23,7 +23,7 @@ pub enum Cause {
 }
 
 /// Why a text is not read.
-#[derive(Clone, Copy, Debug, PartialEq)]
+#[derive(Clone, Copy, Debug)]
 pub enum ReadStop {
     /// The first line that offends, counted from 1 over the whole input, and its first cause.
     Refused { line: u32, cause: Cause },

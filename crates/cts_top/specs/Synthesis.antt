@@ -1,7 +1,8 @@
 -- The synthesis of one sink: its route from the source, its figures, and whether it is within the limits.
-use Rattle.std.specs.Prelude.{ℕ, ◌+◌, ◌-◌, ◌^◌, Bool, ◌||◌, nat_eq, nat_lt, if◌then◌else◌, ℤ, unsigned_abs, List, [], ◌∷◌, sum, Option, None, Some}
+use Rattle.std.specs.Prelude.{ℕ, ◌+◌, Bool, ◌||◌, nat_eq, nat_lt, if◌then◌else◌, ℤ, unsigned_abs, List, [], ◌∷◌, sum, Option, None, Some}
 use Rattle.std.specs.Int.{abs_diff}
 use Rattle.cts_units.specs.declared.params.Sink.{Sink}
+use Rattle.cts_units.specs.Limits.{max_length, max_load, max_delay}
 use Rattle.cts_instance.specs.declared.parts.Parts.{Parts}
 use Rattle.cts_top.specs.declared.tree.Point.{Point}
 use Rattle.cts_top.specs.declared.tree.Leaf.{Leaf}
@@ -67,10 +68,9 @@ totals_of i sink = record {
 unfoldable pub tree_of : Parts → Sink → Tree
 tree_of i sink = record { leaf = leaf_of i sink; totals = totals_of i sink }
 
--- The root is beyond the limits where its wire is longer than 2^31 - 1 nm, where the source load is above 2^56 zF, or
--- where the greatest delay is above 2^104.
+-- The root is beyond the limits where its wire, the source load or the greatest delay is above its limit.
 unfoldable pub is_beyond : Tree → Bool
-is_beyond tree = nat_lt (2 ^ 31 - 1) tree.leaf.wire || nat_lt (2 ^ 56) tree.totals.source_load || nat_lt (2 ^ 104) tree.totals.greatest
+is_beyond tree = nat_lt max_length tree.leaf.wire || nat_lt max_load tree.totals.source_load || nat_lt max_delay tree.totals.greatest
 
 -- the tree of the first sink, unless it is beyond
 abbrev pub within_limits : Tree → Option Tree

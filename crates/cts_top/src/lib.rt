@@ -19,6 +19,3 @@ mod words;
 
 pub use outcome::{Outcome, Status};
 pub use run::run_alone;
-
-#[cfg(test)]
-mod tests;

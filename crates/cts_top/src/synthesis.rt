@@ -11,16 +11,7 @@ ghost use Rattle.cts_top.specs.Synthesis.{corner_of, is_beyond as beyond, place_
 use crate::tree::{Leaf, Point, Totals, Tree};
 use cts_geom::Die;
 use cts_instance::Instance;
-use cts_units::{Sink, Wire, slew_tenths, wire_delay};
-
-/// The longest wire, in nm.
-const LONGEST_WIRE: u64 = 2_147_483_647;
-
-/// The greatest load at one point, in zF: 2^56.
-const GREATEST_LOAD: u64 = 72_057_594_037_927_936;
-
-/// The greatest doubled delay, in 10^-27 s: 2^104.
-const GREATEST_DELAY: u128 = 20_282_409_603_651_670_423_947_251_286_016;
+use cts_units::{MAX_DELAY, MAX_LENGTH, MAX_LOAD, Sink, Wire, slew_tenths, wire_delay};
 
 /// Where the route between two points turns: it goes along x first.
 fn corner(start: &Point, end: &Point) -> Option<Point>
@@ -127,9 +118,9 @@ fn totals(load_limit: u64, slew_limit: u64, leaf: &Leaf, source_load: u64) -> To
 fn is_beyond(tree: &Tree) -> bool
     ensures { result ≡ beyond tree.now }
 {
-    tree.leaf.wire > LONGEST_WIRE
-        || tree.totals.source_load > GREATEST_LOAD
-        || tree.totals.greatest > GREATEST_DELAY
+    tree.leaf.wire > MAX_LENGTH
+        || tree.totals.source_load > MAX_LOAD
+        || tree.totals.greatest > MAX_DELAY
 }
 
 /// The tree of one sink of an instance, with its figures.

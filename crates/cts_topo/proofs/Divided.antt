@@ -8,11 +8,11 @@ use Rattle.cts_postorder.proofs.Sizes.{length-labels, root_number-next}
 use Rattle.cts_topo.specs.declared.shape.ShapeNode.{ShapeNode}
 use Rattle.cts_topo.specs.declared.shape.ShapeNode.TheVariants.{Leaf, Pair}
 use Rattle.cts_topo.specs.declared.pin.Pin.{Pin}
-use Rattle.cts_topo.specs.Pins.{HasDistinctIds}
+use Rattle.cts_topo.proofs.Apart.{AreApart, apart-Shuffled, apart-take, apart-drop}
 use Rattle.cts_topo.specs.Topology.{is_before, is_wide, left_size, left_part, right_part, division}
 use Rattle.cts_topo.proofs.Shuffles.{Shuffled, shuffled_of, length-Shuffled}
 use Rattle.cts_topo.proofs.Ranks.{Rises}
-use Rattle.cts_topo.proofs.Parts.{distinct-Shuffled, distinct-take, distinct-drop, rises_of, parts_of_sorted, left_size_pos, left_size_lt}
+use Rattle.cts_topo.proofs.Parts.{rises_of, parts_of_sorted, left_size_pos, left_size_lt}
 use Rattle.cts_topo.proofs.Divisions.{division-pair, division-Shuffled}
 
 -- what is asked of the two halves
@@ -20,10 +20,10 @@ pub record HalvesReady (ls rs : List Pin) (n : ℕ) : Type 0 where
   pub total : length ls + length rs ≡ n
   pub left_some : 0 < length ls
   pub right_some : 0 < length rs
-  pub left_distinct : HasDistinctIds ls
-  pub right_distinct : HasDistinctIds rs
+  pub left_distinct : AreApart ls
+  pub right_distinct : AreApart rs
 
-pub halves_ready : (ps qs ls rs : List Pin) (half : ℕ) → 2 ≤ length ps → HasDistinctIds ps → IsPermutation ps qs
+pub halves_ready : (ps qs ls rs : List Pin) (half : ℕ) → 2 ≤ length ps → AreApart ps → IsPermutation ps qs
     → half ≡ div_ceil (length ps) 2 → ls ≡ take half qs → rs ≡ drop half qs → HalvesReady ls rs (length ps)
 unfolding left_size
 halves_ready ps qs ls rs half h distinct order is front back =
@@ -31,15 +31,15 @@ halves_ready ps qs ls rs half h distinct order is front back =
     let long : length ps ≡ length qs = length-Shuffled s in
     let some : 0 < half = subst (λ n. 0 < n) (sym is) (left_size_pos (length ps) (omega arith)) in
     let less : half < length ps = subst (λ n. n < length ps) (sym is) (left_size_lt (length ps) h) in
-    let apart : HasDistinctIds qs = distinct-Shuffled s distinct in
+    let apart : AreApart qs = apart-Shuffled s distinct in
     let left_long : length ls ≡ half = ap length front ∙ length-take-le half qs (omega arith) in
     let right_long : length rs ≡ length qs - half = ap length back ∙ length-drop half qs in
     record {
       total = omega arith;
       left_some = omega arith;
       right_some = omega arith;
-      left_distinct = subst HasDistinctIds (sym front) (distinct-take qs half apart);
-      right_distinct = subst HasDistinctIds (sym back) (distinct-drop qs half apart);
+      left_distinct = subst AreApart (sym front) (apart-take qs half apart);
+      right_distinct = subst AreApart (sym back) (apart-drop qs half apart);
     }
 
 -- one pin
@@ -51,7 +51,7 @@ divided_one (p ∷ []) nodes limit d h = refl
 divided_one (p ∷ q ∷ ps) nodes limit d h = absurd (omega arith)
 
 -- more pins
-pub divided_pair : (ps qs ls rs : List Pin) (half : ℕ) → 2 ≤ length ps → HasDistinctIds ps → IsPermutation ps qs
+pub divided_pair : (ps qs ls rs : List Pin) (half : ℕ) → 2 ≤ length ps → AreApart ps → IsPermutation ps qs
     → IsSortedBy (is_before (is_wide ps)) qs → half ≡ div_ceil (length ps) 2 → ls ≡ take half qs → rs ≡ drop half qs
     → (nodes left both : List ShapeNode)
     → ((limit : ℕ) → length ls ≤ limit → left ≡ nodes ++ labels (division limit (length nodes) ls))
@@ -63,7 +63,7 @@ divided_pair ps qs ls rs half h distinct order sorted is front back nodes left b
 divided_pair ps qs ls rs half h distinct order sorted is front back nodes left both left_is both_is (suc limit) fits =
     let s : Shuffled ps qs = shuffled_of ps qs order in
     let ready : HalvesReady ls rs (length ps) = halves_ready ps qs ls rs half h distinct order is front back in
-    let rises : Rises (is_before (is_wide ps)) qs = rises_of (is_wide ps) qs sorted (distinct-Shuffled s distinct) in
+    let rises : Rises (is_before (is_wide ps)) qs = rises_of (is_wide ps) qs sorted (apart-Shuffled s distinct) in
     let parts = parts_of_sorted ps qs s rises in
     let left_same : Shuffled (left_part ps) ls =
     subst (Shuffled (left_part ps)) (ap (λ n. take n qs) (sym is) ∙ sym front) (parts.0) in

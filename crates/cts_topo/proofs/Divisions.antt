@@ -8,7 +8,7 @@ use Rattle.cts_topo.specs.declared.shape.ShapeNode.{ShapeNode}
 use Rattle.cts_topo.specs.declared.shape.ShapeNode.TheVariants.{Pair}
 use Rattle.cts_topo.specs.declared.pin.Pin.{Pin}
 use Rattle.cts_topo.specs.Shape.{children, leaf_sink, leaf_sinks}
-use Rattle.cts_topo.specs.Pins.{HasDistinctIds}
+use Rattle.cts_topo.proofs.Apart.{AreApart}
 use Rattle.cts_topo.specs.Topology.{is_early, left_size, left_part, right_part, pair_over, division}
 use Rattle.cts_topo.specs.Laws.{IsDivided}
 use Rattle.cts_topo.proofs.Shuffles.{Shuffled, same, chain, shuffled_of, length-Shuffled, map-Shuffled, append-Shuffled, Shuffled-one}
@@ -65,7 +65,7 @@ record Smaller (ps : List Pin) (limit : ℕ) : Type 0 where
   right_few : length (right_part ps) ≤ limit
   total : length (left_part ps) + length (right_part ps) ≡ length ps
 
-smaller_of : (ps : List Pin) (limit : ℕ) → 2 ≤ length ps → length ps ≤ suc limit → HasDistinctIds ps → Smaller ps limit
+smaller_of : (ps : List Pin) (limit : ℕ) → 2 ≤ length ps → length ps ≤ suc limit → AreApart ps → Smaller ps limit
 smaller_of ps limit h fits distinct =
     let v : Halves ps = halves_of ps distinct in
     let some : 0 < left_size (length ps) = left_size_pos (length ps) (omega arith) in
@@ -79,7 +79,7 @@ smaller_of ps limit h fits distinct =
     }
 
 -- a tree over n pins has 2n - 1 nodes
-pub size-division : (limit first : ℕ) (ps : List Pin) → 0 < length ps → length ps ≤ limit → HasDistinctIds ps
+pub size-division : (limit first : ℕ) (ps : List Pin) → 0 < length ps → length ps ≤ limit → AreApart ps
     → size (division limit first ps) + 1 ≡ 2 * length ps
 unfolding division size
 size-division limit first [] some fits distinct = absurd (omega arith)
@@ -98,7 +98,7 @@ size-division (suc limit) first (p ∷ q ∷ ps) some fits distinct =
     )
 
 -- its leaves are the pins' sinks, each once
-pub leaf_sinks-division : (limit first : ℕ) (ps : List Pin) → 0 < length ps → length ps ≤ limit → HasDistinctIds ps
+pub leaf_sinks-division : (limit first : ℕ) (ps : List Pin) → 0 < length ps → length ps ≤ limit → AreApart ps
     → Shuffled (map (λ (p : Pin). p.sink) ps) (leaf_sinks (labels (division limit first ps)))
 unfolding division labels left_part right_part
 leaf_sinks-division limit first [] some fits distinct = absurd (omega arith)
@@ -126,7 +126,7 @@ leaf_sinks-division (suc limit) first (p ∷ q ∷ ps) some fits distinct =
     (leaf_sinks-division limit (first + size l) (right_part all) s.right_some s.right_few v.right_distinct)))
 
 -- over at most 2^d pins at most d pairs stand one above another
-pub depth-division : (d limit first : ℕ) (ps : List Pin) → length ps ≤ 2 ^ d → HasDistinctIds ps
+pub depth-division : (d limit first : ℕ) (ps : List Pin) → length ps ≤ 2 ^ d → AreApart ps
     → depth (division limit first ps) ≤ d
 unfolding division depth
 depth-division d limit first [] fits distinct = omega arith
@@ -146,7 +146,7 @@ depth-division (suc d) (suc limit) first (p ∷ q ∷ ps) fits distinct =
     )
 
 -- it is divided by the rule
-pub IsDivided-division : (limit first : ℕ) (ps : List Pin) → 0 < length ps → length ps ≤ limit → HasDistinctIds ps
+pub IsDivided-division : (limit first : ℕ) (ps : List Pin) → 0 < length ps → length ps ≤ limit → AreApart ps
     → IsDivided ps (division limit first ps)
 unfolding division IsDivided
 IsDivided-division limit first [] some fits distinct = absurd (omega arith)

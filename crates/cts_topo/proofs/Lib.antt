@@ -1,6 +1,7 @@
 pub mod Shuffles
 pub mod Orders
 pub mod Ranks
+pub mod Apart
 pub mod Extents
 pub mod Parts
 pub mod Sorted

@@ -5,49 +5,12 @@ use Rattle.std.proofs.lemmas.List.Sums.{sum_by-take-drop}
 use Rattle.std.proofs.lemmas.List.Elements.{filter_agree}
 use Rattle.std.proofs.lemmas.Bool.Decides.{nat_tests}
 use Rattle.cts_topo.specs.declared.pin.Pin.{Pin}
-use Rattle.cts_topo.specs.Pins.{HasDistinctIds}
+use Rattle.cts_topo.proofs.Apart.{AreApart, apart_tail, first_apart}
 use Rattle.cts_topo.specs.Topology.{is_before, is_wide, is_early, left_size, left_part, right_part}
 use Rattle.cts_topo.proofs.Shuffles.{Shuffled, length-Shuffled, sum_by-Shuffled, filter-Shuffled}
 use Rattle.cts_topo.proofs.Orders.{pins_weak, is_before-trans, ids_of_ties}
 use Rattle.cts_topo.proofs.Ranks.{Rises, rank_of, split_by_rank, count_by-cons}
 use Rattle.cts_topo.proofs.Extents.{is_wide-Shuffled}
-
--- distinct ids: of another order, of a front, of the rest
-pub distinct-Shuffled : {ps qs : List Pin} → Shuffled ps qs → HasDistinctIds ps → HasDistinctIds qs
-distinct-Shuffled s h = record {
-  at_most_one = λ id. subst (λ n. n ≤ 1) (sum_by-Shuffled (λ p. cond (p.id == id) 1 0) s) (h.at_most_one id);
-}
-
-pub distinct-take : (ps : List Pin) (k : ℕ) → HasDistinctIds ps → HasDistinctIds (take k ps)
-distinct-take ps k h = record {
-  at_most_one = λ id. omega (arith, h.at_most_one id, sum_by-take-drop (λ p. cond (p.id == id) 1 0) ps k);
-}
-
-pub distinct-drop : (ps : List Pin) (k : ℕ) → HasDistinctIds ps → HasDistinctIds (drop k ps)
-distinct-drop ps k h = record {
-  at_most_one = λ id. omega (arith, h.at_most_one id, sum_by-take-drop (λ p. cond (p.id == id) 1 0) ps k);
-}
-
-pub distinct-tail : (p : Pin) (ps : List Pin) → HasDistinctIds (p ∷ ps) → HasDistinctIds ps
-distinct-tail p ps h = record {
-  at_most_one = λ id. omega (arith, h.at_most_one id, count_by-cons (λ q. q.id == id) p ps);
-}
-
-nobody : (id : ℕ) (ps : List Pin) → count_by (λ q. q.id == id) ps ≡ 0 → AllByRecursion (λ q. q.id ≢ id) ps
-nobody id [] h = tt
-nobody id (p ∷ ps) h =
-    let here : cond (p.id == id) 1 0 + count_by (λ q. q.id == id) ps ≡ 0 = sym (count_by-cons (λ q. q.id == id) p ps) ∙ h in
-    (grind (arith, nat_tests), nobody id ps (omega arith))
-
--- no later pin has the first one's id
-pub first_apart : (p : Pin) (ps : List Pin) → HasDistinctIds (p ∷ ps) → AllByRecursion (λ q. q.id ≢ p.id) ps
-first_apart p ps h =
-    let itself : (p.id == p.id) ≡ true = grind (arith, nat_tests) in
-    let count : cond (p.id == p.id) 1 0 + count_by (λ q. q.id == p.id) ps ≤ 1 =
-    subst (λ n. n ≤ 1) (count_by-cons (λ q. q.id == p.id) p ps) (h.at_most_one p.id) in
-    let more : 1 + count_by (λ q. q.id == p.id) ps ≤ 1 =
-    subst (λ b. cond b 1 0 + count_by (λ q. q.id == p.id) ps ≤ 1) itself count in
-    nobody p.id ps (omega arith)
 
 -- pins with different ids: one is before the other
 pub one_before : (wide : Bool) (p q : Pin) → q.id ≢ p.id → is_before wide q p ≡ false → is_before wide p q ≡ true
@@ -63,7 +26,7 @@ before_all wide p q [] h all = tt
 before_all wide p q (r ∷ ps) h all = (is_before-trans wide p q r h (all.0), before_all wide p q ps h (all.1))
 
 -- what is sorted, with distinct ids, rises strictly
-pub rises_of : (wide : Bool) (ps : List Pin) → IsSortedBy (is_before wide) ps → HasDistinctIds ps
+pub rises_of : (wide : Bool) (ps : List Pin) → IsSortedBy (is_before wide) ps → AreApart ps
     → Rises (is_before wide) ps
 unfolding Rises
 rises_of wide [] sorted h = tt
@@ -77,7 +40,7 @@ rises_of wide (p ∷ q ∷ ps) sorted h =
     (λ k d u w. let step : suc k + 1 ≡ suc (k + 1) = omega arith in
     ap (λ i. is_before wide (get_or (p ∷ q ∷ ps) i d) (get_or (q ∷ ps) k d)) (sym step)
     ∙ sorted (suc k) d (omega arith) (omega arith))
-    (distinct-tail p (q ∷ ps) h) in
+    (apart_tail p (q ∷ ps) h) in
     ((first, before_all wide p q ps first (rest.0)), rest)
 
 -- half of a count, rounded up, and what is left

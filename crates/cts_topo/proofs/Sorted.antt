@@ -4,11 +4,11 @@ use Rattle.std.proofs.Common.{◌≡◌, ◌≢◌, ℕ, ◌+◌, ◌≤◌, Boo
 use Rattle.std.specs.List.{AllByRecursion}
 use Rattle.std.proofs.lemmas.List.{length-take-le}
 use Rattle.cts_topo.specs.declared.pin.Pin.{Pin}
-use Rattle.cts_topo.specs.Pins.{HasDistinctIds}
+use Rattle.cts_topo.proofs.Apart.{AreApart, apart_tail, first_apart, apart-Shuffled, apart-take, apart-drop}
 use Rattle.cts_topo.specs.Topology.{is_before, is_wide, left_size, left_part, right_part}
 use Rattle.cts_topo.proofs.Shuffles.{Shuffled, same, skip, turn, chain, turned_round, length-Shuffled}
 use Rattle.cts_topo.proofs.Ranks.{Rises}
-use Rattle.cts_topo.proofs.Parts.{distinct-Shuffled, distinct-tail, distinct-take, distinct-drop, first_apart, one_before, before_all, left_size_le, parts_of_sorted}
+use Rattle.cts_topo.proofs.Parts.{one_before, before_all, left_size_le, parts_of_sorted}
 
 -- the same pins in an order in which they rise strictly
 pub record Sorting (wide : Bool) (ps : List Pin) : Type 0 where
@@ -52,34 +52,34 @@ module _ (wide : Bool) where
             (all_placed (λ r. is_before wide q r ≡ true) p qs first (rises.0), place_in-Rises p qs (apart.1) (rises.1))
       ] refl
 
-  pub sorting_of : (ps : List Pin) → HasDistinctIds ps → Sorting wide ps
+  pub sorting_of : (ps : List Pin) → AreApart ps → Sorting wide ps
   unfolding Rises
   sorting_of [] h = record { sorted = []; order = same; rises = tt }
   sorting_of (p ∷ ps) h =
-      let s : Sorting wide ps = sorting_of ps (distinct-tail p ps h) in
+      let s : Sorting wide ps = sorting_of ps (apart_tail p ps h) in
       record {
         sorted = place_in p s.sorted;
         order = chain (skip s.order) (place_in-Shuffled p s.sorted);
-        rises = place_in-Rises p s.sorted (first_apart p s.sorted (distinct-Shuffled (skip s.order) h)) s.rises;
+        rises = place_in-Rises p s.sorted (first_apart p s.sorted (apart-Shuffled (skip s.order) h)) s.rises;
       }
 
 -- what is known of the parts of pins with distinct ids
 pub record Halves (ps : List Pin) : Type 0 where
   pub left_long : length (left_part ps) ≡ left_size (length ps)
   pub right_long : length (right_part ps) + left_size (length ps) ≡ length ps
-  pub left_distinct : HasDistinctIds (left_part ps)
-  pub right_distinct : HasDistinctIds (right_part ps)
+  pub left_distinct : AreApart (left_part ps)
+  pub right_distinct : AreApart (right_part ps)
 
-pub halves_of : (ps : List Pin) → HasDistinctIds ps → Halves ps
+pub halves_of : (ps : List Pin) → AreApart ps → Halves ps
 halves_of ps h =
     let s : Sorting (is_wide ps) ps = sorting_of (is_wide ps) ps h in
     let parts = parts_of_sorted ps s.sorted s.order s.rises in
     let half : ℕ = left_size (length ps) in
     let fits : half ≤ length s.sorted = omega (arith, left_size_le (length ps), length-Shuffled s.order) in
-    let distinct : HasDistinctIds s.sorted = distinct-Shuffled s.order h in
+    let distinct : AreApart s.sorted = apart-Shuffled s.order h in
     record {
       left_long = length-Shuffled (parts.0) ∙ length-take-le half s.sorted fits;
       right_long = omega (arith, length-Shuffled (parts.1), length-drop half s.sorted, length-Shuffled s.order, fits);
-      left_distinct = distinct-Shuffled (turned_round (parts.0)) (distinct-take s.sorted half distinct);
-      right_distinct = distinct-Shuffled (turned_round (parts.1)) (distinct-drop s.sorted half distinct);
+      left_distinct = apart-Shuffled (turned_round (parts.0)) (apart-take s.sorted half distinct);
+      right_distinct = apart-Shuffled (turned_round (parts.1)) (apart-drop s.sorted half distinct);
     }

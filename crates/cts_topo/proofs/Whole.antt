@@ -14,7 +14,7 @@ use Rattle.cts_topo.specs.declared.pin.Pin.{Pin}
 use Rattle.cts_topo.specs.Shape.{children, leaf_sinks, IsShapeOver}
 use Rattle.cts_topo.specs.Sinks.{AreSinks}
 use Rattle.cts_topo.specs.Laws.{IsDivided, ShapesAreDivided, ShapesNameEachSink, ShapesAreShallow}
-use Rattle.cts_topo.specs.Pins.{HasDistinctIds}
+use Rattle.cts_topo.proofs.Apart.{AreApart}
 use Rattle.cts_topo.specs.Topology.{pins_from, division, topology_of, shape_of}
 use Rattle.cts_topo.proofs.Shuffles.{Shuffled, same, skip, turn, chain, sum_by-Shuffled}
 use Rattle.cts_topo.proofs.Ranks.{count_by-cons}
@@ -61,7 +61,7 @@ module _ (sinks : List Sink) (are : AreSinks sinks) where
   pins_some : 0 < length (pins_from 0 sinks)
   pins_some = omega (arith, length-pins_from 0 sinks, are.some)
 
-  pins_apart : HasDistinctIds (pins_from 0 sinks)
+  pins_apart : AreApart (pins_from 0 sinks)
   pins_apart = distinct_pins 0 sinks are.distinct
 
   numbered : IsNumbered children 0 (topology_of sinks)

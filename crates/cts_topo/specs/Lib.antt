@@ -1,7 +1,7 @@
 pub mod Shape
 pub mod Sinks
-pub mod Pins
 pub mod Topology
 pub mod Laws
+pub use Rattle.cts_units.specs.Ids
 pub use Rattle.cts_postorder.specs.BinaryTree
 pub use Rattle.cts_postorder.specs.PostOrder

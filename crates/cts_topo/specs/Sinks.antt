@@ -1,6 +1,7 @@
 -- The sinks that a topology is made for.
-use Rattle.std.specs.Prelude.{◌≢◌, ◌^◌, ◌<◌, ◌≤◌, ◌≤ℤ◌, pos, List, length, All, AllPairs}
+use Rattle.std.specs.Prelude.{◌^◌, ◌<◌, ◌≤◌, ◌≤ℤ◌, pos, List, length, All}
 use Rattle.cts_units.specs.declared.params.Sink.{Sink}
+use Rattle.cts_units.specs.Ids.{HasDistinctIds}
 
 -- a sink's coordinates are from 0 to 10^8 nm
 pub record IsPlaced (sink : Sink) : Type 0 where
@@ -14,4 +15,4 @@ pub record AreSinks (sinks : List Sink) : Type 0 where
   pub some : 0 < length sinks
   pub few : length sinks ≤ 65536
   pub placed : All IsPlaced sinks
-  pub distinct : AllPairs (λ a b. a.id ≢ b.id) sinks
+  pub distinct : HasDistinctIds (λ s. s.id) sinks

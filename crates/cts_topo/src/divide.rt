@@ -2,8 +2,8 @@
 
 ghost use Rattle.std.specs.Prelude.{◌≡◌, ℕ, ◌+◌, ◌*◌, ◌^◌, ◌<◌, ◌≤◌, ◌++◌, length, vec_len, OnOk, IfOk};
 ghost use Rattle.std.specs.List.Sorted.{IsPermutation, IsSortedBy};
+ghost use Rattle.cts_units.specs.Ids.{HasDistinctIds};
 ghost use Rattle.cts_postorder.specs.BinaryTree.{labels};
-ghost use Rattle.cts_topo.specs.Pins.{HasDistinctIds};
 ghost use Rattle.cts_topo.specs.Shape.{IsShapeOver};
 ghost use Rattle.cts_topo.specs.Sinks.{AreSinks, IsPlaced};
 ghost use Rattle.cts_topo.specs.Topology.{is_before, division, pins_from, shape_of};
@@ -63,7 +63,7 @@ fn pin_of(sink: &Sink, place: usize) -> Pin
 /// Appends the nodes of the tree over these pins, and leaves the pins in another order.
 fn divide(pins: &mut [Pin], nodes: &mut Vec<ShapeNode>) -> Result<(), NoMemory>
     requires some { 0 < length pins.old }
-    requires distinct { HasDistinctIds pins.old }
+    requires distinct { HasDistinctIds (λ p. p.id) pins.old }
     requires room { vec_len nodes.old + 2 * length pins.old ≤ 2 ^ 32 }
     ensures count { OnOk result (vec_len nodes.new + 1 ≡ vec_len nodes.old + 2 * length pins.old) }
     ensures nodes { OnOk result ((limit : ℕ) → length pins.old ≤ limit

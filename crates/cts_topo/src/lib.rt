@@ -6,10 +6,9 @@
 #![tactic(auto)]
 
 mod divide;
-mod laws;
+pub mod laws;
 mod pin;
 mod shape;
 
 pub use divide::topology;
-pub use laws::{shapes_are_divided, shapes_are_shallow, shapes_have_counts, shapes_name_each_sink};
 pub use shape::{Shape, ShapeNode};

@@ -1,8 +1,21 @@
--- The limits within which the electrical parameters of an instance lie.
-use Rattle.std.specs.Prelude.{◌^◌, ◌<◌, ◌≤◌, length, All}
+-- The limits of a tree, and those within which the electrical parameters of an instance lie. A value that is equal to its
+-- limit is within it.
+use Rattle.std.specs.Prelude.{ℕ, ◌-◌, ◌^◌, ◌<◌, ◌≤◌, length, All}
 use Rattle.cts_units.specs.declared.params.Wire.{Wire}
 use Rattle.cts_units.specs.declared.params.Buffer.{Buffer}
 use Rattle.cts_units.specs.declared.params.Params.{Params}
+
+-- the greatest length of one wire, in nm
+abbrev pub max_length : ℕ
+max_length = 2 ^ 31 - 1
+
+-- the greatest load at one point, in zF
+abbrev pub max_load : ℕ
+max_load = 2 ^ 56
+
+-- the greatest doubled delay, in 10^-27 s
+abbrev pub max_delay : ℕ
+max_delay = 2 ^ 104
 
 -- a wire's resistance and capacitance per nm are from 1 to 10^6 each
 pub record IsWire (wire : Wire) : Type 0 where

@@ -1,8 +1,8 @@
 //! The choice of a buffer from the library.
 
-ghost use Rattle.std.specs.Prelude.{◌≡◌, ◌^◌, ◌≤◌, [], length, vec_len, All, MatchOption};
+ghost use Rattle.std.specs.Prelude.{◌≡◌, ◌≤◌, [], length, vec_len, All, MatchOption};
 ghost use Rattle.cts_units.specs.Choice.{IsBufferChoice, IsLeastBuffer};
-ghost use Rattle.cts_units.specs.Limits.{IsBuffer, IsParams};
+ghost use Rattle.cts_units.specs.Limits.{IsBuffer, IsParams, max_load};
 
 use crate::delay::buffer_delay;
 use crate::params::{Buffer, Params};
@@ -13,7 +13,7 @@ use crate::params::{Buffer, Params};
 /// `None` exactly where the load is at most the insertion threshold or the library is empty.
 pub fn choose_buffer(params: &Params, load: u64) -> Option<u16>
     requires params { IsParams params.now }
-    requires load { load ≤ 2 ^ 56 }
+    requires load { load ≤ max_load }
     ensures { IsBufferChoice params.now load result }
 {
     if load <= params.insert_at {
@@ -26,7 +26,7 @@ pub fn choose_buffer(params: &Params, load: u64) -> Option<u16>
 fn least_buffer(buffers: &[Buffer], load: u64) -> Option<u16>
     requires count { length buffers.now ≤ 16 }
     requires buffers { All IsBuffer buffers.now }
-    requires load { load ≤ 2 ^ 56 }
+    requires load { load ≤ max_load }
     ensures { MatchOption result (buffers.now ≡ []) (IsLeastBuffer buffers.now load) }
 {
     let first = buffers.first()?;
@@ -52,7 +52,7 @@ mod tests {
     fn choice_of(buffers: Vec<Buffer>, load: u64) -> Option<u16>
         requires count { vec_len buffers ≤ 16 }
         requires buffers { All IsBuffer buffers.items }
-        requires load { load ≤ 2 ^ 56 }
+        requires load { load ≤ max_load }
     {
         let params = Params {
             wire: Wire { r: 1, c: 1 },

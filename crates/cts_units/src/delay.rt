@@ -2,7 +2,7 @@
 
 ghost use Rattle.std.specs.Prelude.{◌≡◌, ◌+◌, ◌*◌, ◌^◌, ◌<◌, ◌≤◌};
 ghost use Rattle.cts_units.specs.Delay.{wire_delay_of, buffer_delay_of, slew_of};
-ghost use Rattle.cts_units.specs.Limits.{IsWire, IsBuffer};
+ghost use Rattle.cts_units.specs.Limits.{IsWire, IsBuffer, max_load};
 
 use crate::params::{Buffer, Wire};
 
@@ -13,7 +13,7 @@ use crate::params::{Buffer, Wire};
 pub fn wire_delay(wire: Wire, length: u64, load: u64) -> u128
     requires wire { IsWire wire }
     requires length { length ≤ 2 ^ 32 }
-    requires load { load ≤ 2 ^ 56 }
+    requires load { load ≤ max_load }
     ensures value { result ≡ wire_delay_of wire.r wire.c length load }
     ensures bound { result ≤ 2 ^ 110 }
 {
@@ -25,7 +25,7 @@ fn wide_delay(r: u128, c: u128, length: u128, load: u128) -> u128
     requires r { r ≤ 10 ^ 6 }
     requires c { c ≤ 10 ^ 6 }
     requires length { length ≤ 2 ^ 32 }
-    requires load { load ≤ 2 ^ 56 }
+    requires load { load ≤ max_load }
     ensures value { result ≡ wire_delay_of r c length load }
     ensures bound { result ≤ 2 ^ 110 }
 {
@@ -37,7 +37,7 @@ fn wide_delay(r: u128, c: u128, length: u128, load: u128) -> u128
 #[tactic(auto, unfolding(crate::specs::Delay::buffer_delay_of))]
 pub fn buffer_delay(buffer: Buffer, load: u64) -> u128
     requires buffer { IsBuffer buffer }
-    requires load { load ≤ 2 ^ 56 }
+    requires load { load ≤ max_load }
     ensures value { result ≡ buffer_delay_of buffer load }
     ensures bound { result ≤ 2 ^ 118 }
 {
@@ -48,7 +48,7 @@ pub fn buffer_delay(buffer: Buffer, load: u64) -> u128
 fn wide_buffer_delay(intrinsic: u128, resistance: u128, load: u128) -> u128
     requires intrinsic { intrinsic < 10 ^ 18 }
     requires resistance { resistance < 10 ^ 18 }
-    requires load { load ≤ 2 ^ 56 }
+    requires load { load ≤ max_load }
     ensures value { result ≡ 2 * intrinsic + 2 * resistance * load }
     ensures bound { result ≤ 2 ^ 118 }
 {

@@ -1,6 +1,6 @@
 //! What a clock instance says of sinks, wires and buffers.
 
-use std::marker::Model;
+use cts_list::Items;
 
 /// A sink: a clock pin that the tree must reach.
 #[derive(Clone, Copy)]
@@ -36,37 +36,7 @@ pub struct Buffer {
 }
 
 /// The buffers that a tree may use, named by their index from 0.
-#[derive(Drop)]
-pub struct Library {
-    buffers: Vec<Buffer>,
-}
-
-impl Model for Library {
-    ghost use Rattle.std.specs.Prelude.{List};
-    ghost use Rattle.cts_units.specs.declared.params.Buffer.{Buffer};
-
-    ghost Value = { List Buffer };
-
-    ghost view = { λ library. library.buffers.items };
-}
-
-impl Library {
-    ghost use Rattle.std.specs.Prelude.{◌≡◌};
-
-    /// A library of these buffers, in this order.
-    pub fn of(items: Vec<Buffer>) -> Library
-        ensures { result ≡ items.items }
-    {
-        Library { buffers: items }
-    }
-
-    /// The buffers in order.
-    pub fn items(&self) -> &[Buffer]
-        ensures { result.now ≡ self.now }
-    {
-        self.buffers.as_slice()
-    }
-}
+pub type Library = Items<Buffer>;
 
 /// The electrical parameters of an instance.
 #[derive(Drop)]
@@ -77,25 +47,4 @@ pub struct Params {
     pub library: Library,
     /// The insertion threshold in zF, below 10^18: a pair whose load is above it takes a buffer.
     pub insert_at: u64,
-}
-
-#[cfg(test)]
-mod tests {
-    use super::{Buffer, Library};
-    use std::test::Fail;
-
-    #[test]
-    fn library_lends_its_buffers(rt: HostRuntime) -> Result<(), Fail> {
-        let mut buffers = Vec::new(rt.alloc());
-        buffers.push(Buffer {
-            cin: 35,
-            rout: 61,
-            intrinsic: 24,
-        })?;
-        let library = Library::of(buffers);
-        let lent = library.items();
-        assert_eq!(rt; lent.len(), 1);
-        assert_eq!(rt; lent[0].rout, 61);
-        Ok(())
-    }
 }

@@ -2,7 +2,6 @@
 use Rattle.std.proofs.Common.{◌≡◌, ℕ, ◌+◌, ◌<◌, ◌++◌, ◌∷◌, [], List, take, length, get_or, Option, Some, MatchOption, Result, Ok, Err, IfOk, IfErr, sym, ap, subst, arith}
 use Rattle.std.specs.List.{AllZip}
 use Rattle.std.proofs.lemmas.Option.{slice_get-get_or}
-use Rattle.cts_geom.specs.Regions.{IsRegionInRange}
 use Rattle.cts_units.specs.declared.params.Sink.{Sink}
 use Rattle.cts_units.specs.declared.params.Params.{Params}
 use Rattle.cts_units.specs.Limits.{IsParams}
@@ -15,7 +14,7 @@ use Rattle.cts_topo.specs.Shape.{children, IsShapeOver}
 use Rattle.cts_topo.proofs.Counts.{leaf_within}
 use Rattle.cts_merge.specs.declared.side.Finished.{Finished}
 use Rattle.cts_merge.specs.declared.side.Beyond.{Beyond}
-use Rattle.cts_merge.specs.Side.{IsSideInRange}
+use Rattle.cts_merge.specs.Side.{IsMergeable}
 use Rattle.cts_merge.specs.Merge.{IsLeaf, IsMerged, IsBeyond}
 use Rattle.cts_up.specs.Sinks.{AreSinksInRange}
 use Rattle.cts_up.specs.Plan.{sink_of, IsFinished, IsBeyondPair, IsLeastBeyond}
@@ -52,12 +51,12 @@ module _ (params : Params) (sinks : List Sink) (nodes : List ShapeNode) (ok : Is
     right_within = omega (arith, long, pair.right_below)
 
     pub left_ready : (a d : Finished) → a ≡ get_or plan left d → IsParams params → AreSinksInRange sinks
-        → IsSideInRange a.side × IsRegionInRange a.side.region
+        → IsMergeable a.side
     left_ready a d read ranged are =
         sides_merge params sinks pair.left a (subst (IsFinished params sinks pair.left) (sym read) (pair.left_value d)) ranged are
 
     pub right_ready : (b d : Finished) → b ≡ get_or plan right d → IsParams params → AreSinksInRange sinks
-        → IsSideInRange b.side × IsRegionInRange b.side.region
+        → IsMergeable b.side
     right_ready b d read ranged are =
         sides_merge params sinks pair.right b (subst (IsFinished params sinks pair.right) (sym read) (pair.right_value d)) ranged are
 

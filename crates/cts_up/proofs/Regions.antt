@@ -1,5 +1,5 @@
 -- Where the regions of finished trees lie.
-use Rattle.std.proofs.Common.{ℤ, pos, List, ap, inl, subst, sym, ◌∙◌, arith}
+use Rattle.std.proofs.Common.{ℤ, pos, ◌*ℤ◌, List, ap, inl, subst, sym, ◌∙◌, arith}
 use Rattle.std.specs.List.{All}
 use Rattle.std.proofs.lemmas.Int.{ints}
 use Rattle.cts_geom.specs.declared.points.Spot.{Spot}
@@ -12,9 +12,9 @@ use Rattle.cts_postorder.specs.BinaryTree.{tip, fork}
 use Rattle.cts_merge.specs.declared.side.Finished.{Finished}
 use Rattle.cts_merge.specs.Merge.{IsLeaf}
 use Rattle.cts_merge.proofs.Tight.{merging_segment, merging_in_box}
-use Rattle.cts_up.specs.Sinks.{IsSinkInRange, AreSinksInRange}
+use Rattle.cts_up.specs.Sinks.{IsSinkInRange, AreSinksInRange, IsOnDie}
 use Rattle.cts_up.specs.Plan.{IsFinished}
-use Rattle.cts_up.specs.Laws.{RegionsAreSegments, RegionsLieInBox, RegionsAreSmall}
+use Rattle.cts_up.specs.Laws.{RegionsAreSegments, RegionsLieInBox, RegionsLieInDie, RegionsAreSmall}
 use Rattle.cts_up.proofs.Leaves.{LeafOf, leaf_of, sink_has}
 
 leaf_segment : (sink : Sink) (f : Finished) → IsLeaf sink f → IsSegment f.side.region
@@ -47,6 +47,21 @@ regions_in_box params sinks (tip n) f p x1 x2 y1 y2 all =
 regions_in_box params sinks (fork l r n) f p x1 x2 y1 y2 all =
     merging_in_box params p.0.side p.1.side f p.4 x1 x2 y1 y2
     (regions_in_box params sinks l p.0 p.2 x1 x2 y1 y2 all) (regions_in_box params sinks r p.1 p.3 x1 x2 y1 y2 all)
+
+pub regions_in_die : RegionsLieInDie
+regions_in_die params sinks t f p die all =
+    let west : ℤ = pos 2 *ℤ die.x1 in
+    let east : ℤ = pos 2 *ℤ die.x2 in
+    let south : ℤ = pos 2 *ℤ die.y1 in
+    let north : ℤ = pos 2 *ℤ die.y2 in
+    regions_in_box params sinks t f p west east south north (λ k d h.
+    let s : IsOnDie die _ = all k d h in
+    record {
+      left = omega (arith, ints, s.west);
+      right = omega (arith, ints, s.east);
+      bottom = omega (arith, ints, s.south);
+      top = omega (arith, ints, s.north);
+    })
 
 -- the greatest coordinate of a chip, in half nm
 abbrev far : ℤ

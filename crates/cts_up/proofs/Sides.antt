@@ -23,7 +23,7 @@ use Rattle.cts_up.proofs.Leaves.{LeafOf, leaf_of, sink_has}
 use Rattle.cts_up.proofs.Regions.{regions_small}
 
 -- the load that is seen of a node is within the limit where its own is
-seen_within : (params : Params) (buffer : Option ℕ) (load : ℕ) → IsParams params → load ≤ 2 ^ 56
+pub seen_within : (params : Params) (buffer : Option ℕ) (load : ℕ) → IsParams params → load ≤ 2 ^ 56
     → seen_load_of params.library buffer load ≤ 2 ^ 56
 seen_within params None load ok h = h
 seen_within params (Some index) load ok h = by_buffer (slice_get params.library index) refl
@@ -65,4 +65,7 @@ region_in_range r small = record {
 
 pub sides_merge : SidesCanBeMerged
 sides_merge params sinks t f p ok are =
-    (sides_in_range params sinks t f p ok are, region_in_range f.side.region (regions_small params sinks t f p are))
+    record {
+      numbers = sides_in_range params sinks t f p ok are;
+      region = region_in_range f.side.region (regions_small params sinks t f p are);
+    }

@@ -1,8 +1,8 @@
 -- What holds of every plan.
-use Rattle.std.specs.Prelude.{◌≡◌, ℕ, ◌^◌, ◌⊎◌, ℤ, pos, neg_ℤ, ◌<ℤ◌, List, length, All}
+use Rattle.std.specs.Prelude.{◌≡◌, ℕ, ◌^◌, ◌⊎◌, ℤ, pos, neg_ℤ, ◌<ℤ◌, ◌*ℤ◌, List, length, All}
+use Rattle.cts_geom.specs.declared.bounds.Die.{Die}
 use Rattle.cts_geom.specs.declared.regions.Region.{Region}
 use Rattle.cts_geom.specs.Points.{point_of, spot_at}
-use Rattle.cts_geom.specs.Regions.{IsRegionInRange}
 use Rattle.cts_geom.specs.RegionLaws.{IsBoxed, IsInBox, IsSegment}
 use Rattle.cts_units.specs.declared.params.Sink.{Sink}
 use Rattle.cts_units.specs.declared.params.Params.{Params}
@@ -11,8 +11,8 @@ use Rattle.cts_postorder.specs.BinaryTree.{BinaryTree}
 use Rattle.cts_topo.specs.declared.shape.ShapeNode.{ShapeNode}
 use Rattle.cts_topo.specs.Shape.{IsShapeOver}
 use Rattle.cts_merge.specs.declared.side.Finished.{Finished}
-use Rattle.cts_merge.specs.Side.{IsSideInRange}
-use Rattle.cts_up.specs.Sinks.{AreSinksInRange}
+use Rattle.cts_merge.specs.Side.{IsMergeable}
+use Rattle.cts_up.specs.Sinks.{AreSinksInRange, IsOnDie}
 use Rattle.cts_up.specs.Plan.{IsFinished, IsPlan, IsLeastBeyond}
 
 -- a tree is made of one thing alone
@@ -57,6 +57,14 @@ RegionsLieInBox =
     → (x1 x2 y1 y2 : ℤ) → All (λ sink. IsInBox x1 x2 y1 y2 (point_of (spot_at sink.x sink.y))) sinks
     → IsBoxed x1 x2 y1 y2 f.side.region
 
+-- every point of every region over sinks of a die lies in that die or on its edges; the nm of the die are doubled, since
+-- points are in half nm
+abbrev pub RegionsLieInDie : Type 0
+RegionsLieInDie =
+    (params : Params) (sinks : List Sink) (t : BinaryTree ShapeNode) (f : Finished) → IsFinished params sinks t f
+    → (die : Die) → All (IsOnDie die) sinks
+    → IsBoxed (pos 2 *ℤ die.x1) (pos 2 *ℤ die.x2) (pos 2 *ℤ die.y1) (pos 2 *ℤ die.y2) f.side.region
+
 -- below 2^32 in size
 pub record IsSmall (z : ℤ) : Type 0 where
   pub low : neg_ℤ (pos (2 ^ 32)) <ℤ z
@@ -78,4 +86,4 @@ RegionsAreSmall =
 abbrev pub SidesCanBeMerged : Type 0
 SidesCanBeMerged =
     (params : Params) (sinks : List Sink) (t : BinaryTree ShapeNode) (f : Finished) → IsFinished params sinks t f
-    → IsParams params → AreSinksInRange sinks → IsSideInRange f.side × IsRegionInRange f.side.region
+    → IsParams params → AreSinksInRange sinks → IsMergeable f.side

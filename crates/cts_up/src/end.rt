@@ -2,14 +2,17 @@
 
 use cts_num::NoMemory;
 use std::alloc::{AllocError, AllocFailed};
+use thiserror::Error;
 
 /// Why the upward pass gives no plan.
-#[derive(Clone, Copy, Debug, PartialEq, Eq)]
+#[derive(Clone, Copy, Debug, PartialEq, Eq, Error)]
 pub enum UpEnd {
     /// The least number of a node that is over the limits of wires, loads or delays, and whose two
     /// children are finished.
+    #[error("beyond the limits at node {node}")]
     Beyond { node: u32 },
     /// Memory ran out.
+    #[error("no memory")]
     NoMemory,
 }
 

@@ -1,4 +1,4 @@
-//! What the definition of a plan says, as laws: each is the contract of a function that does nothing.
+//! What the words of the contracts mean, as laws: each is the contract of a function that does nothing.
 
 ghost use Rattle.cts_up.specs.Laws.{
   FinishedIsOne,
@@ -8,6 +8,7 @@ ghost use Rattle.cts_up.specs.Laws.{
   ShapesHavePlans,
   RegionsAreSegments,
   RegionsLieInBox,
+  RegionsLieInDie,
   RegionsAreSmall,
   SidesCanBeMerged,
 };
@@ -46,6 +47,11 @@ pub fn regions_are_segments()
 /// paths between points of its two parts, or in one of them.
 pub fn regions_lie_in_box()
     ensures { RegionsLieInBox }
+{}
+
+/// Every point of every region over sinks of a die lies in the closed die.
+pub fn regions_lie_in_die()
+    ensures { RegionsLieInDie }
 {}
 
 /// The coordinates u and v of every region over sinks of a die are below 2^32 nm in size.

@@ -1,5 +1,7 @@
+//! Worked balances.
+
 ghost use Rattle.std.specs.Prelude.{◌^◌, ◌≤◌};
-ghost use Rattle.cts_units.specs.Limits.{IsParams};
+ghost use Rattle.cts_units.specs.Limits.{IsParams, max_delay, max_load};
 ghost use Rattle.cts_merge.specs.Side.{IsSideInRange};
 
 use super::*;
@@ -9,8 +11,8 @@ use std::alloc::Global;
 
 /// A side whose region has no part in a balance.
 fn side(greatest: u128, load: u64) -> Side
-    requires greatest { greatest ≤ 2 ^ 104 }
-    requires load { load ≤ 2 ^ 56 }
+    requires greatest { greatest ≤ max_delay }
+    requires load { load ≤ max_load }
     ensures { IsSideInRange result }
 {
     Side {

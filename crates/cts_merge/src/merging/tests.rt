@@ -1,7 +1,8 @@
+//! Worked merges.
+
 ghost use Rattle.std.specs.Prelude.{◌≡◌, ◌^◌, ◌<◌, ◌≤◌, pos, ◌≤ℤ◌, IfOk};
-ghost use Rattle.cts_geom.specs.Regions.{IsRegionInRange};
-ghost use Rattle.cts_units.specs.Limits.{IsParams};
-ghost use Rattle.cts_merge.specs.Side.{IsSideInRange};
+ghost use Rattle.cts_units.specs.Limits.{IsParams, max_delay, max_load};
+ghost use Rattle.cts_merge.specs.Side.{IsMergeable, IsSideInRange};
 
 use super::*;
 use cts_units::{Buffer, Library};
@@ -13,14 +14,13 @@ use std::test::Fail;
 
 /// A side of one point, in nm.
 fn side(greatest: u128, load: u64, x: i64, y: i64) -> Side
-    requires greatest { greatest ≤ 2 ^ 104 }
-    requires load { load ≤ 2 ^ 56 }
+    requires greatest { greatest ≤ max_delay }
+    requires load { load ≤ max_load }
     requires x_low { pos 0 ≤ℤ x }
     requires x_high { x ≤ℤ pos (10 ^ 8) }
     requires y_low { pos 0 ≤ℤ y }
     requires y_high { y ≤ℤ pos (10 ^ 8) }
-    ensures in_range { IsSideInRange result }
-    ensures region { IsRegionInRange result.region }
+    ensures { IsMergeable result }
 {
     Side {
         greatest,
@@ -39,10 +39,8 @@ fn counted<L: Ledger>(blank: Blank, params: &Params, a: &Side, b: &Side) -> Resu
     requires parts { blank.parts ≡ L.parts }
     requires some { 0 < L.parts }
     requires params { IsParams params.now }
-    requires a { IsSideInRange a.now }
-    requires b { IsSideInRange b.now }
-    requires a_region { IsRegionInRange a.now.region }
-    requires b_region { IsRegionInRange b.now.region }
+    requires a { IsMergeable a.now }
+    requires b { IsMergeable b.now }
     ensures in_range { IfOk result (λ pair. IsSideInRange pair.side) }
 {
     let mut steps = Steps::<L>::open(blank);
@@ -52,10 +50,8 @@ fn counted<L: Ledger>(blank: Blank, params: &Params, a: &Side, b: &Side) -> Resu
 /// The pair of two sides, whose merge nobody counts.
 fn pair(params: &Params, a: &Side, b: &Side) -> Result<Finished, Beyond>
     requires params { IsParams params.now }
-    requires a { IsSideInRange a.now }
-    requires b { IsSideInRange b.now }
-    requires a_region { IsRegionInRange a.now.region }
-    requires b_region { IsRegionInRange b.now.region }
+    requires a { IsMergeable a.now }
+    requires b { IsMergeable b.now }
     ensures in_range { IfOk result (λ pair. IsSideInRange pair.side) }
 {
     counted::<Brand>(Blank::new(1), params, a, b)
@@ -80,10 +76,8 @@ fn bare(alloc: Global, r: u64, c: u64) -> Params
 /// or with `None` for beyond.
 fn compare(rt: &impl Abort, params: &Params, a: Side, b: Side, want: Option<(u64, u64, u64, u128)>)
     requires params { IsParams params.now }
-    requires a { IsSideInRange a }
-    requires b { IsSideInRange b }
-    requires a_region { IsRegionInRange a.region }
-    requires b_region { IsRegionInRange b.region }
+    requires a { IsMergeable a }
+    requires b { IsMergeable b }
 {
     let got = match pair(params, &a, &b) {
         Ok(pair) => Some((pair.ea, pair.eb, pair.side.load, pair.side.greatest)),

@@ -1,3 +1,5 @@
+//! Worked shapes.
+
 ghost use Rattle.std.specs.Prelude.{◌≡◌, ◌≢◌, IsTrue, All};
 ghost use Rattle.cts_topo.specs.Sinks.{AreSinks, IsPlaced};
 

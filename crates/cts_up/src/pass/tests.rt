@@ -1,3 +1,5 @@
+//! Worked plans.
+
 ghost use Rattle.std.specs.Prelude.{◌≡◌, ◌^◌, ◌<◌, ◌≤◌, length, IfOk};
 ghost use Rattle.cts_units.specs.Limits.{IsParams};
 ghost use Rattle.cts_topo.specs.Sinks.{AreSinks};

@@ -1,7 +1,7 @@
 use Rattle.std.proofs.Common.{◌≡◌, ◌+◌, ◌*◌, map, length, sym, ap, subst, ◌∙◌, arith}
 use Rattle.cts_postorder.specs.PostOrder.{IsPostOrder}
 use Rattle.cts_topo.specs.Shape.{children, IsShapeOver}
-use Rattle.cts_topo.specs.Pins.{HasDistinctIds}
+use Rattle.cts_topo.proofs.Apart.{AreApart}
 use Rattle.cts_topo.proofs.PinsFrom.{length-pins_from, distinct_pins}
 use Rattle.cts_topo.proofs.Whole.{divided_is_shape, shape_is_post_order, shape_is_over, length-shape_of}
 use Rattle.cts_topo.proofs.divide.topology.Goals as goal
@@ -12,7 +12,7 @@ divide-requires-clause-some c =
 
 pub divide-requires-clause-distinct : goal.divide-requires-clause-distinct
 divide-requires-clause-distinct c =
-    subst HasDistinctIds (sym (c.as_mut_slice.ensures.value ∙ c.in_ok-pins.ensures)) (distinct_pins 0 _ c.requires.distinct)
+    subst AreApart (sym (c.as_mut_slice.ensures.value ∙ c.in_ok-pins.ensures)) (distinct_pins 0 _ c.requires.distinct)
 
 pub divide-requires-clause-room : goal.divide-requires-clause-room
 divide-requires-clause-room c =

@@ -19,27 +19,15 @@ bounds-plan-right g c =
 
 pub merge-requires-clause-a : goal.merge-requires-clause-a
 merge-requires-clause-a g c =
-    (left_ready c.args.params.now c.args.sinks.now c.args.nodes.now c.requires.shape c.args.number c.requires.number
+    left_ready c.args.params.now c.args.sinks.now c.args.nodes.now c.requires.shape c.args.number c.requires.number
     c.args.plan.now c.requires.before c.in-Pair.left c.in-Pair.right _ (c.in-Pair.is)
-    c.index-plan-left.result _ (c.index-plan-left.is) c.requires.params c.requires.sinks).0
+    c.index-plan-left.result _ (c.index-plan-left.is) c.requires.params c.requires.sinks
 
 pub merge-requires-clause-b : goal.merge-requires-clause-b
 merge-requires-clause-b g c =
-    (right_ready c.args.params.now c.args.sinks.now c.args.nodes.now c.requires.shape c.args.number c.requires.number
+    right_ready c.args.params.now c.args.sinks.now c.args.nodes.now c.requires.shape c.args.number c.requires.number
     c.args.plan.now c.requires.before c.in-Pair.left c.in-Pair.right _ (c.in-Pair.is)
-    c.index-plan-right.result _ (c.index-plan-right.is) c.requires.params c.requires.sinks).0
-
-pub merge-requires-clause-a_region : goal.merge-requires-clause-a_region
-merge-requires-clause-a_region g c =
-    (left_ready c.args.params.now c.args.sinks.now c.args.nodes.now c.requires.shape c.args.number c.requires.number
-    c.args.plan.now c.requires.before c.in-Pair.left c.in-Pair.right _ (c.in-Pair.is)
-    c.index-plan-left.result _ (c.index-plan-left.is) c.requires.params c.requires.sinks).1
-
-pub merge-requires-clause-b_region : goal.merge-requires-clause-b_region
-merge-requires-clause-b_region g c =
-    (right_ready c.args.params.now c.args.sinks.now c.args.nodes.now c.requires.shape c.args.number c.requires.number
-    c.args.plan.now c.requires.before c.in-Pair.left c.in-Pair.right _ (c.in-Pair.is)
-    c.index-plan-right.result _ (c.index-plan-right.is) c.requires.params c.requires.sinks).1
+    c.index-plan-right.result _ (c.index-plan-right.is) c.requires.params c.requires.sinks
 
 pub returns-in-Leaf-clause-next : goal.returns-in-Leaf-clause-next
 returns-in-Leaf-clause-next g c =
@@ -55,14 +43,14 @@ returns-in-Pair-clause-next g c =
     pair_next c.args.params.now c.args.sinks.now c.args.nodes.now c.requires.shape c.args.number c.requires.number
     c.args.plan.now c.requires.before c.in-Pair.left c.in-Pair.right _ (c.in-Pair.is)
     c.index-plan-left.result c.index-plan-right.result _ _ (c.index-plan-left.is) (c.index-plan-right.is)
-    c.merge.result c.merge.ensures.merged
+    c.merge.result c.merge.ensures.merges.merged
 
 pub returns-in-Pair-clause-beyond : goal.returns-in-Pair-clause-beyond
 returns-in-Pair-clause-beyond g c =
     pair_beyond c.args.params.now c.args.sinks.now c.args.nodes.now c.requires.shape c.args.number c.requires.number
     c.args.plan.now c.requires.before c.in-Pair.left c.in-Pair.right _ (c.in-Pair.is)
     c.index-plan-left.result c.index-plan-right.result _ _ (c.index-plan-left.is) (c.index-plan-right.is)
-    c.merge.result c.merge.ensures.beyond
+    c.merge.result c.merge.ensures.merges.beyond
 
 pub returns-in-Pair-clause-merges : goal.returns-in-Pair-clause-merges
 returns-in-Pair-clause-merges g c =

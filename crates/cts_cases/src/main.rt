@@ -1,0 +1,21 @@
+//! Runs the cases of its input, and prints what each gives: the rows of the documents, as data.
+//!
+//! A case is a line `% WORDS / STREAMS | NAME` and the text below it, up to the next `%`. Of the words, the streams and
+//! the name only the words have to be there; `src/case.rt` says what they mean. Last it reads an instance with as many
+//! sinks as there may be.
+#![tactic(auto)]
+
+mod case;
+mod many;
+mod show;
+
+use std::io::{self, Read};
+
+fn main(rt: HostRuntime) -> io::Result<()> {
+    let mut text = Vec::new(rt.alloc());
+    rt.stdin().read_to_end(&mut text)?;
+    for case in text.split(|byte| *byte == b'%').skip(1) {
+        case::run(&rt, case)?;
+    }
+    many::read(&rt)
+}

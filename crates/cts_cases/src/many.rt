@@ -1,0 +1,40 @@
+//! As many sinks and blocks as there may be: a reader that gives up early for want of memory is seen.
+
+use cts_read::read_instance;
+use std::fmt::Write;
+use std::io;
+
+/// The greatest number of sinks.
+const SINKS: u32 = 65_536;
+/// The greatest number of blocks of kind `Buffer`, and of kind `All`.
+const BUFFER_BLOCKS: u32 = 4_096;
+
+const ALL_BLOCKS: u32 = 64;
+
+/// Prints how many sinks and blocks are read of an instance that has as many as there may be.
+pub fn read<R: AllocGlobal + Print>(rt: &R) -> io::Result<()> {
+    let mut text = String::new(rt.alloc());
+    text.push_str("cts 1\ndie 0 0 100 100\nsource 0 0 0\nwire 1 1\nlimits 1 1 1\nbuffers 0\n")?;
+    writeln!(text, "sinks {SINKS}")?;
+    for id in 0..SINKS {
+        writeln!(text, "sink {id} {} {} 1", id % 100, id / 1_000)?;
+    }
+    writeln!(text, "blocks {}", BUFFER_BLOCKS + ALL_BLOCKS)?;
+    for _ in 0..BUFFER_BLOCKS {
+        text.push_str("block buffer 0 0 9 9\n")?;
+    }
+    for _ in 0..ALL_BLOCKS {
+        text.push_str("block all 0 0 0 9\n")?;
+    }
+    text.push_str("end\n")?;
+    if text.len() > 4_194_304 {
+        return Ok(());
+    }
+    match read_instance(rt.alloc(), text.as_bytes()) {
+        Ok(taken) => {
+            let (sinks, blocks) = (taken.instance.sinks(), taken.instance.blocks());
+            println!(rt; "read {} sinks and {} blocks", sinks.len(), blocks.len())
+        }
+        Err(stop) => println!(rt; "{stop:?}"),
+    }
+}

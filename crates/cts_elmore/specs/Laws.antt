@@ -1,0 +1,45 @@
+-- What holds of the figures of every tree.
+use Rattle.std.specs.Prelude.{◌≡◌, ℕ, ◌+◌, ◌≤◌, max, List, [], ◌∷◌, if◌then◌else◌}
+use Rattle.cts_postorder.specs.BinaryTree.{BinaryTree, fork}
+use Rattle.cts_postorder.specs.Occurrence.{occurrence}
+use Rattle.cts_tree.specs.declared.nodes.TreeNode.{TreeNode}
+use Rattle.cts_instance.specs.declared.parts.Parts.{Parts}
+use Rattle.cts_elmore.specs.declared.figures.Figures.{Figures}
+use Rattle.cts_elmore.specs.Loads.{is_buffered, wire_load, load_below, load_seen}
+use Rattle.cts_elmore.specs.Delays.{wire_delay, buffer_delay, output_delay, source_delay, delay_at, stage_at}
+use Rattle.cts_elmore.specs.Skew.{greatest_below, residue, skew, bound}
+use Rattle.cts_elmore.specs.Figures.{AreFigures}
+
+-- the skew is at most the bound
+abbrev pub SkewIsAtMostBound : Type 0
+SkewIsAtMostBound = (i : Parts) (root : BinaryTree TreeNode) → skew i root ≤ bound i root
+
+-- a tree has one set of figures
+abbrev pub FiguresAreOne : Type 0
+FiguresAreOne =
+    (i : Parts) (nodes : List TreeNode) (f g : Figures) → AreFigures i nodes f → AreFigures i nodes g → f ≡ g
+
+-- What a pair adds to its two parts: its load is what is seen of them, and their wires; its greatest delay is the greater of
+-- theirs, each through its wire, and then its buffer's; and its residue comes to the greater of their bounds.
+pub record AddsUp (i : Parts) (l r : BinaryTree TreeNode) (n : TreeNode) : Type 0 where
+  pub load : load_below i (fork l r n) ≡ load_seen i l + wire_load i l + (load_seen i r + wire_load i r)
+  pub greatest : greatest_below i (fork l r n)
+      ≡ max (greatest_below i l + wire_delay i l) (greatest_below i r + wire_delay i r) + buffer_delay i (fork l r n)
+  pub bound_is : bound i (fork l r n) ≡ max (bound i l) (bound i r) + residue i (fork l r n)
+
+abbrev pub PairsAddUp : Type 0
+PairsAddUp = (i : Parts) (l r : BinaryTree TreeNode) (n : TreeNode) → AddsUp i l r n
+
+-- What a pair hands down to a part: its delay, and its stage, which begins anew at a buffer; the part's wire comes to each.
+pub record HandsDown (i : Parts) (root pair part : BinaryTree TreeNode) (above : List (BinaryTree TreeNode)) : Type 0 where
+  pub delay : delay_at i root (occurrence (pair ∷ above) part)
+      ≡ delay_at i root (occurrence above pair) + buffer_delay i pair + wire_delay i part
+  pub stage : stage_at i root (occurrence (pair ∷ above) part)
+      ≡ (if is_buffered i pair then output_delay i pair else stage_at i root (occurrence above pair)) + wire_delay i part
+
+abbrev pub PathsAddUp : Type 0
+PathsAddUp =
+    (i : Parts) (root : BinaryTree TreeNode)
+    → (delay_at i root (occurrence [] root) ≡ source_delay i root + wire_delay i root)
+    × (stage_at i root (occurrence [] root) ≡ source_delay i root + wire_delay i root)
+    × ((pair part : BinaryTree TreeNode) (above : List (BinaryTree TreeNode)) → HandsDown i root pair part above)

@@ -1,0 +1,12 @@
+pub mod Fits
+pub mod Loads
+pub mod Delays
+pub mod Skew
+pub mod Limits
+pub mod Figures
+pub mod Laws
+pub use Rattle.cts_tree.specs.Nodes
+pub use Rattle.cts_postorder.specs.BinaryTree
+pub use Rattle.cts_postorder.specs.PostOrder
+pub use Rattle.cts_postorder.specs.Occurrence
+pub use Rattle.cts_postorder.specs.Pass

@@ -1,0 +1,58 @@
+-- The limits of trees: those that a tree may not pass, and those of an instance, which a report says are met or not.
+use Rattle.std.specs.Prelude.{◌≡◌, ℕ, ◌+◌, ◌-◌, ◌*◌, ◌^◌, ◌<◌, ◌≤◌, ◌||◌, ◌⊎◌, List, [], All, Option, Some, None, IsTrue}
+use Rattle.cts_units.specs.Delay.{slew_of}
+use Rattle.cts_postorder.specs.BinaryTree.{BinaryTree, tip, fork, label, is_tip, subtrees}
+use Rattle.cts_postorder.specs.PostOrder.{trees_of, root_of}
+use Rattle.cts_postorder.specs.Occurrence.{occurrences}
+use Rattle.cts_postorder.specs.Pass.{IsLeastFailure}
+use Rattle.cts_tree.specs.declared.nodes.TreeNode.{TreeNode}
+use Rattle.cts_tree.specs.Nodes.{tree_children}
+use Rattle.cts_instance.specs.declared.parts.Parts.{Parts}
+use Rattle.cts_elmore.specs.Loads.{is_buffered, load_below, source_load}
+use Rattle.cts_elmore.specs.Delays.{wire_delay, source_delay, stage_at}
+use Rattle.cts_elmore.specs.Skew.{greatest_below}
+
+-- the wire above a node is longer than 2^31 - 1 nm
+abbrev pub IsLong : TreeNode → Type 0
+IsLong node = 2 ^ 31 - 1 < node.wire
+
+-- a pair is over the limits: by a child's wire, by its load, or by its greatest delay down to a leaf
+pub data IsOverAtPair (i : Parts) (l r : BinaryTree TreeNode) (n : TreeNode) : Type 0 where
+  left_wire : IsLong (label l) → IsOverAtPair i l r n
+  right_wire : IsLong (label r) → IsOverAtPair i l r n
+  load : 2 ^ 56 < load_below i (fork l r n) → IsOverAtPair i l r n
+  delay : 2 ^ 104 < greatest_below i (fork l r n) → IsOverAtPair i l r n
+
+abbrev pub IsPairOver : Parts → BinaryTree TreeNode → Type 0
+IsPairOver i (tip n) = ⊥
+IsPairOver i (fork l r n) = IsOverAtPair i l r n
+
+-- a root is over the limits: by its own wire, by the source's load, or by the greatest delay from the source to a leaf
+pub data IsRootOver (i : Parts) (root : BinaryTree TreeNode) : Type 0 where
+  wire : IsLong (label root) → IsRootOver i root
+  load : 2 ^ 56 < source_load i root → IsRootOver i root
+  delay : 2 ^ 104 < source_delay i root + wire_delay i root + greatest_below i root → IsRootOver i root
+
+-- a subtree of a tree is over the limits
+abbrev pub IsOver : Parts → List TreeNode → BinaryTree TreeNode → Type 0
+IsOver i nodes t = IsPairOver i t ⊎ ((root_of tree_children nodes ≡ Some t) × IsRootOver i t)
+
+-- no node of a tree is over the limits
+abbrev pub IsWithinLimits : Parts → List TreeNode → Type 0
+IsWithinLimits i nodes = All (λ t. ¬ IsOver i nodes t) (trees_of tree_children nodes)
+
+-- the least number of a node that is over the limits, or none
+abbrev pub IsFirstOver : Parts → List TreeNode → Option ℕ → Type 0
+IsFirstOver i nodes None = IsWithinLimits i nodes
+IsFirstOver i nodes (Some k) = IsLeastFailure tree_children nodes (IsOver i nodes) k
+
+-- neither the source nor a buffer drives more than the load limit
+pub record MeetsLoadLimit (i : Parts) (root : BinaryTree TreeNode) : Type 0 where
+  pub source : source_load i root ≤ i.load_limit
+  pub buffers : All (λ t. IsTrue (is_buffered i t) → load_below i t ≤ i.load_limit) (subtrees root)
+
+-- no slew is above the slew limit, which is not doubled, at a leaf or at a buffer
+abbrev pub MeetsSlewLimit : Parts → BinaryTree TreeNode → Type 0
+MeetsSlewLimit i root =
+    All (λ o. IsTrue (is_tip o.here || is_buffered i o.here) → slew_of (stage_at i root o) ≤ 10 * i.slew_limit)
+    (occurrences [] root)

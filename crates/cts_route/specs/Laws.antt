@@ -1,0 +1,46 @@
+-- What holds of every route.
+use Rattle.std.specs.Prelude.{◌≡◌, ◌≢◌, ◌*◌, ◌↔◌, ◌⊎◌, List, [], ◌∷◌, All}
+use Rattle.cts_geom.specs.declared.bounds.Die.{Die}
+use Rattle.cts_geom.specs.declared.points.Half.{Half}
+use Rattle.cts_geom.specs.Points.{manhattan_of}
+use Rattle.cts_block.specs.declared.blocks.Block.{Block}
+use Rattle.cts_block.specs.declared.blocks.Kind.TheVariants.{Buffer}
+use Rattle.cts_tree.specs.declared.route.Route.{Route}
+use Rattle.cts_route.specs.Grid.{IsClear}
+use Rattle.cts_route.specs.Routes.{IsRoute, IsCut}
+
+-- there is one route at most
+abbrev pub RouteIsOne : Type 0
+RouteIsOne =
+    (blocks : List Block) (die : Die) (from to : Half) (route other : Route)
+    → IsRoute blocks die from to route → IsRoute blocks die from to other → route ≡ other
+
+-- and none between points that are cut
+abbrev pub RouteIsNotCut : Type 0
+RouteIsNotCut =
+    (blocks : List Block) (die : Die) (from to : Half) (route : Route)
+    → IsRoute blocks die from to route → IsCut blocks die from to → ⊥
+
+-- where the way along x first and then along y turns
+abbrev pub bend_of : Half → Half → Half
+bend_of from to = record { x = to.x; y = from.y }
+
+-- the route goes along x first and then along y: it has one corner where both coordinates differ, and none else
+pub record RunsAlongXFirst (from to : Half) (route : Route) : Type 0 where
+  pub bent : from.x ≢ to.x → from.y ≢ to.y → route.corners ≡ bend_of from to ∷ []
+  pub straight : (from.x ≡ to.x) ⊎ (from.y ≡ to.y) → route.corners ≡ []
+  pub length : 2 * route.length ≡ manhattan_of from to
+
+-- where this way is clear it is the route
+abbrev pub ClearWayIsRoute : Type 0
+ClearWayIsRoute =
+    (blocks : List Block) (die : Die) (from to : Half) (route : Route)
+    → IsClear blocks from (bend_of from to) → IsClear blocks (bend_of from to) to
+    → IsRoute blocks die from to route ↔ RunsAlongXFirst from to route
+
+-- so it always is where no block stops wires
+abbrev pub RouteWithoutWalls : Type 0
+RouteWithoutWalls =
+    (blocks : List Block) (die : Die) (from to : Half) (route : Route)
+    → All (λ block. block.kind ≡ Buffer) blocks
+    → IsRoute blocks die from to route ↔ RunsAlongXFirst from to route

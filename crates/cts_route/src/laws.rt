@@ -1,0 +1,28 @@
+//! What the definition of a route says, as laws: each is the contract of a function that does nothing.
+
+ghost use Rattle.cts_route.specs.Laws.{
+  RouteIsOne,
+  RouteIsNotCut,
+  ClearWayIsRoute,
+  RouteWithoutWalls,
+};
+
+/// There is one route at most.
+pub fn route_is_one()
+    ensures { RouteIsOne }
+{}
+
+/// Points that are cut have no route.
+pub fn route_is_not_cut()
+    ensures { RouteIsNotCut }
+{}
+
+/// Where the way along x first and then along y is clear, it is the route.
+pub fn clear_way_is_route()
+    ensures { ClearWayIsRoute }
+{}
+
+/// Where no block stops wires, the route runs along x first and then along y.
+pub fn route_without_walls()
+    ensures { RouteWithoutWalls }
+{}

@@ -1,0 +1,60 @@
+-- Lists that begin other lists.
+use Rattle.std.proofs.Common.{◌≡◌, ◌≤◌, ◌⊎◌, ⊎_elim, Bool, true, false, cond, ltb, List, [], ◌∷◌, ◌++◌, length, refl, ap, sym, ◌∙◌, subst, arith, append_assoc, length-append}
+use Rattle.std.proofs.lemmas.Bool.{ltb-true, ltb-false}
+use mathlib.Core.List.{IsPrefix}
+use Rattle.std.proofs.lemmas.List.{append-nil}
+use Rattle.cts_turn.specs.Views.{longer, shorter}
+
+module _ {A : Type 0} where
+  pub prefix_self : (xs : List A) → IsPrefix xs xs
+  prefix_self xs = ([], append-nil xs)
+
+  pub prefix_same : (xs ys : List A) → xs ≡ ys → IsPrefix xs ys
+  prefix_same xs ys e = subst (IsPrefix xs) e (prefix_self xs)
+
+  pub prefix_trans : (xs ys zs : List A) → IsPrefix xs ys → IsPrefix ys zs → IsPrefix xs zs
+  prefix_trans xs ys zs p q = (p.0 ++ q.0, sym (append_assoc xs p.0 q.0) ∙ (ap (λ w. w ++ q.0) p.1 ∙ q.1))
+
+  pub prefix_length : (xs ys : List A) → IsPrefix xs ys → length xs ≤ length ys
+  prefix_length xs ys p = omega (arith, sym (ap length p.1) ∙ length-append xs p.0)
+
+  -- of two beginnings of one list the shorter begins the longer
+  pub prefix_shorter : (xs ys zs : List A) → IsPrefix xs zs → IsPrefix ys zs → length xs ≤ length ys → IsPrefix xs ys
+  prefix_shorter [] ys zs p q le = (ys, refl)
+  prefix_shorter (x ∷ xs) [] zs p q le = absurd (omega arith)
+  prefix_shorter (x ∷ xs) (y ∷ ys) [] p q le = absurd (cc (p.1))
+  prefix_shorter (x ∷ xs) (y ∷ ys) (z ∷ zs) p q le =
+      let heads : x ≡ y = cc (p.1, q.1) in
+      let rest = prefix_shorter xs ys zs (p.0, cc (p.1)) (q.0, cc (q.1)) (omega arith) in
+      (rest.0, cc (heads, rest.1))
+
+  by_length : (xs ys zs : List A) → IsPrefix xs zs → IsPrefix ys zs → (b : Bool) → ltb (length xs) (length ys) ≡ b
+      → IsPrefix (cond b xs ys) (cond b ys xs)
+  by_length xs ys zs p q true e = prefix_shorter xs ys zs p q (omega (arith, ltb-true (length xs) (length ys) e))
+  by_length xs ys zs p q false e = prefix_shorter ys xs zs q p (ltb-false (length xs) (length ys) e)
+
+  -- so it does in a join
+  pub shorter_begins : (xs ys zs : List A) → IsPrefix xs zs → IsPrefix ys zs → IsPrefix (shorter xs ys) (longer xs ys)
+  shorter_begins xs ys zs p q = by_length xs ys zs p q (ltb (length xs) (length ys)) refl
+
+  pub longer_begins : (xs ys zs : List A) → IsPrefix xs zs → IsPrefix ys zs → IsPrefix (longer xs ys) zs
+  longer_begins xs ys zs p q = elim (ltb (length xs) (length ys)) as (λ b. IsPrefix (cond b ys xs) zs) [ true ↦ q | false ↦ p ]
+
+  -- a beginning that is as long as the whole is the whole
+  pub prefix_whole : (xs ys : List A) → IsPrefix xs ys → length ys ≤ length xs → xs ≡ ys
+  prefix_whole [] [] p le = refl
+  prefix_whole [] (y ∷ ys) p le = absurd (omega arith)
+  prefix_whole (x ∷ xs) [] p le = absurd (cc (p.1))
+  prefix_whole (x ∷ xs) (y ∷ ys) p le =
+      let rest = prefix_whole xs ys (p.0, cc (p.1)) (omega arith) in cc (p.1, rest)
+
+  longest : (xs ys : List A) (b : Bool) → ltb (length xs) (length ys) ≡ b → (length xs ≤ length (cond b ys xs)) × (length ys ≤ length (cond b ys xs))
+  longest xs ys true e = (omega (arith, ltb-true (length xs) (length ys) e), omega arith)
+  longest xs ys false e = (omega arith, ltb-false (length xs) (length ys) e)
+
+  -- where one of two beginnings is the whole, the longer one is
+  pub longer_whole : (xs ys zs : List A) → IsPrefix xs zs → IsPrefix ys zs → (xs ≡ zs) ⊎ (ys ≡ zs) → longer xs ys ≡ zs
+  longer_whole xs ys zs p q e =
+      let l = longest xs ys (ltb (length xs) (length ys)) refl in
+      prefix_whole (longer xs ys) zs (longer_begins xs ys zs p q)
+      (⊎_elim (λ (t : xs ≡ zs). omega (arith, ap length t)) (λ (t : ys ≡ zs). omega (arith, ap length t)) e)

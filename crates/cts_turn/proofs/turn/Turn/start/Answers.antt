@@ -1,0 +1,33 @@
+use Rattle.std.proofs.Common.{ap, sym, ◌∙◌, subst, arith, List, length}
+use Rattle.cts_turn.proofs.Keeps.{opens}
+use Rattle.cts_turn.proofs.Prefixes.{prefix_same}
+use Rattle.cts_turn.proofs.turn.Turn.start.Goals as goal
+
+pub new-requires : goal.new-requires
+new-requires g c =
+    let first = c.of-first.ensures in
+    let items = c.in_ok-push.ensures.items in
+    opens g.O.Object.told g.O.Object.base c.of-first.result.value c.len.result c.push.new.self.items
+    (c.len.ensures ∙ ap (λ x. length (g.O.Object.told x)) (sym first))
+    (cc (first, items, c.in_ok-slots.ensures.items))
+
+pub returns-in-Ok-clause-own : goal.returns-in-Ok-clause-own
+returns-in-Ok-clause-own g c =
+    let law = g.met.O.Object g.world.𝓛 g.world.𝓜 g.world.𝓡 ((λ s x. x), (λ x. x), (λ x. x), λ x. x) in
+    let first = c.of-first.result.value in
+    let made = c.in-Ok.ensures.ok in
+    let seen = ap (λ m. m.0.seen) made.4 in
+    let key = ap (λ k. k.value) made.5 in
+    record {
+      own = made.2;
+      object = cc (ap (λ m. m.0.object) made.4, key);
+      waits = ap (λ m. m.0.waits) made.4;
+      in_turn = ap (λ m. m.0.in_turn) made.4;
+      holds = ap (λ m. m.1) made.4;
+      share = ap (λ m. m.0.share) made.4;
+      some = omega arith;
+      most = omega arith;
+      starts = prefix_same _ _ (ap g.O.Object.told key ∙ sym seen);
+      sound = subst (λ (x : g.row.O.Denot × List g.row.O-Entry.Denot). g.O.Object.is_sound (g.O.Object.base x.0) x.1) (λ k. (sym key k, sym seen k)) (law.told_is_sound first);
+      short = omega (arith, ap length seen, law.told_is_short first);
+    }

@@ -1,0 +1,256 @@
+//! A turn and its passes.
+
+ghost use Rattle.std.specs.Prelude.{◌≡◌, ◌≢◌, ℕ, ◌+◌, ◌-◌, ◌/◌, ◌%◌, ◌^◌, ◌<◌, ◌≤◌, ◌⊎◌, List, [], ◌∷◌, length, Some, None, IfOk, IfErr};
+ghost use mathlib.Core.List.{IsPrefix};
+
+use crate::object::Object;
+use crate::rule::{
+    Compare, Draw, Halves, LENGTH, PassOn, Record, Recorded, Rule, SERVING, Serve, TICKETS, Whole,
+};
+use crate::view::View;
+use atomic_table::{Refused, Table};
+use cts_num::NoMemory;
+use std::alloc::Global;
+use std::hint::spin_loop;
+use std::marker::Brand;
+use std::snapshot::Snapshot;
+use std::sync::Wait;
+use std::thread::yield_now;
+
+/// The parts of a turn's share.
+const PARTS: u32 = 65_536;
+
+/// How often a call looks whether its ticket is served before it yields the processor.
+const SPINS: u32 = 64;
+
+type Seat<O> = atomic_table::Seat<Option<O>, View<<O as Object>::Entry, O>>;
+
+/// A shared object, which threads call one at a time, in the order of their tickets.
+#[derive(Drop)]
+pub struct Turn<O: Object> {
+    table: Table<Option<O>, View<O::Entry, O>, Snapshot<O>, Rule<O>, Global>,
+    ghost sized: { (table.shared.table_id.words ≡ 3) × (table.shared.table_id.slots ≡ 1) },
+}
+
+/// The right to call a turn's object, and what its holder has seen and made of the object's list.
+#[derive(Drop)]
+pub struct Pass<O: Object> {
+    seat: Seat<O>,
+    share: u32,
+}
+
+/// A turn can't be closed while other passes are out. Turn and pass come back.
+#[derive(Drop)]
+pub struct StillOut<O: Object> {
+    pub turn: Turn<O>,
+    pub pass: Pass<O>,
+    /// What is missing of 65,536.
+    pub out: u32,
+}
+
+impl<O: Object> Turn<O> {
+    ghost use Rattle.cts_turn.specs.Views.{with_ticket, at_turn, after_call, after_turn};
+    ghost use Rattle.cts_turn.specs.Steps.{TakesTurn};
+    ghost use Rattle.cts_turn.specs.Passes.{start_of, seen_by, made_by, share_of, IsPassOf, IsAnswer};
+
+    /// Draws the ticket of a call, modulo 2^64.
+    fn draw(&self, seat: &mut Seat<O>) -> u64
+        requires own { seat.old.table_id ≡ self.now.table.shared.table_id }
+        requires idle { (seat.old.me.0.waits ≡ 0) × (seat.old.me.0.in_turn ≡ 0) × (0 < seat.old.me.0.share) }
+        ensures own { seat.new.table_id ≡ seat.old.table_id }
+        ensures ticket { (ticket : ℕ) × (result ≡ ticket % 2 ^ 64) × (seat.new.me ≡ (with_ticket ticket seat.old.me.0, seat.old.me.1)) }
+    {
+        self.table.shared.fetch_add::<Draw>(seat, TICKETS, 1)
+    }
+
+    /// Waits until the ticket is served, and takes the slot.
+    fn wait<R: Wait>(&self, rt: &R, seat: &mut Seat<O>, ticket: u64)
+        requires own { seat.old.table_id ≡ self.now.table.shared.table_id }
+        requires waits { (seat.old.me.0.waits ≡ 1) × (seat.old.me.0.in_turn ≡ 0) × (seat.old.me.1 ≡ []) }
+        requires ticket { ticket ≡ seat.old.me.0.ticket % 2 ^ 64 }
+        ensures own { seat.new.table_id ≡ seat.old.table_id }
+        ensures turn { TakesTurn O.told O.base seat.old.me seat.new.me }
+    {
+        let mut spins = 0;
+        for _ in rt.forever() {
+            if self.table.shared.load::<Serve<O>>(seat, SERVING) == ticket {
+                return;
+            }
+            if spins < SPINS {
+                spins += 1;
+                spin_loop();
+            } else {
+                yield_now();
+            }
+        }
+        unreachable!()
+    }
+
+    /// Takes the object out of the slot that the seat holds.
+    fn take(&self, seat: &mut Seat<O>) -> O
+        requires own { seat.old.table_id ≡ self.now.table.shared.table_id }
+        requires holds { (object : O) × (seat.old.me.1 ≡ (0, Some object) ∷ []) }
+        ensures own { seat.new.table_id ≡ seat.old.table_id }
+        ensures object { seat.old.me.1 ≡ (0, Some result) ∷ [] }
+        ensures holds { seat.new.me ≡ (seat.old.me.0, (0, None) ∷ []) }
+    {
+        match self.table.shared.exchange(seat, 0, None) {
+            Some(object) => object,
+            None => unreachable!(),
+        }
+    }
+
+    /// Writes the length of the list that the object tells now.
+    fn record<J: Recorded<O::Entry>>(&self, seat: &mut Seat<O>, object: &O)
+        requires own { seat.old.table_id ≡ self.now.table.shared.table_id }
+        requires list { O.told object.now ≡ J.list }
+        requires turn { (0 < seat.old.me.0.in_turn) × IsPrefix seat.old.me.0.seen (O.told object.now) }
+        ensures own { seat.new.table_id ≡ seat.old.table_id }
+        ensures list { seat.new.me ≡ (after_call (O.told object.now) seat.old.me.0, seat.old.me.1) }
+    {
+        self.table
+            .shared
+            .swap::<Record<J>>(seat, LENGTH, object.len());
+    }
+
+    /// Puts the object back, and serves the next ticket.
+    fn pass_on(&self, seat: &mut Seat<O>, object: O, ticket: u64)
+        requires own { seat.old.table_id ≡ self.now.table.shared.table_id }
+        requires holds { seat.old.me.1 ≡ (0, None) ∷ [] }
+        requires turn { (seat.old.me.0.waits ≡ 1) × (0 < seat.old.me.0.in_turn) × (ticket ≡ seat.old.me.0.ticket % 2 ^ 64) }
+        requires list { O.told object ≡ seat.old.me.0.seen }
+        requires base { (start : O) × (seat.old.me.0.object ≡ Some start) × (O.base object ≡ O.base start) }
+        ensures own { seat.new.table_id ≡ seat.old.table_id }
+        ensures free { seat.new.me ≡ (after_turn seat.old.me.0, []) }
+    {
+        self.table.shared.exchange(seat, 0, Some(object));
+        self.table
+            .shared
+            .store::<PassOn>(seat, SERVING, ticket.wrapping_add(1));
+    }
+
+    /// A turn on the object, and the pass with the whole share of it. Where memory runs out the
+    /// object is dropped.
+    pub fn start(alloc: Global, object: O) -> Result<(Turn<O>, Pass<O>), NoMemory>
+        ensures turn { IfOk result (λ t. start_of t.0 ≡ object) }
+        ensures own { IfOk result (λ t. IsPassOf ⟦<O as Object>⟧ t.0 t.1) }
+        ensures pass { IfOk result (λ t. (seen_by t.1 ≡ O.told object) × (made_by t.1 ≡ 0) × (share_of t.1 ≡ 65536)) }
+    {
+        let first = Snapshot::of(&object);
+        let words = [0, 0, object.len()];
+        let mut slots = Vec::with_capacity(alloc, 1)?;
+        slots.push(Some(object))?;
+        match Table::new(alloc, &words, slots, &first) {
+            Ok((table, seat)) => Ok((Turn { table }, Pass { seat, share: PARTS })),
+            Err(Refused { slots: _ }) => Err(NoMemory),
+        }
+    }
+
+    /// Splits a pass in two, so that one of them can go to another thread. Both have seen what the
+    /// pass had seen. The first keeps what the pass made, and the greater half of its share.
+    pub fn split(&self, pass: Pass<O>) -> (Pass<O>, Pass<O>)
+        requires own { IsPassOf ⟦<O as Object>⟧ self.now pass }
+        requires share { 2 ≤ share_of pass }
+        ensures own { IsPassOf ⟦<O as Object>⟧ self.now result.0 × IsPassOf ⟦<O as Object>⟧ self.now result.1 }
+        ensures seen { (seen_by result.0 ≡ seen_by pass) × (seen_by result.1 ≡ seen_by pass) }
+        ensures made { (made_by result.0 ≡ made_by pass) × (made_by result.1 ≡ 0) }
+        ensures share { (share_of result.0 ≡ share_of pass - share_of pass / 2) × (share_of result.1 ≡ share_of pass / 2) }
+    {
+        let Pass { mut seat, share } = pass;
+        let half = share / 2;
+        let other = self.table.shared.split_seat::<Halves>(&mut seat);
+        let first = Pass {
+            seat,
+            share: share - half,
+        };
+        let second = Pass {
+            seat: other,
+            share: half,
+        };
+        (first, second)
+    }
+
+    /// Joins two passes. Of the lists that they had seen one begins the other, and the longer one
+    /// stays. Shares, and the numbers of entries made, add up.
+    pub fn join(&self, a: Pass<O>, b: Pass<O>) -> Pass<O>
+        requires own { IsPassOf ⟦<O as Object>⟧ self.now a × IsPassOf ⟦<O as Object>⟧ self.now b }
+        ensures own { IsPassOf ⟦<O as Object>⟧ self.now result }
+        ensures seen { ((seen_by result ≡ seen_by a) × IsPrefix (seen_by b) (seen_by a)) ⊎ ((seen_by result ≡ seen_by b) × IsPrefix (seen_by a) (seen_by b)) }
+        ensures made { made_by result ≡ made_by a + made_by b }
+        ensures share { share_of result ≡ share_of a + share_of b }
+    {
+        let Pass { mut seat, share } = a;
+        let Pass {
+            seat: other,
+            share: other_share,
+        } = b;
+        self.table.shared.join_seat::<Whole>(&mut seat, other);
+        self.table.shared.load::<Compare>(&mut seat, TICKETS);
+        Pass {
+            seat,
+            share: share + other_share,
+        }
+    }
+
+    /// Calls the object, once it is this call's turn, and answers its reply.
+    ///
+    /// The reply is one that the object's base allows at a told list that begins with all that the
+    /// pass had seen. Afterwards the pass has seen the list after it.
+    pub fn call<R: Wait>(&self, rt: &R, pass: &mut Pass<O>, call: O::Call) -> O::Reply
+        requires own { IsPassOf ⟦<O as Object>⟧ self.now pass.old }
+        requires fits { O.fits (O.base (start_of self.now)) (seen_by pass.old) call }
+        ensures own { IsPassOf ⟦<O as Object>⟧ self.now pass.new }
+        ensures share { share_of pass.new ≡ share_of pass.old }
+        ensures goes_on { IsPrefix (seen_by pass.old) (seen_by pass.new) }
+        ensures answer { IsAnswer ⟦<O as Object>⟧ (O.base (start_of self.now)) (seen_by pass.old) (made_by pass.old) call result (seen_by pass.new) (made_by pass.new) }
+    {
+        let seat = &mut pass.seat;
+        let ticket = self.draw(seat);
+        self.wait(rt, seat, ticket);
+        let mut object = self.take(seat);
+        let reply = object.act(call);
+        self.record::<Brand>(seat, &object);
+        self.pass_on(seat, object, ticket);
+        reply
+    }
+
+    /// Ends a turn whose passes are all joined, and gives the object back. Otherwise turn and pass
+    /// come back, with what is missing of the share.
+    pub fn close(self, pass: Pass<O>) -> Result<O, StillOut<O>>
+        requires own { IsPassOf ⟦<O as Object>⟧ self pass }
+        ensures whole { IfOk result (λ _. share_of pass ≡ 65536) }
+        ensures object { IfOk result (λ o. (O.told o ≡ seen_by pass) × (O.base o ≡ O.base (start_of self))) }
+        ensures made { IfOk result (λ _. IsPrefix (O.told (start_of self)) (seen_by pass) × (length (seen_by pass) ≡ length (O.told (start_of self)) + made_by pass)) }
+        ensures out { IfErr result (λ e. (0 < e.out) × (e.out + share_of pass ≡ 65536)) }
+        ensures back { IfErr result (λ e. (e.turn ≡ self) × (e.pass ≡ pass)) }
+    {
+        if pass.share != PARTS {
+            let out = PARTS - pass.share;
+            return Err(StillOut {
+                turn: self,
+                pass,
+                out,
+            });
+        }
+        let Turn { table } = self;
+        let Pass { seat, share: _ } = pass;
+        let mut closed = table.close_with(seat);
+        let slot = closed.take(0);
+        closed.free();
+        match slot {
+            Some(object) => Ok(object),
+            None => unreachable!(),
+        }
+    }
+}
+
+impl<O: Object> Pass<O> {
+    ghost use Rattle.cts_turn.specs.Passes.{share_of};
+
+    /// Its share of the turn, of 65,536 parts.
+    pub fn share(&self) -> u32
+        ensures { result ≡ share_of self.now }
+    {
+        self.share
+    }
+}
