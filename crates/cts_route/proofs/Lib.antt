@@ -5,3 +5,5 @@ pub mod Turns
 pub mod Segments
 pub mod AlongX
 pub mod ClearWay
+pub mod Crossings
+pub mod WallLists

@@ -1,4 +1,6 @@
 pub mod Grid
 pub mod Routes
 pub mod Laws
+pub mod Limits
+pub mod Walls
 pub use Rattle.cts_tree.specs.Path

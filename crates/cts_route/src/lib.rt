@@ -1,4 +1,7 @@
 //! Routes of wires: shortest paths of a grid round the blocks that stop wires.
 #![tactic(auto)]
 
+mod clear;
+mod direction;
 pub mod laws;
+mod wall;
