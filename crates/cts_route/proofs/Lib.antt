@@ -6,4 +6,6 @@ pub mod Segments
 pub mod AlongX
 pub mod ClearWay
 pub mod Crossings
+pub mod Insertions
+pub mod FixedLines
 pub mod WallLists

@@ -62,7 +62,7 @@ same_rank South East h = absurd (omega arith)
 same_rank South West h = absurd (omega arith)
 same_rank South North h = absurd (omega arith)
 
-by_order : {P : Type 0} (a b : ℕ) → (a < b → P) → (b < a → P) → (a ≡ b → P) → P
+pub by_order : {P : Type 0} (a b : ℕ) → (a < b → P) → (b < a → P) → (a ≡ b → P) → P
 by_order a b below above same =
     by_lt_z (pos a) (pos b) (λ lt. below (omega (arith, ints)))
     (λ le. by_lt_z (pos b) (pos a) (λ lt. above (omega (arith, ints))) (λ ge. same (omega (arith, ints))))

@@ -3,4 +3,5 @@ pub mod Routes
 pub mod Laws
 pub mod Limits
 pub mod Walls
+pub mod LineLists
 pub use Rattle.cts_tree.specs.Path

@@ -4,4 +4,5 @@
 mod clear;
 mod direction;
 pub mod laws;
+mod lines;
 mod wall;
