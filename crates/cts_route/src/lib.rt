@@ -3,6 +3,7 @@
 
 mod clear;
 mod direction;
+mod graph;
 pub mod laws;
 mod lines;
 mod wall;
