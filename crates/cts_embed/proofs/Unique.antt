@@ -118,7 +118,7 @@ equal_parts params sinks l r n p hp same =
     equal_keep (delay_through params.wire hp.0) (delay_through params.wire hp.1) (label l).route.length (label r).route.length
     p.left_wire p.right_wire hp.4.wires delays routes
 
-wire_one : (parts : Parts) (up : List (BinaryTree PlacedNode)) (t : BinaryTree PlacedNode) (x y : ℕ) → IsWireLength parts up t x
+pub wire_one : (parts : Parts) (up : List (BinaryTree PlacedNode)) (t : BinaryTree PlacedNode) (x y : ℕ) → IsWireLength parts up t x
     → IsWireLength parts up t y → x ≡ y
 unfolding IsWireLength
 wire_one parts [] t x y hx hy = hx ∙ sym hy
