@@ -1,1 +1,5 @@
+pub mod ColumnLemmas
 mod Example
+pub mod ObstacleLemmas
+pub mod OrderLemmas
+pub mod SearchLemmas

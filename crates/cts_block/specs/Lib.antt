@@ -1,2 +1,3 @@
 pub mod FreePoints
 pub mod NearestFree
+pub mod Search

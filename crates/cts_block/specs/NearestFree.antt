@@ -43,12 +43,17 @@ pub record IsDieInRange (die : Die) : Type 0 where
   pub x_ordered : die.x1 ≤ℤ die.x2
   pub y_ordered : die.y1 ≤ℤ die.y2
 
--- no point inside the block is outside the die
+-- the point (x, y), in nm, lies in the closed die
+pub record IsCornerIn (die : Die) (x y : ℤ) : Type 0 where
+  pub left : die.x1 ≤ℤ x
+  pub right : x ≤ℤ die.x2
+  pub bottom : die.y1 ≤ℤ y
+  pub top : y ≤ℤ die.y2
+
+-- both corners of the block lie in the closed die
 pub record LiesIn (die : Die) (block : Block) : Type 0 where
-  pub left : die.x1 ≤ℤ block.x1
-  pub right : block.x2 ≤ℤ die.x2
-  pub bottom : die.y1 ≤ℤ block.y1
-  pub top : block.y2 ≤ℤ die.y2
+  pub from : IsCornerIn die block.x1 block.y1
+  pub to : IsCornerIn die block.x2 block.y2
 
 -- a place has no more than one nearest free point
 abbrev pub NearestFreeIsOne : Type 0

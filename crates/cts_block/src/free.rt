@@ -8,7 +8,7 @@ use crate::blocks::{Block, Kind};
 use cts_geom::{Die, Half, Spot, halves};
 
 /// Whole nm, of a number of half nm rounded down.
-fn rounded_down(halves: i64) -> i64
+pub fn rounded_down(halves: i64) -> i64
     ensures low { (pos 2 *ℤ result) ≤ℤ halves }
     ensures high { halves ≤ℤ (pos 2 *ℤ result +ℤ pos 1) }
 {
@@ -16,7 +16,7 @@ fn rounded_down(halves: i64) -> i64
 }
 
 /// Whole nm, of a number of half nm rounded up.
-fn rounded_up(halves: i64) -> i64
+pub fn rounded_up(halves: i64) -> i64
     requires { halves ≤ℤ pos (2 ^ 41) }
     ensures low { (pos 2 *ℤ result) ≤ℤ (halves +ℤ pos 1) }
     ensures high { halves ≤ℤ (pos 2 *ℤ result) }
@@ -46,7 +46,7 @@ fn is_in_die(die: &Die, point: Half) -> bool
     is_between(die.x1, die.x2, point.x) && is_between(die.y1, die.y2, point.y)
 }
 
-fn is_inside(block: &Block, point: Half) -> bool
+pub fn is_inside(block: &Block, point: Half) -> bool
     requires { IsPointInRange point }
     ensures { IsTrue result ↔ IsInside block.now point }
 {

@@ -5,7 +5,13 @@
 #![tactic(auto)]
 
 mod blocks;
+mod distance;
 mod free;
+mod obstacles;
+mod scan;
+mod search;
+mod whole;
 
 pub use blocks::{Block, Kind};
 pub use free::{free_for_buffer, free_for_wire};
+pub use scan::nearest_free;

@@ -12,3 +12,4 @@ pub mod Tips
 pub mod Failures
 pub mod Statements
 mod Example
+pub mod Alike

@@ -4,3 +4,4 @@ pub mod ListSteps
 pub mod Places
 pub mod WordLists
 pub mod WordCounts
+pub mod Refusals

@@ -4,3 +4,4 @@ pub mod Grammar
 pub mod Header
 pub mod Items
 pub mod Whole
+pub mod Laws

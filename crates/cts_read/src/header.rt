@@ -40,6 +40,7 @@ pub fn version_of(line: &[u8]) -> Result<(), Cause>
     }
 }
 
+/// The die: its lower left and its upper right corner, in nm.
 #[tactic(auto, unfolding(crate::specs::Header::die_of))]
 pub fn die_of(line: &[u8]) -> Result<Die, Cause>
     ensures read { result ≡ die_of line.now }
@@ -60,6 +61,7 @@ pub fn die_of(line: &[u8]) -> Result<Die, Cause>
     Ok(die)
 }
 
+/// The source, which stands in the die.
 #[tactic(auto, unfolding(crate::specs::Header::source_of))]
 pub fn source_of(die: &Die, line: &[u8]) -> Result<Source, Cause>
     ensures read { result ≡ source_of die.now line.now }
@@ -78,6 +80,7 @@ pub fn source_of(die: &Die, line: &[u8]) -> Result<Source, Cause>
     Ok(source)
 }
 
+/// The wire: its resistance in µΩ and its capacitance in zF per nm.
 #[tactic(auto, unfolding(crate::specs::Header::wire_of))]
 pub fn wire_of(line: &[u8]) -> Result<Wire, Cause>
     ensures read { result ≡ wire_of line.now }
@@ -91,6 +94,7 @@ pub fn wire_of(line: &[u8]) -> Result<Wire, Cause>
     Ok(wire)
 }
 
+/// The three limits, each below 10^18 of its unit.
 #[tactic(auto, unfolding(crate::specs::Header::limits_of))]
 pub fn limits_of(line: &[u8]) -> Result<Limits, Cause>
     ensures read { result ≡ limits_of line.now }

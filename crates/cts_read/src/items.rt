@@ -23,6 +23,7 @@ fn count_of(key: &[u8], line: &[u8]) -> Result<usize, Cause>
     Ok(count as usize)
 }
 
+/// The line that says how many buffers follow, at most 16.
 #[tactic(auto, unfolding(crate::specs::Items::buffer_count_of), using(crate::proofs::Counts::buffer_count_small))]
 pub fn buffer_count_of(line: &[u8]) -> Result<usize, Cause>
     ensures read { result ≡ buffer_count_of line.now }
@@ -34,6 +35,7 @@ pub fn buffer_count_of(line: &[u8]) -> Result<usize, Cause>
     Ok(count)
 }
 
+/// The line that says how many sinks follow, from 1 to 65,536.
 #[tactic(auto, unfolding(crate::specs::Items::sink_count_of), using(crate::proofs::Counts::sink_count_small))]
 pub fn sink_count_of(line: &[u8]) -> Result<usize, Cause>
     ensures read { result ≡ sink_count_of line.now }
@@ -45,6 +47,7 @@ pub fn sink_count_of(line: &[u8]) -> Result<usize, Cause>
     Ok(count)
 }
 
+/// The line that says how many blocks follow, at most 4,160.
 #[tactic(auto, unfolding(crate::specs::Items::block_count_of), using(crate::proofs::Counts::block_count_small))]
 pub fn block_count_of(line: &[u8]) -> Result<usize, Cause>
     ensures read { result ≡ block_count_of line.now }
@@ -56,6 +59,7 @@ pub fn block_count_of(line: &[u8]) -> Result<usize, Cause>
     Ok(count)
 }
 
+/// A buffer: its input capacitance in zF, its resistance in µΩ and its delay in 10^-27 s.
 #[tactic(auto, unfolding(crate::specs::Items::buffer_numbers))]
 pub fn buffer_numbers(line: &[u8]) -> Result<Buffer, Cause>
     ensures { result ≡ buffer_numbers line.now }
@@ -71,6 +75,7 @@ pub fn buffer_numbers(line: &[u8]) -> Result<Buffer, Cause>
     })
 }
 
+/// A sink: its id, its place in nm and its capacitance in zF.
 #[tactic(auto, unfolding(crate::specs::Items::sink_numbers))]
 pub fn sink_numbers(line: &[u8]) -> Result<Sink, Cause>
     ensures { result ≡ sink_numbers line.now }
@@ -100,6 +105,7 @@ fn kind_of(words: &[u8]) -> Result<(Kind, &[u8]), Cause>
     }
 }
 
+/// A block: its kind, and its lower left and its upper right corner in nm.
 #[tactic(auto, unfolding(crate::specs::Items::block_numbers))]
 pub fn block_numbers(line: &[u8]) -> Result<Block, Cause>
     ensures { result ≡ block_numbers line.now }

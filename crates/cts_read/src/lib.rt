@@ -10,6 +10,7 @@ mod cursor;
 mod fields;
 mod header;
 mod items;
+pub mod laws;
 mod lists;
 mod read;
 mod stop;

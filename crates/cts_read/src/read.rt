@@ -1,6 +1,7 @@
 //! A whole instance, and what may follow it.
 
-ghost use Rattle.std.specs.Prelude.{◌≡◌, ◌<◌, ◌≤◌, ◌^◌, None, Ok, IfOk, IfErr, length, drop};
+ghost use Rattle.std.specs.Prelude.{◌≡◌, ℕ, List, Result, ◌<◌, ◌≤◌, ◌^◌, None, Ok, IfOk, IfErr, length, drop};
+ghost use Rattle.std.specs.Borrow.{Bor};
 ghost use Rattle.cts_read.specs.Place.{IsAfterLine};
 ghost use Rattle.cts_io.specs.Lines.{lines_of};
 ghost use Rattle.cts_instance.specs.FirstFault.{block_count_fault, buffer_count_fault, die_fault, first_fault, limits_fault, sink_count_fault, source_fault, wire_fault};
@@ -30,86 +31,21 @@ struct Head {
     limits: Limits,
 }
 
+/// The next line, read by one of the calls for its kind.
 #[tactic(auto, unfolding(crate::specs::Grammar::item_at))]
-fn read_version(lines: &mut Cursor<'_>) -> Result<(), ReadStop>
-    ensures read { Gives (λ x. x) result (left_of lines.new) (item_at version_of (left_of lines.old)) }
+fn read_line<T, F: FnOnce(&[u8]) -> Result<T, Cause>>(
+    lines: &mut Cursor<'_>,
+    read: F,
+) -> Result<T, ReadStop>
+    ghost item: { List ℕ → Result T Cause }
+    requires callable { F.IsAlwaysCallable read }
+    requires item { (line : Bor (List ℕ)) (found : Result T Cause) → F.post read line found → found ≡ item line.now }
+    ensures read { Gives (λ x. x) result (left_of lines.new) (item_at item (left_of lines.old)) }
+    ensures found { IfOk result (λ x. (line : Bor (List ℕ)) × F.post read line (Ok x)) }
     ensures text { lines.new.text ≡ lines.old.text }
 {
     let (number, line) = next_line(lines)?;
-    at_line(number, version_of(line))
-}
-
-#[tactic(auto, unfolding(crate::specs::Grammar::item_at))]
-fn read_die(lines: &mut Cursor<'_>) -> Result<Die, ReadStop>
-    ensures read { Gives (λ x. x) result (left_of lines.new) (item_at die_of (left_of lines.old)) }
-    ensures sound { IfOk result (λ x. die_fault x ≡ None) }
-    ensures text { lines.new.text ≡ lines.old.text }
-{
-    let (number, line) = next_line(lines)?;
-    at_line(number, die_of(line))
-}
-
-#[tactic(auto, unfolding(crate::specs::Grammar::item_at))]
-fn read_source(lines: &mut Cursor<'_>, die: &Die) -> Result<Source, ReadStop>
-    ensures read { Gives (λ x. x) result (left_of lines.new) (item_at (source_of die.now) (left_of lines.old)) }
-    ensures sound { IfOk result (λ x. source_fault die.now x.x x.y x.r ≡ None) }
-    ensures text { lines.new.text ≡ lines.old.text }
-{
-    let (number, line) = next_line(lines)?;
-    at_line(number, source_of(die, line))
-}
-
-#[tactic(auto, unfolding(crate::specs::Grammar::item_at))]
-fn read_wire(lines: &mut Cursor<'_>) -> Result<Wire, ReadStop>
-    ensures read { Gives (λ x. x) result (left_of lines.new) (item_at wire_of (left_of lines.old)) }
-    ensures sound { IfOk result (λ x. wire_fault x ≡ None) }
-    ensures text { lines.new.text ≡ lines.old.text }
-{
-    let (number, line) = next_line(lines)?;
-    at_line(number, wire_of(line))
-}
-
-#[tactic(auto, unfolding(crate::specs::Grammar::item_at))]
-fn read_limits(lines: &mut Cursor<'_>) -> Result<Limits, ReadStop>
-    ensures read { Gives (λ x. x) result (left_of lines.new) (item_at limits_of (left_of lines.old)) }
-    ensures sound { IfOk result (λ x. limits_fault x.insert_at x.load x.slew ≡ None) }
-    ensures text { lines.new.text ≡ lines.old.text }
-{
-    let (number, line) = next_line(lines)?;
-    at_line(number, limits_of(line))
-}
-
-#[tactic(auto, unfolding(crate::specs::Grammar::item_at))]
-fn read_buffer_count(lines: &mut Cursor<'_>) -> Result<usize, ReadStop>
-    ensures read { Gives (λ x. x) result (left_of lines.new) (item_at buffer_count_of (left_of lines.old)) }
-    ensures sound { IfOk result (λ count. buffer_count_fault count ≡ None) }
-    ensures bound { IfOk result (λ count. count < 2 ^ 32) }
-    ensures text { lines.new.text ≡ lines.old.text }
-{
-    let (number, line) = next_line(lines)?;
-    at_line(number, buffer_count_of(line))
-}
-
-#[tactic(auto, unfolding(crate::specs::Grammar::item_at))]
-fn read_sink_count(lines: &mut Cursor<'_>) -> Result<usize, ReadStop>
-    ensures read { Gives (λ x. x) result (left_of lines.new) (item_at sink_count_of (left_of lines.old)) }
-    ensures sound { IfOk result (λ count. sink_count_fault count ≡ None) }
-    ensures bound { IfOk result (λ count. count < 2 ^ 32) }
-    ensures text { lines.new.text ≡ lines.old.text }
-{
-    let (number, line) = next_line(lines)?;
-    at_line(number, sink_count_of(line))
-}
-
-#[tactic(auto, unfolding(crate::specs::Grammar::item_at))]
-fn read_block_count(lines: &mut Cursor<'_>) -> Result<usize, ReadStop>
-    ensures read { Gives (λ x. x) result (left_of lines.new) (item_at block_count_of (left_of lines.old)) }
-    ensures sound { IfOk result (λ count. block_count_fault count ≡ None) }
-    ensures bound { IfOk result (λ count. count < 2 ^ 32) }
-    ensures text { lines.new.text ≡ lines.old.text }
-{
-    let (number, line) = next_line(lines)?;
-    at_line(number, block_count_of(line))
+    at_line(number, read(line))
 }
 
 /// The line `end`, and its number.
@@ -132,11 +68,11 @@ fn read_head(lines: &mut Cursor<'_>) -> Result<Head, ReadStop>
     ensures sound { IfOk result IsSoundHead }
     ensures text { lines.new.text ≡ lines.old.text }
 {
-    read_version(lines)?;
-    let die = read_die(lines)?;
-    let source = read_source(lines, &die)?;
-    let wire = read_wire(lines)?;
-    let limits = read_limits(lines)?;
+    read_line(lines, version_of)?;
+    let die = read_line(lines, die_of)?;
+    let source = read_line(lines, |line| source_of(&die, line))?;
+    let wire = read_line(lines, wire_of)?;
+    let limits = read_line(lines, limits_of)?;
     Ok(Head {
         die,
         source,
@@ -160,11 +96,11 @@ fn read_lists(alloc: Global, lines: &mut Cursor<'_>, head: &Head) -> Result<List
     ensures sound { IfOk result (IsSoundLists head.now) }
     ensures text { lines.new.text ≡ lines.old.text }
 {
-    let buffer_count = read_buffer_count(lines)?;
+    let buffer_count = read_line(lines, buffer_count_of)?;
     let buffers = read_buffers(alloc, lines, buffer_count)?;
-    let sink_count = read_sink_count(lines)?;
+    let sink_count = read_line(lines, sink_count_of)?;
     let sinks = read_sinks(alloc, lines, &head.die, sink_count)?;
-    let block_count = read_block_count(lines)?;
+    let block_count = read_line(lines, block_count_of)?;
     let blocks = read_blocks(alloc, lines, &head.die, &head.source, &sinks, block_count)?;
     Ok(Lists {
         buffers: Library::of(buffers),

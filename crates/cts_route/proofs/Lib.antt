@@ -5,3 +5,7 @@ pub mod Turns
 pub mod Segments
 pub mod AlongX
 pub mod ClearWay
+pub mod Crossings
+pub mod Insertions
+pub mod FixedLines
+pub mod WallLists

@@ -1,6 +1,7 @@
 -- Statuses, and what a run did to its output.
-use Rattle.std.specs.Prelude.{◌≡◌, ℕ, ◌<◌, ◌≤◌, ◌⊎◌, List, [], length, take, codes, Option, None, Some, Result, Ok, Err}
-use Rattle.std.specs.Io.KnownBytes.{Appends}
+use Rattle.std.specs.Prelude.{◌≡◌, ◌≢◌, ℕ, ◌<◌, ◌≤◌, ◌⊎◌, List, [], length, take, codes, Option, None, Some, IfSome, Result, Ok, Err, IfOk, IfErr, IsErrOf}
+use Rattle.std.specs.Io.KnownBytes.{Appends, IsAtEnd}
+use Rattle.cts_io.specs.Faults.{Rose}
 use Rattle.cts_io.specs.declared.read.ReadEnd.{ReadEnd}
 use Rattle.cts_io.specs.declared.read.ReadEnd.TheVariants as reading
 use Rattle.cts_read.specs.declared.stop.Cause.{Cause}
@@ -40,6 +41,16 @@ status_of (Err stop.ReadFault) = status.ReadFault
 status_of (Err stop.WriteFault) = status.WriteFault
 status_of (Err stop.NoMemory) = status.NoMemory
 
+-- the program's exit status
+abbrev pub code_of : Status → ℕ
+code_of status.Done = 0
+code_of status.Words = 2
+code_of status.Refused = 3
+code_of status.NoTree = 4
+code_of status.ReadFault = 5
+code_of status.WriteFault = 6
+code_of status.NoMemory = 7
+
 -- the text for an instance: the report of its tree, or one line where it has none
 unfoldable pub text_of : Option Tree → List ℕ
 text_of (Some tree) = tree_text tree
@@ -67,6 +78,19 @@ Explains stop.NotBuilt bytes = (length bytes ≤ input_limit) × (i : Parts) × 
 Explains stop.ReadFault bytes = Unit
 Explains stop.WriteFault bytes = Unit
 Explains stop.NoMemory bytes = Unit
+
+-- How a run on an input and an output ends. An answer is written whole, once the input was read to its end; where nothing
+-- was written whole, the input explains why, and the output is as it was but for a write fault.
+pub record Serves {S K : Type 0} (left : S → Option (List ℕ)) (reads : S → ℕ) (held : K → Option (List ℕ)) (writes : K → ℕ)
+    (source source' : S) (sink sink' : K) (result : Result Answer Stop) : Type 0 where
+  pub done : IfOk result (λ answer. IsAtEnd (left source') × IfSome (left source) (Answers answer (held sink) (held sink')))
+  pub write_fault : IsErrOf result stop.WriteFault
+      → IsAtEnd (left source') × Rose (writes sink) (writes sink') × IfSome (left source) (AnswersInPart (held sink) (held sink'))
+  pub read_fault : IsErrOf result stop.ReadFault → Rose (reads source) (reads source')
+  pub explained : IfErr result (λ end. IfSome (left source) (Explains end))
+  pub kept : IfErr result (λ end. end ≢ stop.WriteFault → sink' ≡ sink)
+  pub source_counted : reads source ≤ reads source'
+  pub sink_counted : writes sink ≤ writes sink'
 
 -- The note of a refused input says that it is too long exactly where it is; else it names the first line that offends and
 -- its first cause, or says that the instance is not served so far. Where the source tells no bytes it is one of the three.

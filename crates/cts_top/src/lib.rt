@@ -1,9 +1,9 @@
 //! The program's one call: from words, an input and an output to a status.
 //!
-//! The layer above, the program, may use [`run_alone`] and the statuses. What stands beside it is
-//! private: the words (`words`), the instance of an input (`input`), the synthesis of one sink
-//! (`tree`, `synthesis`), the writer of its report (`report`, `answer`) and the notes (`stop`,
-//! `notes`). The synthesis and the writer make way for crates of their own as those come.
+//! The layer above, the program, may use [`run_alone`], [`end_without_memory`] where it can't even
+//! collect the words, and the statuses. What stands beside them is private: the words (`words`), the
+//! instance of an input (`input`), the synthesis of one sink (`tree`, `synthesis`), the writer of its
+//! report (`report`, `answer`) and the notes (`stop`, `notes`). The synthesis and the writer make way for crates of their own as those come.
 #![tactic(auto)]
 
 mod answer;
@@ -18,4 +18,4 @@ mod tree;
 mod words;
 
 pub use outcome::{Outcome, Status};
-pub use run::run_alone;
+pub use run::{end_without_memory, run_alone};

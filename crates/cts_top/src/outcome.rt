@@ -1,22 +1,42 @@
 //! How a run ended.
 
-/// How a run ended. The numbers are the program's exit statuses.
+/// How a run ended.
 #[derive(Clone, Copy, Debug, PartialEq, Eq)]
 pub enum Status {
     /// The report was written whole.
-    Done = 0,
+    Done,
     /// The words ask for nothing that is served.
-    Words = 2,
+    Words,
     /// The input is not served.
-    Refused = 3,
+    Refused,
     /// The tree is beyond the limits; a line that says so was written whole.
-    NoTree = 4,
+    NoTree,
     /// Reading the input failed.
-    ReadFault = 5,
+    ReadFault,
     /// Writing the report failed.
-    WriteFault = 6,
+    WriteFault,
     /// Memory ran out.
-    NoMemory = 7,
+    NoMemory,
+}
+
+impl Status {
+    ghost use Rattle.std.specs.Prelude.{◌≡◌};
+    ghost use Rattle.cts_top.specs.Outcome.{code_of};
+
+    /// The program's exit status.
+    pub fn code(self) -> u8
+        ensures { result ≡ code_of self }
+    {
+        match self {
+            Status::Done => 0,
+            Status::Words => 2,
+            Status::Refused => 3,
+            Status::NoTree => 4,
+            Status::ReadFault => 5,
+            Status::WriteFault => 6,
+            Status::NoMemory => 7,
+        }
+    }
 }
 
 /// What a run tells its caller.

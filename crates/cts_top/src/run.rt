@@ -1,11 +1,11 @@
 //! The top call: words, an input and an output to a status.
 
-ghost use Rattle.std.specs.Prelude.{◌≡◌, ◌≢◌, ◌≤◌, ◌↔◌, ◌⊎◌, List, ℕ, IfSome, IfOk, IsErrOf, IfErr, Ok};
+ghost use Rattle.std.specs.Prelude.{◌≡◌, ◌≢◌, ◌≤◌, ◌↔◌, ◌⊎◌, List, ℕ, IfSome, IsErrOf, Ok, codes};
 ghost use Rattle.std.specs.Io.KnownBytes.{Appends, IsAtEnd};
 ghost use Rattle.cts_io.specs.Faults.{Rose};
 ghost use Rattle.cts_instance.specs.declared.parts.Parts.{Parts};
 ghost use Rattle.cts_top.specs.Input.{IsRefused, Spells};
-ghost use Rattle.cts_top.specs.Outcome.{Answers, AnswersInPart, Explains, IsNote, answer_of, status_of};
+ghost use Rattle.cts_top.specs.Outcome.{Answers, AnswersInPart, IsNote, Serves, answer_of, status_of};
 ghost use Rattle.cts_top.specs.Synthesis.{synthesis_of};
 ghost use Rattle.cts_top.specs.Words.{IsSynth};
 
@@ -29,17 +29,8 @@ fn serve<S: ByteSource, K: ByteSink>(
     source: &mut S,
     sink: &mut K,
 ) -> Result<Answer, Stop>
-    ensures done { IfOk result (λ answer. IsAtEnd (S.left source.new)
-        × IfSome (S.left source.old) (Answers answer (K.held sink.old) (K.held sink.new))) }
-    ensures write_fault { IsErrOf result Stop.WriteFault → IsAtEnd (S.left source.new)
-        × Rose (K.faults sink.old) (K.faults sink.new)
-        × IfSome (S.left source.old) (AnswersInPart (K.held sink.old) (K.held sink.new)) }
-    ensures read_fault { IsErrOf result Stop.ReadFault → Rose (S.faults source.old) (S.faults source.new) }
-    ensures explained { IfErr result (λ stop. IfSome (S.left source.old) (Explains stop)) }
+    ensures serves { Serves S.left S.faults K.held K.faults source.old source.new sink.old sink.new result }
     ensures words { IsErrOf result Stop.Words → ⊥ }
-    ensures kept { IfErr result (λ stop. stop ≢ Stop.WriteFault → sink.new ≡ sink.old) }
-    ensures source_counted { S.faults source.old ≤ S.faults source.new }
-    ensures sink_counted { K.faults sink.old ≤ K.faults sink.new }
 {
     let bytes = read_all(alloc, source, INPUT_LIMIT)?;
     let instance = read_input(alloc, &bytes)?;
@@ -55,16 +46,7 @@ fn answer<S: ByteSource, K: ByteSink>(
 ) -> Result<Answer, Stop>
     ensures served { IsErrOf result Stop.Words ↔ (IsSynth words.now → ⊥) }
     ensures untouched { IsErrOf result Stop.Words → source.new ≡ source.old }
-    ensures done { IfOk result (λ answer. IsAtEnd (S.left source.new)
-        × IfSome (S.left source.old) (Answers answer (K.held sink.old) (K.held sink.new))) }
-    ensures write_fault { IsErrOf result Stop.WriteFault → IsAtEnd (S.left source.new)
-        × Rose (K.faults sink.old) (K.faults sink.new)
-        × IfSome (S.left source.old) (AnswersInPart (K.held sink.old) (K.held sink.new)) }
-    ensures read_fault { IsErrOf result Stop.ReadFault → Rose (S.faults source.old) (S.faults source.new) }
-    ensures explained { IfErr result (λ stop. IfSome (S.left source.old) (Explains stop)) }
-    ensures kept { IfErr result (λ stop. stop ≢ Stop.WriteFault → sink.new ≡ sink.old) }
-    ensures source_counted { S.faults source.old ≤ S.faults source.new }
-    ensures sink_counted { K.faults sink.old ≤ K.faults sink.new }
+    ensures serves { Serves S.left S.faults K.held K.faults source.old source.new sink.old sink.new result }
 {
     if is_synth(words) {
         serve(alloc, source, sink)
@@ -133,6 +115,21 @@ pub fn run_alone<R: Threads + Sync, S: ByteSource, K: ByteSink, N: ByteSink>(
         → (text : List ℕ) × IsNote (S.left source.old) result.status text × Appends (N.held notes.old) (N.held notes.new) text }
 {
     let ending = answer(alloc, words, source, sink);
+    // A note that can't be written changes nothing.
+    let _ = write_note(notes, &ending);
+    Outcome {
+        status: status_of(&ending),
+    }
+}
+
+/// Ends a run whose words found no memory, and tells the notes so.
+pub fn end_without_memory<N: ByteSink>(notes: &mut N) -> Outcome
+    ensures status { result.status ≡ Status.NoMemory }
+    ensures counted { N.faults notes.old ≤ N.faults notes.new }
+    ensures note { (Rose (N.faults notes.old) (N.faults notes.new) → ⊥)
+        → Appends (N.held notes.old) (N.held notes.new) (codes "no memory\n") }
+{
+    let ending = Err(Stop::NoMemory);
     // A note that can't be written changes nothing.
     let _ = write_note(notes, &ending);
     Outcome {

@@ -7,6 +7,7 @@ ghost use Rattle.cts_top.specs.declared.stop.Stop.TheVariants.{WriteFault};
 use crate::outcome::Status;
 use cts_io::{ReadEnd, WriteEnd};
 use cts_read::{Cause, ReadStop};
+use thiserror::Error;
 
 /// What a run wrote whole.
 #[derive(Clone, Copy)]
@@ -18,18 +19,28 @@ pub enum Answer {
 }
 
 /// Why a run wrote nothing whole.
-#[derive(Clone, Copy)]
+#[derive(Clone, Copy, Debug, Error)]
 pub enum Stop {
     /// The words are not served.
+    #[error("the words are not served")]
     Words,
     /// The input is longer than is accepted.
+    #[error("the input is too long")]
     TooLong,
     /// The input is no instance: its first line that offends, and the first cause of that line.
+    #[error("line {line}: {cause}")]
     Refused { line: u32, cause: Cause },
     /// The input is an instance that is not served yet.
+    #[error("not built")]
     NotBuilt,
+    /// Reading the input failed.
+    #[error("read fault")]
     ReadFault,
+    /// Writing the report failed.
+    #[error("write fault")]
     WriteFault,
+    /// Memory ran out.
+    #[error("no memory")]
     NoMemory,
 }
 

@@ -1,15 +1,13 @@
 -- The two parts of a list of pins: of any order of it, and of one that is sorted.
-use Rattle.std.proofs.Common.{◌≡◌, ◌≢◌, ℕ, suc, ◌+◌, ◌-◌, ◌*◌, ◌<◌, ◌≤◌, Bool, true, false, cond, not, nat_lt, ◌==◌, List, [], ◌∷◌, take, drop, length, get_or, filter, count_by, IsSortedBy, refl, sym, ap, subst, ◌∙◌, arith, zero-add}
+use Rattle.std.proofs.Common.{◌≡◌, ◌≢◌, ℕ, suc, ◌+◌, ◌-◌, ◌*◌, ◌<◌, ◌≤◌, Bool, true, false, cond, not, nat_lt, List, [], ◌∷◌, take, drop, length, get_or, filter, count_by, IsSortedBy, refl, sym, ap, subst, ◌∙◌, arith, zero-add}
 use Rattle.std.specs.List.{AllByRecursion}
-use Rattle.std.proofs.lemmas.List.Sums.{sum_by-take-drop}
 use Rattle.std.proofs.lemmas.List.Elements.{filter_agree}
-use Rattle.std.proofs.lemmas.Bool.Decides.{nat_tests}
 use Rattle.cts_topo.specs.declared.pin.Pin.{Pin}
 use Rattle.cts_topo.proofs.Apart.{AreApart, apart_tail, first_apart}
 use Rattle.cts_topo.specs.Topology.{is_before, is_wide, is_early, left_size, left_part, right_part}
 use Rattle.cts_topo.proofs.Shuffles.{Shuffled, length-Shuffled, sum_by-Shuffled, filter-Shuffled}
 use Rattle.cts_topo.proofs.Orders.{pins_weak, is_before-trans, ids_of_ties}
-use Rattle.cts_topo.proofs.Ranks.{Rises, rank_of, split_by_rank, count_by-cons}
+use Rattle.cts_topo.proofs.Ranks.{Rises, rank_of, split_by_rank}
 use Rattle.cts_topo.proofs.Extents.{is_wide-Shuffled}
 
 -- pins with different ids: one is before the other

@@ -1,15 +1,12 @@
 -- The pins of a list of sinks.
-use Rattle.std.proofs.Common.{◌≡◌, ◌≢◌, ℕ, suc, ◌+◌, ◌<◌, ◌≤◌, ◌==◌, ◌⊎◌, inl, inr, cond, List, [], ◌∷◌, ◌++◌, take, length, get_or, AllPairs, count_by, refl, sym, ap, ◌∙◌, arith, add-zero}
+use Rattle.std.proofs.Common.{◌≡◌, ◌≢◌, ℕ, suc, ◌+◌, ◌<◌, List, [], ◌∷◌, ◌++◌, take, length, get_or, refl, sym, ap, ◌∙◌, arith, add-zero}
 use Rattle.std.proofs.lemmas.List.{take_more, length-take-le}
-use Rattle.std.proofs.lemmas.Bool.{cases_lt}
-use Rattle.std.proofs.lemmas.Bool.Decides.{nat_tests}
 use Rattle.std.specs.List.{AllByRecursion}
 use Rattle.cts_units.specs.declared.params.Sink.{Sink}
 use Rattle.cts_units.specs.Ids.{HasDistinctIds}
 use Rattle.cts_topo.specs.declared.pin.Pin.{Pin}
 use Rattle.cts_topo.proofs.Apart.{AreApart, ApartByRecursion, apart_by_recursion}
 use Rattle.cts_topo.specs.Topology.{pin_of, pins_from}
-use Rattle.cts_topo.proofs.Ranks.{count_by-cons}
 
 pub pins_from-push : (place : ℕ) (sinks : List Sink) (s : Sink)
     → pins_from place (sinks ++ s ∷ []) ≡ pins_from place sinks ++ pin_of s (place + length sinks) ∷ []

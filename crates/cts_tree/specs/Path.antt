@@ -1,5 +1,5 @@
 -- A route as the list of its points, in half nm: its start, the points where it turns, and its end.
-use Rattle.std.specs.Prelude.{◌≡◌, ◌≢◌, ℕ, ◌+◌, ◌*◌, ◌⊎◌, Bool, ◌&&◌, ℤ, int_lt, List, [], ◌∷◌, ◌++◌, if◌then◌else◌}
+use Rattle.std.specs.Prelude.{◌≡◌, ◌≢◌, ℕ, ◌+◌, ◌*◌, ◌⊎◌, Bool, ◌&&◌, ℤ, int_lt, ◌≤ℤ◌, List, [], ◌∷◌, ◌++◌, if◌then◌else◌}
 use Rattle.std.specs.Bool.{beq}
 use Rattle.cts_geom.specs.declared.points.Half.{Half}
 use Rattle.cts_geom.specs.Points.{manhattan_of}
@@ -40,6 +40,21 @@ turns_of (p ∷ []) = []
 turns_of (p ∷ q ∷ []) = []
 turns_of (p ∷ q ∷ r ∷ points) =
     if goes_on p q r then turns_of (q ∷ r ∷ points) else (q ∷ turns_of (q ∷ r ∷ points))
+
+-- c lies between a and b, or is one of them
+abbrev pub IsWithin : ℤ → ℤ → ℤ → Type 0
+IsWithin a b c = ((a ≤ℤ c) × (c ≤ℤ b)) ⊎ ((b ≤ℤ c) × (c ≤ℤ a))
+
+-- r is a point of the segment from p to q, which runs along an axis
+pub record IsOnSegment (p q r : Half) : Type 0 where
+  pub x : IsWithin p.x q.x r.x
+  pub y : IsWithin p.y q.y r.y
+
+-- every point of a way has a property, those between its corners too
+unfoldable pub AllAlong : (Half → Type 0) → List Half → Type 0
+AllAlong P [] = Unit {0}
+AllAlong P (p ∷ []) = P p
+AllAlong P (p ∷ q ∷ points) = ((r : Half) → IsOnSegment p q r → P r) × AllAlong P (q ∷ points)
 
 -- The route follows the way through these points: it has their turns as corners, and their length.
 pub record Follows (route : Route) (points : List Half) : Type 0 where

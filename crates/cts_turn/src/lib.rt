@@ -15,3 +15,6 @@ mod view;
 
 pub use object::Object;
 pub use turn::{Pass, StillOut, Turn};
+
+#[cfg(test)]
+mod tests;

@@ -1,9 +1,8 @@
-use Rattle.std.proofs.Common.{ap, Some}
-use Rattle.atomic_table.specs.Table.{rest}
+use Rattle.std.proofs.Common.{Some}
 use Rattle.cts_turn.proofs.turn.Turn.take.Goals as goal
 
 pub exchange-requires : goal.exchange-requires
 exchange-requires g c = (
   c.requires.own,
-  (Some c.requires.holds.0, cc (c.requires.holds.1, ap rest c.requires.holds.1)),
+  (Some c.requires.holds.0, cc (c.requires.holds.1)),
 )

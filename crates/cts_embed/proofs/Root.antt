@@ -1,0 +1,94 @@
+-- What the balance makes of the whole placed tree.
+use Rattle.std.proofs.Common.{◌≡◌, ◌-◌, ◌<◌, List, map, length, get_or, Some, sym, ap, subst, ◌∙◌, arith}
+use Rattle.std.specs.List.{AllZip}
+use Rattle.std.proofs.lemmas.Slice.Zip.{AllZip-long}
+use Rattle.std.proofs.lemmas.Option.{get_or_from_slice_get}
+use Rattle.cts_postorder.specs.BinaryTree.{BinaryTree, label}
+use Rattle.cts_postorder.specs.PostOrder.{IsPostOrder, trees_of, root_of}
+use Rattle.cts_postorder.proofs.Growth.{length-trees_of}
+use Rattle.cts_postorder.proofs.Zips.{all_zip-at}
+use Rattle.cts_postorder.proofs.Lists.{Whole, whole_of, length_pos}
+use Rattle.cts_tree.specs.declared.nodes.PlacedNode.{PlacedNode}
+use Rattle.cts_tree.specs.Nodes.{placed_children}
+use Rattle.cts_units.specs.declared.params.Params.{Params}
+use Rattle.cts_units.specs.declared.params.Sink.{Sink}
+use Rattle.cts_instance.specs.declared.parts.Parts.{Parts}
+use Rattle.cts_instance.specs.Validity.{IsSink, IsValid}
+use Rattle.cts_embed.specs.declared.node.NodeBalance.{NodeBalance}
+use Rattle.cts_embed.specs.Balance.{IsBalance, IsRootWithin}
+use Rattle.cts_embed.specs.BalancedTree.{IsBalancedWhole, IsBalancedWithin, IsBeyondRoot}
+use Rattle.cts_embed.specs.Range.{IsInRange}
+use Rattle.cts_embed.proofs.Range.{in_range}
+use Rattle.cts_embed.proofs.Steps.{label_at}
+
+-- the last node carries the root
+pub root_label : (nodes : List PlacedNode) → IsPostOrder (map placed_children nodes) → (e : PlacedNode) (t : BinaryTree PlacedNode)
+    → root_of placed_children nodes ≡ Some t → label t ≡ get_or nodes (length nodes - 1) e
+unfolding root_of
+root_label nodes ok e t is =
+    let trees : List (BinaryTree PlacedNode) = trees_of placed_children nodes in
+    let some : 0 < length nodes = length_pos placed_children nodes ok in
+    ap label (sym (get_or_from_slice_get trees (length nodes - 1) t t is))
+    ∙ label_at nodes (length nodes - 1) t e (omega arith)
+
+-- what is read of an instance is its own
+pub of_instance : (parts : Parts) (params : Params) (sinks : List Sink) (nodes : List PlacedNode) (balances : List NodeBalance)
+    → params ≡ parts.params → sinks ≡ parts.sinks → AllZip (IsBalance params sinks) (trees_of placed_children nodes) balances
+    → AllZip (IsBalance parts.params parts.sinks) (trees_of placed_children nodes) balances
+of_instance parts params sinks nodes balances same_params same_sinks all =
+    subst (λ ps. AllZip (IsBalance ps parts.sinks) (trees_of placed_children nodes) balances) same_params
+    (subst (λ ss. AllZip (IsBalance params ss) (trees_of placed_children nodes) balances) same_sinks all)
+
+module _ (parts : Parts) (nodes : List PlacedNode) (ok : IsPostOrder (map placed_children nodes)) (balances : List NodeBalance)
+    (all : AllZip (IsBalance parts.params parts.sinks) (trees_of placed_children nodes) balances) where
+  pub last_within : length nodes - 1 < length balances
+  last_within =
+      omega (
+        arith,
+        AllZip-long (IsBalance parts.params parts.sinks) (trees_of placed_children nodes) balances all,
+        length-trees_of placed_children nodes,
+        length_pos placed_children nodes ok,
+      )
+
+  -- the last of the list is that of the root
+  module _ (e : PlacedNode) (b d : NodeBalance) (read : b ≡ get_or balances (length nodes - 1) d) where
+    w : Whole placed_children nodes
+    w = whole_of placed_children nodes ok
+
+    root_balance : IsBalance parts.params parts.sinks w.tree b
+    unfolding root_of
+    root_balance =
+        let trees : List (BinaryTree PlacedNode) = trees_of placed_children nodes in
+        let here : IsBalance parts.params parts.sinks (get_or trees (length nodes - 1) w.tree) (get_or balances (length nodes - 1) d) =
+        all_zip-at (IsBalance parts.params parts.sinks) trees balances (length nodes - 1) w.tree d all
+        (omega (arith, length-trees_of placed_children nodes, length_pos placed_children nodes ok)) in
+        subst (λ u. IsBalance parts.params parts.sinks u b) (get_or_from_slice_get trees (length nodes - 1) w.tree w.tree w.root_is)
+        (subst (IsBalance parts.params parts.sinks (get_or trees (length nodes - 1) w.tree)) (sym read) here)
+
+    whole : IsBalancedWhole parts nodes w.tree b
+    whole = record { whole = w.root_is; balanced = root_balance }
+
+    root_node : get_or nodes (length nodes - 1) e ≡ label w.tree
+    root_node = sym (root_label nodes ok e w.tree w.root_is)
+
+    pub root_in_range : IsValid parts → IsInRange b
+    root_in_range valid =
+        in_range parts.params parts.sinks w.tree b root_balance valid.params (λ k x h. let s : IsSink parts.die _ = valid.sinks k x h in s.cap)
+
+    pub all_within : IsRootWithin parts (get_or nodes (length nodes - 1) e).route.length b → IsBalancedWithin parts nodes
+    all_within within = record {
+      root = w.tree;
+      balance = b;
+      whole = whole;
+      within = subst (λ (n : PlacedNode). IsRootWithin parts n.route.length b) root_node within;
+    }
+
+    pub root_beyond : ¬ IsRootWithin parts (get_or nodes (length nodes - 1) e).route.length b
+        → IsBeyondRoot parts nodes (length nodes - 1)
+    root_beyond over = record {
+      last = omega (arith, length_pos placed_children nodes ok);
+      root = w.tree;
+      balance = b;
+      whole = whole;
+      over = subst (λ (n : PlacedNode). ¬ IsRootWithin parts n.route.length b) root_node over;
+    }

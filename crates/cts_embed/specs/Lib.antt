@@ -1,0 +1,10 @@
+pub mod Fitting
+pub mod Balance
+pub mod BalancedTree
+pub mod WithWires
+pub mod Ends
+pub mod Laws
+pub mod Range
+pub use Rattle.cts_tree.specs.Nodes
+pub use Rattle.cts_merge.specs.LeastPair
+pub use Rattle.cts_postorder.specs.Pass

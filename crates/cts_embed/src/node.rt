@@ -1,0 +1,14 @@
+//! What the balance makes of one node.
+
+/// A node as the balance is done with it.
+#[derive(Clone, Copy)]
+pub struct NodeBalance {
+    /// The greatest doubled delay from the node to a leaf, its own buffer included, in 10^-27 s.
+    pub greatest: u128,
+    /// The load as seen from above the node, in zF.
+    pub load: u64,
+    /// The length of the wire to its left child in nm, 0 at a leaf.
+    pub left_wire: u64,
+    /// The length of the wire to its right child in nm, 0 at a leaf.
+    pub right_wire: u64,
+}

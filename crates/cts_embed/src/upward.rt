@@ -1,0 +1,241 @@
+//! The upward pass of the balance: what it makes of each node.
+
+ghost use Rattle.std.specs.Prelude.{◌≡◌, ◌+◌, ◌-◌, ◌^◌, ◌<◌, ◌≤◌, ◌++◌, ◌∷◌, ◌↔◌, [], IsTrue, map, take, length, IfOk, IfErr, MatchOption, All};
+ghost use Rattle.std.specs.List.{AllZip};
+ghost use Rattle.cts_units.specs.Choice.{added_delay_of, seen_load_of};
+ghost use Rattle.cts_units.specs.Limits.{IsParams};
+ghost use Rattle.cts_merge.specs.LeastPair.{IsTooLong, Covers};
+ghost use Rattle.cts_postorder.specs.PostOrder.{IsPostOrder, trees_of};
+ghost use Rattle.cts_postorder.specs.Pass.{IsLeastFailure};
+ghost use Rattle.cts_tree.specs.Nodes.{placed_children};
+ghost use Rattle.cts_embed.specs.Balance.{IsBalance, IsBeyondBalance, IsLeafBalance, IsPairBalance, IsPairBeyond, IsRootWithin, IsWirePair, delay_through};
+ghost use Rattle.cts_embed.specs.BalancedTree.{IsBalancedWithin};
+ghost use Rattle.cts_embed.specs.Ends.{BalanceEnds, NodeEnds};
+ghost use Rattle.cts_embed.specs.Fitting.{Fits, NamesWithin};
+ghost use Rattle.cts_embed.specs.Range.{IsInRange};
+
+use crate::end::BalanceEnd;
+use crate::node::NodeBalance;
+use cts_geom::Region;
+use cts_instance::Instance;
+use cts_merge::{Beyond, Side, choose};
+use cts_tree::{NodeKind, PlacedNode};
+use cts_units::{MAX_DELAY, MAX_LENGTH, MAX_LOAD, Params, Sink, buffer_delay, wire_delay};
+use std::alloc::Global;
+
+/// A node as `choose` takes it, which looks at no region.
+fn side_of(node: &NodeBalance) -> Side
+    ensures greatest { result.greatest ≡ node.now.greatest }
+    ensures load { result.load ≡ node.now.load }
+{
+    Side {
+        greatest: node.greatest,
+        load: node.load,
+        region: Region {
+            u1: 0,
+            u2: 0,
+            v1: 0,
+            v2: 0,
+        },
+    }
+}
+
+/// The lengths of the wires to two children whose routes have the lengths `la` and `lb`.
+fn wire_pair(
+    params: &Params,
+    a: &NodeBalance,
+    la: u64,
+    b: &NodeBalance,
+    lb: u64,
+) -> Result<(u64, u64), Beyond>
+    requires params { IsParams params.now }
+    requires a { IsInRange a.now }
+    requires b { IsInRange b.now }
+    ensures wires { IfOk result (λ pair. IsWirePair params.now.wire a.now la b.now lb pair.0 pair.1) }
+    ensures left_within { IfOk result (λ pair. pair.0 ≤ 2 ^ 31 - 1) }
+    ensures right_within { IfOk result (λ pair. pair.1 ≤ 2 ^ 31 - 1) }
+    ensures beyond { IfErr result (λ _.
+        IsTooLong (delay_through params.now.wire a.now) (delay_through params.now.wire b.now) (Covers la lb)) }
+{
+    choose(params, &side_of(a), la, &side_of(b), lb)
+}
+
+/// The greatest delay of a node through a wire of this length above it.
+fn delay_through(params: &Params, node: &NodeBalance, length: u64) -> u128
+    requires params { IsParams params.now }
+    requires node { IsInRange node.now }
+    requires length { length ≤ 2 ^ 31 - 1 }
+    ensures value { result ≡ delay_through params.now.wire node.now length }
+    ensures bound { result ≤ 2 ^ 111 }
+{
+    node.greatest + wire_delay(params.wire, length, node.load)
+}
+
+/// The delay that a node's buffer adds over a load, and the load that is seen from above it.
+fn buffered(params: &Params, buffer: Option<u16>, load: u64) -> (u128, u64)
+    requires params { IsParams params.now }
+    requires load { load ≤ 2 ^ 56 }
+    requires buffer { MatchOption buffer (Unit {0}) (λ index. index < length params.now.library) }
+    ensures added { result.0 ≡ added_delay_of params.now.library buffer load }
+    ensures added_bound { result.0 ≤ 2 ^ 118 }
+    ensures seen { result.1 ≡ seen_load_of params.now.library buffer load }
+    ensures seen_bound { result.1 ≤ 2 ^ 56 }
+{
+    match buffer {
+        Some(index) => {
+            let chosen = params.library.items()[index as usize];
+            (buffer_delay(chosen, load), chosen.cin)
+        }
+        None => (0, load),
+    }
+}
+
+/// A pair with this buffer over two children and the routes to them.
+fn pair_balance(
+    params: &Params,
+    buffer: Option<u16>,
+    a: &NodeBalance,
+    la: u64,
+    b: &NodeBalance,
+    lb: u64,
+) -> Result<NodeBalance, Beyond>
+    requires params { IsParams params.now }
+    requires buffer { MatchOption buffer (Unit {0}) (λ index. index < length params.now.library) }
+    requires a { IsInRange a.now }
+    requires b { IsInRange b.now }
+    ensures pair { IfOk result (IsPairBalance params.now buffer a.now la b.now lb) }
+    ensures beyond { IfErr result (λ _. IsPairBeyond params.now buffer a.now la b.now lb) }
+{
+    let (left_wire, right_wire) = wire_pair(params, a, la, b, lb)?;
+    let load = a.load + b.load + params.wire.c * (left_wire + right_wire);
+    if load > MAX_LOAD {
+        return Err(Beyond);
+    }
+    let (added, seen) = buffered(params, buffer, load);
+    let left_delay = delay_through(params, a, left_wire);
+    let right_delay = delay_through(params, b, right_wire);
+    let greatest = left_delay.max(right_delay) + added;
+    if greatest > MAX_DELAY {
+        return Err(Beyond);
+    }
+    Ok(NodeBalance {
+        greatest,
+        load: seen,
+        left_wire,
+        right_wire,
+    })
+}
+
+/// A leaf over its sink.
+fn leaf_balance(sink: &Sink) -> NodeBalance
+    ensures { IsLeafBalance sink.now result }
+{
+    NodeBalance {
+        greatest: 0,
+        load: sink.cap,
+        left_wire: 0,
+        right_wire: 0,
+    }
+}
+
+/// What the balance makes of the node of this number, by what it made of the nodes before it.
+fn balance_node(
+    params: &Params,
+    sinks: &[Sink],
+    nodes: &[PlacedNode],
+    number: usize,
+    balances: &[NodeBalance],
+) -> Result<NodeBalance, Beyond>
+    requires params { IsParams params.now }
+    requires caps { All (λ sink. sink.cap ≤ 10 ^ 12) sinks.now }
+    requires post_order { IsPostOrder (map placed_children nodes.now) }
+    requires names { All (λ node. NamesWithin (length sinks.now) (length params.now.library) node.kind) nodes.now }
+    requires number { number < length nodes.now }
+    requires before { AllZip (IsBalance params.now sinks.now) (take number (trees_of placed_children nodes.now)) balances.now }
+    ensures next { IfOk result (λ node. AllZip (IsBalance params.now sinks.now)
+        (take (number + 1) (trees_of placed_children nodes.now)) (balances.now ++ node ∷ [])) }
+    ensures beyond { IfErr result (λ _.
+        IsLeastFailure placed_children nodes.now (IsBeyondBalance params.now sinks.now) number) }
+{
+    match nodes[number].kind {
+        NodeKind::Leaf { sink, .. } => Ok(leaf_balance(&sinks[sink as usize])),
+        NodeKind::Pair {
+            left,
+            right,
+            buffer,
+        } => {
+            let (left, right) = (left as usize, right as usize);
+            let (la, lb) = (nodes[left].route.length, nodes[right].route.length);
+            pair_balance(params, buffer, &balances[left], la, &balances[right], lb)
+        }
+    }
+}
+
+/// What the balance makes of each node, by number.
+fn balance_nodes(
+    alloc: Global,
+    params: &Params,
+    sinks: &[Sink],
+    nodes: &[PlacedNode],
+) -> Result<Vec<NodeBalance>, BalanceEnd>
+    requires params { IsParams params.now }
+    requires caps { All (λ sink. sink.cap ≤ 10 ^ 12) sinks.now }
+    requires post_order { IsPostOrder (map placed_children nodes.now) }
+    requires few { length nodes.now ≤ 131071 }
+    requires names { All (λ node. NamesWithin (length sinks.now) (length params.now.library) node.kind) nodes.now }
+    ensures balances { IfOk result (λ balances.
+        AllZip (IsBalance params.now sinks.now) (trees_of placed_children nodes.now) balances.items) }
+    ensures ends { IfErr result (NodeEnds params.now sinks.now nodes.now) }
+{
+    let mut balances = Vec::with_capacity(alloc, nodes.len())?;
+    for number in 0..nodes.len() {
+        match balance_node(params, sinks, nodes, number, balances.as_slice()) {
+            Ok(node) => balances.push(node)?,
+            Err(Beyond) => {
+                return Err(BalanceEnd::Beyond {
+                    node: number as u32,
+                });
+            }
+        }
+    }
+    Ok(balances)
+}
+
+/// Whether the limits that are asked of the root alone are met, with a wire of this length above it.
+fn is_root_within(instance: &Instance, length: u64, root: &NodeBalance) -> bool
+    requires root { IsInRange root.now }
+    ensures { IsTrue result ↔ IsRootWithin instance.now length root.now }
+{
+    if length > MAX_LENGTH {
+        return false;
+    }
+    let params = instance.params();
+    let load = root.load + params.wire.c * length;
+    if load > MAX_LOAD {
+        return false;
+    }
+    let source_delay = 2 * instance.source_r() as u128 * load as u128;
+    source_delay + delay_through(params, root, length) <= MAX_DELAY
+}
+
+/// What the balance makes of each node, by number, where all of the tree is within the limits.
+pub(crate) fn balances_of(
+    alloc: Global,
+    instance: &Instance,
+    nodes: &[PlacedNode],
+) -> Result<Vec<NodeBalance>, BalanceEnd>
+    requires post_order { IsPostOrder (map placed_children nodes.now) }
+    requires fits { Fits instance.now nodes.now }
+    ensures within { IfOk result (λ _. IsBalancedWithin instance.now nodes.now) }
+    ensures balances { IfOk result (λ balances. AllZip (IsBalance instance.now.params instance.now.sinks)
+        (trees_of placed_children nodes.now) balances.items) }
+    ensures ends { IfErr result (BalanceEnds instance.now nodes.now) }
+{
+    let balances = balance_nodes(alloc, instance.params(), instance.sinks(), nodes)?;
+    let last = nodes.len() - 1;
+    let root = balances[last];
+    if !is_root_within(instance, nodes[last].route.length, &root) {
+        return Err(BalanceEnd::Beyond { node: last as u32 });
+    }
+    Ok(balances)
+}

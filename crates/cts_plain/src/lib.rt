@@ -1,0 +1,4 @@
+//! The synthesis by one thread.
+#![tactic(auto)]
+
+pub mod laws;

@@ -1,0 +1,58 @@
+-- Lines of nodes and points, one more at a time.
+use Rattle.std.proofs.Common.{◌≡◌, ℕ, zero, suc, ◌+◌, ◌<◌, List, [], ◌∷◌, ◌++◌, length, take, get_or, refl, sym, ap, ◌∙◌, arith, append_assoc, append-nil}
+use Rattle.std.specs.List.{concat}
+use Rattle.std.proofs.lemmas.List.{take_more, length-take-le}
+use Rattle.cts_tree.specs.declared.nodes.TreeNode.{TreeNode}
+use Rattle.cts_elmore.specs.declared.figures.NodeFigure.{NodeFigure}
+use Rattle.cts_report.specs.Printed.{PrintedNode}
+use Rattle.cts_report.specs.Lines.{node_line, node_lines}
+use Rattle.cts_report.specs.Report.{printed_node, printed_nodes}
+
+pub concat-append : (xs ys : List (List ℕ)) → concat (xs ++ ys) ≡ concat xs ++ concat ys
+concat-append [] ys = refl
+concat-append (x ∷ xs) ys = ap (λ t. x ++ t) (concat-append xs ys) ∙ sym (append_assoc x (concat xs) (concat ys))
+
+-- the lines of nodes, with one more node
+pub node_lines_more : (number : ℕ) (nodes : List PrintedNode) (node : PrintedNode)
+    → concat (node_lines number (nodes ++ node ∷ [])) ≡ concat (node_lines number nodes) ++ node_line (number + length nodes) node
+unfolding node_lines
+node_lines_more number [] node =
+    append-nil (node_line number node) ∙ ap (λ n. node_line n node) (omega arith)
+node_lines_more number (first ∷ nodes) node =
+    ap (λ t. node_line number first ++ t)
+    (node_lines_more (number + 1) nodes node ∙ ap (λ n. concat (node_lines (number + 1) nodes) ++ node_line n node) (omega arith))
+    ∙ sym (append_assoc (node_line number first) (concat (node_lines (number + 1) nodes)) (node_line (number + length (first ∷ nodes)) node))
+
+pub length-printed_nodes : (nodes : List TreeNode) (figures : List NodeFigure) → length figures ≡ length nodes
+    → length (printed_nodes nodes figures) ≡ length nodes
+unfolding printed_nodes
+length-printed_nodes [] figures h = refl
+length-printed_nodes (node ∷ nodes) [] h = absurd (omega arith)
+length-printed_nodes (node ∷ nodes) (figure ∷ figures) h =
+    ap suc (length-printed_nodes nodes figures (omega arith))
+
+-- what is printed of the node of a number
+pub get_or-printed_nodes : (nodes : List TreeNode) (figures : List NodeFigure) (k : ℕ) (n : TreeNode) (f : NodeFigure) (p : PrintedNode)
+    → length figures ≡ length nodes → k < length nodes
+    → get_or (printed_nodes nodes figures) k p ≡ printed_node (get_or nodes k n) (get_or figures k f)
+unfolding printed_nodes
+get_or-printed_nodes [] figures k n f p h w = absurd (omega arith)
+get_or-printed_nodes (node ∷ nodes) [] k n f p h w = absurd (omega arith)
+get_or-printed_nodes (node ∷ nodes) (figure ∷ figures) zero n f p h w = refl
+get_or-printed_nodes (node ∷ nodes) (figure ∷ figures) (suc k) n f p h w =
+    get_or-printed_nodes nodes figures k n f p (omega arith) (omega arith)
+
+-- the lines of the nodes before a number, and then that node's
+pub lines_before_more : (nodes : List TreeNode) (figures : List NodeFigure) (k : ℕ) (n : TreeNode) (f : NodeFigure)
+    → length figures ≡ length nodes → k < length nodes
+    → concat (node_lines 0 (take (k + 1) (printed_nodes nodes figures)))
+    ≡ concat (node_lines 0 (take k (printed_nodes nodes figures))) ++ node_line k (printed_node (get_or nodes k n) (get_or figures k f))
+lines_before_more nodes figures k n f h w =
+    let printed : List PrintedNode = printed_nodes nodes figures in
+    let p : PrintedNode = printed_node (get_or nodes k n) (get_or figures k f) in
+    let long : length printed ≡ length nodes = length-printed_nodes nodes figures h in
+    let front : length (take k printed) ≡ k = length-take-le k printed (omega arith) in
+    ap (λ ps. concat (node_lines 0 ps)) (take_more printed k p (omega arith)
+    ∙ ap (λ q. take k printed ++ q ∷ []) (get_or-printed_nodes nodes figures k n f p h w))
+    ∙ node_lines_more 0 (take k printed) p
+    ∙ ap (λ i. concat (node_lines 0 (take k printed)) ++ node_line i p) (omega arith)

@@ -1,0 +1,33 @@
+use Rattle.std.proofs.Common.{take_all, take, sym, ap, subst, ◌∙◌, ◌++◌, arith, get_or}
+use Rattle.std.specs.List.{concat}
+use Rattle.cts_io.specs.Text.{Puts}
+use Rattle.cts_io.proofs.Chains.{◌▸◌, puts_nothing}
+use Rattle.cts_elmore.specs.declared.figures.NodeFigure.{NodeFigure}
+use Rattle.cts_report.specs.Lines.{node_lines, node_line}
+use Rattle.cts_report.specs.Report.{printed_nodes, printed_node}
+use Rattle.cts_report.proofs.Numbered.{length-printed_nodes, lines_before_more}
+use Rattle.cts_report.proofs.report.put_nodes.Goals as goal
+
+-- what a list of figures gives past its end
+abbrev no_figure : NodeFigure
+no_figure = record { below = 0; residue = 0; delay = 0; stage = 0 }
+
+pub loop-number-init : goal.loop-number-init
+unfolding node_lines
+loop-number-init g c = puts_nothing _ _ _ _
+
+pub loop-number-preserved : goal.loop-number-preserved
+loop-number-preserved g c =
+    subst (λ text. Puts g.K.ByteSink.held g.K.ByteSink.faults c.args.sink.now c.args.out.now c.put_node.new.sink c.put_node.new.out text)
+    (ap (λ node. concat (node_lines 0 (take c.loop-number.number (printed_nodes c.args.nodes.now c.args.figures.now)))
+    ++ node_line c.loop-number.number (printed_node node (get_or c.args.figures.now c.loop-number.number no_figure)))
+    c.index-nodes-number.is
+    ∙ sym (lines_before_more c.args.nodes.now c.args.figures.now c.loop-number.number c.index-nodes-number.result no_figure
+    c.requires.long c.loop-number-test.true))
+    (c.loop-number.invariant ▸ c.put_node.ensures)
+
+pub returns : goal.returns
+returns g c =
+    rw (sym (take_all c.loop-number.number (printed_nodes c.args.nodes.now c.args.figures.now)
+    (omega (arith, length-printed_nodes c.args.nodes.now c.args.figures.now c.requires.long, c.loop-number-test.false))))
+    c.loop-number.invariant

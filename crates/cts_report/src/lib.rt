@@ -1,0 +1,13 @@
+//! The text of a report: a tree with its figures, written to a sink.
+//!
+//! The text is a function of what is printed (`specs/Printed.antt`, and its lines in
+//! `specs/Lines.antt`), and the report of a tree prints the numbers of the tree and of its figures
+//! (`specs/Report.antt`). So a layer above that reads a report speaks of the same lines. The writer
+//! takes no memory, and gives the sink some KiB at a time.
+#![tactic(auto)]
+
+mod line;
+mod report;
+mod words;
+
+pub use report::{write_report, write_summary};
