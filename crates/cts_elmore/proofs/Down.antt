@@ -25,8 +25,8 @@ use Rattle.cts_elmore.specs.declared.descent.Output.{Output}
 use Rattle.cts_elmore.specs.Fits.{NamesBuffer}
 use Rattle.cts_elmore.specs.Loads.{buffer_at, is_buffered, load_below}
 use Rattle.cts_elmore.specs.Delays.{wire_delay, buffer_delay, output_delay, source_delay, delay_at, stage_at}
-use Rattle.cts_elmore.specs.Skew.{greatest_below}
-use Rattle.cts_elmore.specs.Figures.{IsNodeFigure}
+use Rattle.cts_elmore.specs.Skew.{greatest_below, residue}
+use Rattle.cts_elmore.specs.Figures.{IsNodeFigure, IsFigureInRange}
 use Rattle.cts_elmore.specs.Outputs.{stage_after, IsOutput, IsPartFigure, LoadIsMet, SlewIsMet}
 use Rattle.cts_elmore.specs.Subtrees.{IsSubtree}
 use Rattle.cts_elmore.proofs.Paths.{delay_at_root, delay_at_part, stage_at_root, stage_at_part}
@@ -38,6 +38,20 @@ pub record IsRight (i : Parts) (root : BinaryTree TreeNode) (o : Occurrence Tree
   pub figure : IsNodeFigure i root o f
   pub soon : f.delay + greatest_below i o.here ≤ max_delay
   pub stage_le : f.stage ≤ f.delay
+
+-- so the figures are in range
+residue_le : (i : Parts) (t : BinaryTree TreeNode) → residue i t ≤ greatest_below i t
+unfolding residue
+residue_le i (tip n) = omega arith
+residue_le i (fork l r n) = omega (arith, greatest_at_pair i l r n)
+
+pub figure_in_range : (i : Parts) (root : BinaryTree TreeNode) (o : Occurrence TreeNode) (f : NodeFigure) → IsRight i root o f
+    → IsFigureInRange f
+figure_in_range i root o f right = record {
+  residue_within = omega (arith, right.figure.residue_is, residue_le i o.here, right.soon);
+  delay_within = omega (arith, right.soon);
+  stage_within = omega (arith, right.stage_le, right.soon);
+}
 
 -- the stage below a pair
 stage_goes_on : (i : Parts) (l r : BinaryTree TreeNode) (n : TreeNode) (below stage : ℕ) → below ≡ load_below i (fork l r n)

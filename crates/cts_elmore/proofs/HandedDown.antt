@@ -18,7 +18,7 @@ use Rattle.cts_postorder.proofs.Failures.{size-tree}
 use Rattle.cts_postorder.proofs.Upward.{leaf_here}
 use Rattle.cts_postorder.proofs.Lists.{Whole, whole_of, length_pos, length-occurrences_of, trees_of-here, IsPair, is_pair}
 use Rattle.cts_postorder.proofs.Downward.{IsSettled, settled_at_start, settled_here, settled_at_leaf, settled_at_pair, settled_all}
-use Rattle.cts_postorder.proofs.Zips.{all_zip-at, all_zip-weaker}
+use Rattle.cts_postorder.proofs.Zips.{all_zip-at, all_zip-all, all_zip-weaker}
 use Rattle.cts_tree.specs.declared.nodes.NodeKind.{NodeKind}
 use Rattle.cts_tree.specs.declared.nodes.NodeKind.TheVariants.{Leaf, Pair}
 use Rattle.cts_tree.specs.declared.nodes.TreeNode.{TreeNode}
@@ -34,12 +34,12 @@ use Rattle.cts_elmore.specs.Fits.{FitsInstance, NamesBuffer}
 use Rattle.cts_elmore.specs.Loads.{buffer_at, is_buffered, load_below, source_load}
 use Rattle.cts_elmore.specs.Delays.{stage_at}
 use Rattle.cts_elmore.specs.Limits.{IsOverAtPair, long_left, long_right, great_load, IsPairOver, great_leaf_delay}
-use Rattle.cts_elmore.specs.Figures.{IsNodeFigure}
+use Rattle.cts_elmore.specs.Figures.{IsNodeFigure, IsFigureInRange}
 use Rattle.cts_elmore.specs.Outputs.{IsOutput, IsPartFigure, LoadIsMet, SlewIsMet, IsDescent}
 use Rattle.cts_elmore.specs.Subtrees.{IsSubtree, IsSubtreeInRange, IsDrive}
 use Rattle.cts_elmore.proofs.Rising.{not_above, subtree_in_range}
 use Rattle.cts_elmore.proofs.Root.{AtRoot, at_root}
-use Rattle.cts_elmore.proofs.Down.{IsRight, root_right, left_right, right_right, is_leaf, load_told, slew_told}
+use Rattle.cts_elmore.proofs.Down.{IsRight, root_right, left_right, right_right, figure_in_range, is_leaf, load_told, slew_told}
 
 -- one more answer, for one more item at the front
 both : {A P Q : Type 0} (b c : Bool) → (IsTrue b ↔ (A × P)) → (IsTrue c ↔ Q) → IsTrue (b && c) ↔ (A × (Q × P))
@@ -385,6 +385,9 @@ module _ (i : Parts) (valid : IsValid i) (nodes : List TreeNode) (ok : IsPostOrd
             (all_zip-weaker (IsRight i top.tree) (IsNodeFigure i top.tree) (λ o f right. right.figure) (occurrences_of tree_children nodes)
             descent.figures.items
             (settled_all tree_children (IsRight i top.tree) nodes ok (label top.tree) descent.figures.items (at_end.settled (label top.tree))));
+        in_range = all_zip-all (IsRight i top.tree) IsFigureInRange (figure_in_range i top.tree) (occurrences_of tree_children nodes)
+            descent.figures.items
+            (settled_all tree_children (IsRight i top.tree) nodes ok (label top.tree) descent.figures.items (at_end.settled (label top.tree)));
         load_met = (
           (λ yes. record {
             source = (at_end.load.0 yes).0;

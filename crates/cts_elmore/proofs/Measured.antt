@@ -1,13 +1,15 @@
 -- The figures of the whole tree, from the root's and from what the passes come to.
 use Rattle.std.proofs.Common.{◌≡◌, ℕ, ◌+◌, ◌-◌, ◌^◌, ◌<◌, ◌≤◌, inl, inr, List, [], map, length, get_or, slice_get, Option, Some, None, sym, ap, subst, ◌∙◌, arith}
 use Rattle.std.specs.Prelude.{IfSome}
-use Rattle.std.specs.List.{AllZip}
+use Rattle.std.specs.List.{All, AllZip}
+use Rattle.std.proofs.lemmas.Slice.Zip.{AllZip-long}
 use Rattle.std.proofs.lemmas.Option.{get_or_from_slice_get, slice_get_within}
 use Rattle.cts_units.specs.Limits.{max_length, max_delay}
 use Rattle.cts_postorder.specs.BinaryTree.{BinaryTree, label, size}
 use Rattle.cts_postorder.specs.PostOrder.{IsPostOrder, trees_of, root_of}
 use Rattle.cts_postorder.specs.Occurrence.{occurrences}
 use Rattle.cts_postorder.specs.Pass.{IsLeastFailure}
+use Rattle.cts_postorder.proofs.Sizes.{length-occurrences}
 use Rattle.cts_tree.specs.declared.nodes.TreeNode.{TreeNode}
 use Rattle.cts_tree.specs.Nodes.{tree_children}
 use Rattle.cts_instance.specs.declared.parts.Parts.{Parts}
@@ -18,7 +20,7 @@ use Rattle.cts_elmore.specs.declared.descent.Descent.{Descent}
 use Rattle.cts_elmore.specs.Skew.{skew}
 use Rattle.cts_elmore.specs.Fits.{FitsInstance}
 use Rattle.cts_elmore.specs.Limits.{IsPairOver, IsRootOver, IsWithinLimits, long_root, great_leaf_delay}
-use Rattle.cts_elmore.specs.Figures.{IsNodeFigure, AreFigures}
+use Rattle.cts_elmore.specs.Figures.{IsNodeFigure, AreFigures, IsFigureInRange, AreFiguresInRange}
 use Rattle.cts_elmore.specs.Subtrees.{IsSubtree, IsDrive, DriveOrOver}
 use Rattle.cts_elmore.specs.Outputs.{IsDescent}
 use Rattle.cts_elmore.proofs.Below.{greatest_delay, least_delay}
@@ -125,3 +127,34 @@ module _ (i : Parts) (nodes : List TreeNode) (ok : IsPostOrder (map tree_childre
             slew_met = down.slew_met;
           };
         }
+
+    pub figures_in_range : FitsInstance i nodes → (descent : Descent)
+        → IfSome (root_of tree_children nodes) (λ root. IsDescent i root descent) → (listed : List NodeFigure)
+        → listed ≡ descent.figures.items
+        → AreFiguresInRange (record {
+          nodes = listed;
+          source_load = drive.load;
+          wire_total = s.wires + wire;
+          greatest = drive.delay + s.greatest;
+          least = drive.delay + s.least;
+          skew = s.greatest - s.least;
+          bound = s.bound;
+          load_met = descent.load_met;
+          slew_met = descent.slew_met;
+        })
+    figures_in_range fits descent told_of listed listed_is =
+        let down : IsDescent i at.root descent = subst (λ o. IfSome o (λ root. IsDescent i root descent)) at.root_is told_of in
+        record {
+          each_in_range = subst (All IsFigureInRange) (sym listed_is) down.in_range;
+          greatest_within = greatest_small;
+          least_within = omega (arith, greatest_small, least_small);
+          skew_within = omega (arith, greatest_small);
+          bound_within = omega (arith, (at.value z).small_bound, at.size_is, fits.few);
+        }
+
+    pub one_each : (descent : Descent) → IfSome (root_of tree_children nodes) (λ root. IsDescent i root descent)
+        → length descent.figures.items ≡ length nodes
+    one_each descent told_of =
+        let down : IsDescent i at.root descent = subst (λ o. IfSome o (λ root. IsDescent i root descent)) at.root_is told_of in
+        AllZip-long (IsNodeFigure i at.root) (occurrences [] at.root) descent.figures.items down.each_node
+        ∙ length-occurrences [] at.root ∙ at.size_is

@@ -1,6 +1,7 @@
 -- The figures of a tree, each told by its definition.
-use Rattle.std.specs.Prelude.{◌≡◌, ◌↔◌, List, [], sum_by, Some, IsTrue}
+use Rattle.std.specs.Prelude.{◌≡◌, ◌^◌, ◌≤◌, ◌↔◌, List, [], sum_by, All, Some, IsTrue}
 use Rattle.std.specs.List.{AllZip}
+use Rattle.cts_units.specs.Limits.{max_delay}
 use Rattle.cts_postorder.specs.BinaryTree.{BinaryTree, labels}
 use Rattle.cts_postorder.specs.PostOrder.{root_of}
 use Rattle.cts_postorder.specs.Occurrence.{Occurrence, occurrences}
@@ -38,3 +39,17 @@ pub record AreFigures (i : Parts) (nodes : List TreeNode) (figures : Figures) : 
   pub root : BinaryTree TreeNode
   pub root_is : root_of tree_children nodes ≡ Some root
   pub figures_of : AreFiguresOf i root figures
+
+-- the delays of a node of a tree that is within the limits
+pub record IsFigureInRange (figure : NodeFigure) : Type 0 where
+  pub residue_within : figure.residue ≤ max_delay
+  pub delay_within : figure.delay ≤ max_delay
+  pub stage_within : figure.stage ≤ max_delay
+
+-- The delays of such a tree. The bound sums the residues of up to 65,535 pairs.
+pub record AreFiguresInRange (figures : Figures) : Type 0 where
+  pub each_in_range : All IsFigureInRange figures.nodes
+  pub greatest_within : figures.greatest ≤ max_delay
+  pub least_within : figures.least ≤ max_delay
+  pub skew_within : figures.skew ≤ max_delay
+  pub bound_within : figures.bound ≤ 2 ^ 121

@@ -1,5 +1,5 @@
 -- What a node hands down, and whether it meets the limits of an instance.
-use Rattle.std.specs.Prelude.{◌≡◌, ℕ, ◌+◌, ◌*◌, ◌≤◌, ◌↔◌, List, [], slice_get, Option, Some, None, IsTrue}
+use Rattle.std.specs.Prelude.{◌≡◌, ℕ, ◌+◌, ◌*◌, ◌≤◌, ◌↔◌, List, [], slice_get, All, Option, Some, None, IsTrue}
 use Rattle.std.specs.List.{AllZip}
 use Rattle.std.specs.Option.{option_map_or}
 use Rattle.cts_units.specs.declared.params.Wire.{Wire}
@@ -16,7 +16,7 @@ use Rattle.cts_elmore.specs.declared.subtree.Subtree.{Subtree}
 use Rattle.cts_elmore.specs.declared.descent.Output.{Output}
 use Rattle.cts_elmore.specs.declared.descent.Descent.{Descent}
 use Rattle.cts_elmore.specs.Limits.{MeetsLoadLimit, MeetsSlewLimit}
-use Rattle.cts_elmore.specs.Figures.{IsNodeFigure}
+use Rattle.cts_elmore.specs.Figures.{IsNodeFigure, IsFigureInRange}
 use Rattle.cts_instance.specs.declared.parts.Parts.{Parts}
 
 -- the stage that goes on below a node, or that its buffer begins by driving its load
@@ -50,5 +50,6 @@ SlewIsMet limit (Pair left right (Some index)) stage = slew_of stage ≤ 10 * li
 -- what a pass downward comes to
 pub record IsDescent (i : Parts) (root : BinaryTree TreeNode) (descent : Descent) : Type 0 where
   pub each_node : AllZip (IsNodeFigure i root) (occurrences [] root) descent.figures.items
+  pub in_range : All IsFigureInRange descent.figures.items
   pub load_met : IsTrue descent.load_met ↔ MeetsLoadLimit i root
   pub slew_met : IsTrue descent.slew_met ↔ MeetsSlewLimit i root

@@ -1,7 +1,7 @@
 //! The figures of a tree.
 
-ghost use Rattle.std.specs.Prelude.{IfOk};
-ghost use Rattle.cts_elmore.specs.Figures.{AreFigures};
+ghost use Rattle.std.specs.Prelude.{◌≡◌, length, IfOk};
+ghost use Rattle.cts_elmore.specs.Figures.{AreFigures, AreFiguresInRange};
 ghost use Rattle.cts_elmore.specs.Fits.{FitsInstance};
 ghost use Rattle.cts_elmore.specs.Limits.{IsWithinLimits};
 
@@ -25,7 +25,9 @@ use std::alloc::Global;
 pub fn measure(alloc: Global, instance: &Instance, tree: &Tree) -> Result<Figures, NoMemory>
     requires fits { FitsInstance instance.now tree.now }
     requires within { IsWithinLimits instance.now tree.now }
-    ensures { IfOk result (AreFigures instance.now tree.now) }
+    ensures figures { IfOk result (AreFigures instance.now tree.now) }
+    ensures one_each { IfOk result (λ figures. length figures.nodes ≡ length tree.now) }
+    ensures in_range { IfOk result AreFiguresInRange }
 {
     let nodes = tree.nodes();
     let subtrees = match gather(alloc, instance, nodes)? {
