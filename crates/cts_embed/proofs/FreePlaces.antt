@@ -1,12 +1,15 @@
--- A nearest free point is free, and the points of a die are in range.
-use Rattle.std.proofs.Common.{ℤ, pos, ◌*ℤ◌, ◌≤ℤ◌, ◌<ℤ◌, Bool, true, false, List, sym, subst, arith}
+-- A nearest free point is free and is one, and the points of a die are in range.
+use Rattle.std.proofs.Common.{◌≡◌, ℤ, pos, ◌*ℤ◌, ◌≤ℤ◌, ◌<ℤ◌, Bool, true, false, List, sym, ap, ap₂, subst, ◌∙◌, arith}
 use Rattle.std.proofs.lemmas.Int.{ints, by_lt_z}
 use Rattle.cts_geom.specs.declared.bounds.Die.{Die}
 use Rattle.cts_geom.specs.declared.points.Spot.{Spot}
-use Rattle.cts_geom.specs.Points.{IsSpotInRange, point_of}
+use Rattle.cts_geom.specs.Points.{IsSpotInRange, point_of, spot_at, distance_of}
+use Rattle.cts_geom.proofs.PointLemmas.{spot_same}
 use Rattle.cts_block.specs.declared.blocks.Block.{Block}
 use Rattle.cts_block.specs.FreePoints.{IsBetween, IsInDie}
-use Rattle.cts_block.specs.NearestFree.{IsFree, IsNearestFree}
+use Rattle.cts_block.specs.NearestFree.{IsFree, IsLeastFree, IsNearestFree, IsNoLater}
+use Rattle.std.specs.Option.{is_some}
+use Rattle.cts_embed.specs.Laws.{PairPlacesAreFree}
 use Rattle.cts_instance.specs.Validity.{IsDie}
 
 not_below : (a b : ℤ) → ¬ (b <ℤ a) → a ≤ℤ b
@@ -59,3 +62,37 @@ in_die_in_range die p ok is = record {
     high = omega (arith, ints, ok.x_high, ok.y_low, is.x.at_most, is.y.at_least);
   };
 }
+
+-- the least free point is one
+least_free_one : (blocks : List Block) (die : Die) (buffered : Bool) (at p q : Spot) → IsLeastFree blocks die buffered at p
+    → IsLeastFree blocks die buffered at q → p ≡ q
+least_free_one blocks die buffered at p q hp hq =
+    let there : IsNoLater (distance_of at p) hp.x hp.y (distance_of at (spot_at hq.x hq.y)) hq.x hq.y =
+    hp.no_later hq.x hq.y (subst (IsFree blocks die buffered) hq.whole hq.free) in
+    let back : IsNoLater (distance_of at q) hq.x hq.y (distance_of at (spot_at hp.x hp.y)) hp.x hp.y =
+    hq.no_later hp.x hp.y (subst (IsFree blocks die buffered) hp.whole hp.free) in
+    let at_p : distance_of at p ≡ distance_of at (spot_at hp.x hp.y) = ap (distance_of at) hp.whole in
+    let at_q : distance_of at q ≡ distance_of at (spot_at hq.x hq.y) = ap (distance_of at) hq.whole in
+    let same : distance_of at (spot_at hq.x hq.y) ≡ distance_of at p = omega (arith, there.by_distance, back.by_distance, at_p, at_q) in
+    let same' : distance_of at (spot_at hp.x hp.y) ≡ distance_of at q = omega (arith, same, at_p, at_q) in
+    let x : hp.x ≡ hq.x = omega (arith, ints, there.by_x same, back.by_x same') in
+    let y : hp.y ≡ hq.y = omega (arith, ints, there.by_y same (sym x), back.by_y same' x) in
+    hp.whole ∙ ap₂ spot_at x y ∙ sym hq.whole
+
+stable_z : (a b : ℤ) → ¬ ¬ (a ≡ b) → a ≡ b
+stable_z a b some =
+    by_lt_z a b (λ less. absurd (some (λ e. absurd (omega (arith, ints, less, e)))))
+    (λ more. by_lt_z b a (λ less. absurd (some (λ e. absurd (omega (arith, ints, less, e))))) (λ back. omega (arith, ints, more, back)))
+
+pub nearest_free_one : (blocks : List Block) (die : Die) (buffered : Bool) (at p q : Spot) → IsNearestFree blocks die buffered at p
+    → IsNearestFree blocks die buffered at q → p ≡ q
+nearest_free_one blocks die buffered at p q hp hq =
+    let some : ¬ ¬ (p ≡ q) = λ none.
+    let blocked : ¬ IsFree blocks die buffered at = λ free. none (hp.stays free ∙ sym (hq.stays free)) in
+    none (least_free_one blocks die buffered at p q (hp.moves blocked) (hq.moves blocked)) in
+    spot_same p q (stable_z p.u q.u (λ none. some (λ e. none (ap (λ (s : Spot). s.u) e))))
+    (stable_z p.v q.v (λ none. some (λ e. none (ap (λ (s : Spot). s.v) e))))
+
+pub pair_places_free : PairPlacesAreFree
+pair_places_free parts pair from place is =
+    nearest_is_free parts.blocks parts.die (is_some pair.buffer) is.first place is.moved

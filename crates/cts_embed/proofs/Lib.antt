@@ -12,3 +12,5 @@ pub mod Ways
 pub mod Starts
 pub mod Stands
 pub mod PlacedFits
+pub mod OnePlace
+pub mod Reach

@@ -25,6 +25,10 @@ use Rattle.cts_tree.specs.Nodes.{placed_children}
 use Rattle.cts_embed.specs.Fitting.{Fits, NamesWithin}
 use Rattle.cts_embed.specs.Places.{kind_of}
 use Rattle.cts_embed.specs.PlacedTree.{IsPlacedNode, IsPlacedTree}
+use Rattle.cts_geom.specs.Points.{point_of}
+use Rattle.cts_block.specs.FreePoints.{IsInDie}
+use Rattle.cts_embed.specs.Laws.{PlacedTreesFit, PlacesLieInDie}
+use Rattle.cts_embed.proofs.Starts.{placed_in_die}
 use Rattle.cts_embed.proofs.NodeKinds.{LeafKind, leaf_kind, pair_kind, same_kids}
 
 -- a buffer that is chosen is one of the library
@@ -68,3 +72,11 @@ module _ (parts : Parts) (shape : List ShapeNode) (placed : List PlacedNode) (is
     names = all_zip-all (IsPlacedNode parts) (λ node. NamesWithin (length parts.sinks) (length parts.params.library) node.kind)
         (λ o m node. names_of parts o.here node.finished m.kind node.made node.placed.kind) (occurrences_of children shape) placed is;
   }
+
+pub placed_trees_fit_lem : PlacedTreesFit
+placed_trees_fit_lem parts shape placed is valid over = placed_fits parts shape placed is valid over
+
+pub places_in_die : PlacesLieInDie
+places_in_die parts shape placed is valid =
+    all_zip-all (IsPlacedNode parts) (λ node. IsInDie parts.die (point_of node.place))
+    (λ o m node. placed_in_die parts (label o.here) node.finished node.from m valid node.placed) (occurrences_of children shape) placed is
