@@ -6,3 +6,11 @@ pub mod Steps
 pub mod Root
 pub mod HandedDown
 pub mod Assembled
+pub mod FreePlaces
+pub mod NodeKinds
+pub mod Ways
+pub mod Starts
+pub mod Stands
+pub mod PlacedFits
+pub mod OnePlace
+pub mod Reach

@@ -5,7 +5,7 @@ use Rattle.std.proofs.lemmas.Slice.Zip.{AllZip-long}
 use Rattle.std.proofs.lemmas.Option.{get_or_from_slice_get}
 use Rattle.cts_postorder.specs.BinaryTree.{BinaryTree, label}
 use Rattle.cts_postorder.specs.PostOrder.{IsPostOrder, trees_of, root_of}
-use Rattle.cts_postorder.proofs.Growth.{length-trees_of}
+use Rattle.cts_postorder.proofs.Growth.{length-trees_of, label-tree}
 use Rattle.cts_postorder.proofs.Zips.{all_zip-at}
 use Rattle.cts_postorder.proofs.Lists.{Whole, whole_of, length_pos}
 use Rattle.cts_tree.specs.declared.nodes.PlacedNode.{PlacedNode}
@@ -19,7 +19,6 @@ use Rattle.cts_embed.specs.Balance.{IsBalance, IsRootWithin}
 use Rattle.cts_embed.specs.BalancedTree.{IsBalancedWhole, IsBalancedWithin, IsBeyondRoot}
 use Rattle.cts_embed.specs.Range.{IsInRange}
 use Rattle.cts_embed.proofs.Range.{in_range}
-use Rattle.cts_embed.proofs.Steps.{label_at}
 
 -- the last node carries the root
 pub root_label : (nodes : List PlacedNode) → IsPostOrder (map placed_children nodes) → (e : PlacedNode) (t : BinaryTree PlacedNode)
@@ -29,7 +28,7 @@ root_label nodes ok e t is =
     let trees : List (BinaryTree PlacedNode) = trees_of placed_children nodes in
     let some : 0 < length nodes = length_pos placed_children nodes ok in
     ap label (sym (get_or_from_slice_get trees (length nodes - 1) t t is))
-    ∙ label_at nodes (length nodes - 1) t e (omega arith)
+    ∙ label-tree placed_children nodes (length nodes - 1) t e (omega arith)
 
 -- what is read of an instance is its own
 pub of_instance : (parts : Parts) (params : Params) (sinks : List Sink) (nodes : List PlacedNode) (balances : List NodeBalance)

@@ -1,7 +1,6 @@
 -- One step of the balance: what is known of the node at the next number.
 use Rattle.std.proofs.Common.{◌≡◌, ℕ, ◌+◌, ◌^◌, ◌<◌, ◌≤◌, ◌++◌, ◌∷◌, [], List, map, take, length, get_or, slice_get, Option, Some, None, MatchOption, Result, Ok, Err, IfOk, IfErr, sym, ap, subst, ◌∙◌, arith}
 use Rattle.std.specs.List.{All, AllZip}
-use Rattle.std.proofs.lemmas.List.{get_or-map}
 use Rattle.std.proofs.lemmas.Option.{slice_get-get_or}
 use Rattle.cts_units.specs.declared.params.Sink.{Sink}
 use Rattle.cts_units.specs.declared.params.Params.{Params}
@@ -9,7 +8,7 @@ use Rattle.cts_units.specs.Limits.{IsParams}
 use Rattle.cts_postorder.specs.BinaryTree.{BinaryTree, tip, fork, label}
 use Rattle.cts_postorder.specs.PostOrder.{IsPostOrder, trees_of}
 use Rattle.cts_postorder.specs.Pass.{IsLeastFailure}
-use Rattle.cts_postorder.proofs.Growth.{length-trees_of, map-label-trees_of}
+use Rattle.cts_postorder.proofs.Growth.{length-trees_of, label-tree}
 use Rattle.cts_postorder.proofs.Lists.{IsPair, is_pair}
 use Rattle.cts_postorder.proofs.Upward.{UpAtPair, up_at_leaf, up_at_pair, up_long, least_failure}
 use Rattle.cts_tree.specs.declared.nodes.NodeKind.{NodeKind}
@@ -23,13 +22,6 @@ use Rattle.cts_embed.specs.Fitting.{NamesWithin}
 use Rattle.cts_embed.specs.Range.{IsInRange}
 use Rattle.cts_embed.proofs.Range.{in_range}
 use Rattle.cts_embed.proofs.Unique.{balanced_not_beyond}
-
--- the tree at a number carries the node there
-pub label_at : (nodes : List PlacedNode) (k : ℕ) (d : BinaryTree PlacedNode) (e : PlacedNode) → k < length nodes
-    → label (get_or (trees_of placed_children nodes) k d) ≡ get_or nodes k e
-label_at nodes k d e h =
-    sym (get_or-map label (trees_of placed_children nodes) k d e (omega (arith, length-trees_of placed_children nodes)))
-    ∙ ap (λ ns. get_or ns k e) (map-label-trees_of placed_children nodes)
 
 -- what a leaf or a pair names, where its kind is known
 pub leaf_names : (sinks buffers id s : ℕ) (kind : NodeKind) → kind ≡ Leaf id s → NamesWithin sinks buffers kind → s < sinks
@@ -95,12 +87,12 @@ module _ (params : Params) (sinks : List Sink) (nodes : List PlacedNode) (ok : I
     left_label : (f : PlacedNode) → label pair.left ≡ get_or nodes left f
     left_label f =
         let same : pair.left ≡ at_pair.left = let fork_is = same_fork in cc in
-        ap label (same ∙ sym (at_pair.left_tree (tip e))) ∙ label_at nodes left (tip e) f left_node_within
+        ap label (same ∙ sym (at_pair.left_tree (tip e))) ∙ label-tree placed_children nodes left (tip e) f left_node_within
 
     right_label : (f : PlacedNode) → label pair.right ≡ get_or nodes right f
     right_label f =
         let same : pair.right ≡ at_pair.right = let fork_is = same_fork in cc in
-        ap label (same ∙ sym (at_pair.right_tree (tip e))) ∙ label_at nodes right (tip e) f right_node_within
+        ap label (same ∙ sym (at_pair.right_tree (tip e))) ∙ label-tree placed_children nodes right (tip e) f right_node_within
 
     -- the two children and the lengths of their routes
     module _ (a b d d' : NodeBalance) (left_read : a ≡ get_or out left d) (right_read : b ≡ get_or out right d')

@@ -1,5 +1,6 @@
 -- Why there is no tree.
 use Rattle.std.specs.Prelude.{List}
+use Rattle.cts_topo.specs.declared.shape.ShapeNode.{ShapeNode}
 use Rattle.cts_units.specs.declared.params.Sink.{Sink}
 use Rattle.cts_units.specs.declared.params.Params.{Params}
 use Rattle.cts_postorder.specs.Pass.{IsLeastFailure}
@@ -8,6 +9,9 @@ use Rattle.cts_tree.specs.declared.nodes.PlacedNode.{PlacedNode}
 use Rattle.cts_instance.specs.declared.parts.Parts.{Parts}
 use Rattle.cts_embed.specs.declared.end.BalanceEnd.{BalanceEnd}
 use Rattle.cts_embed.specs.declared.end.BalanceEnd.TheVariants.{Beyond, NoMemory}
+use Rattle.cts_embed.specs.declared.end.EmbedEnd.{EmbedEnd}
+use Rattle.cts_embed.specs.declared.end.EmbedEnd.TheVariants as embed_end
+use Rattle.cts_embed.specs.PlacedTree.{IsGreatestCut}
 use Rattle.cts_embed.specs.Balance.{IsBeyondBalance}
 use Rattle.cts_embed.specs.BalancedTree.{IsLeastBeyond}
 
@@ -20,3 +24,8 @@ BalanceEnds parts placed NoMemory = Unit {0}
 abbrev pub NodeEnds : Params → List Sink → List PlacedNode → BalanceEnd → Type 0
 NodeEnds params sinks placed (Beyond node) = IsLeastFailure placed_children placed (IsBeyondBalance params sinks) node
 NodeEnds params sinks placed NoMemory = Unit {0}
+
+-- the embedding may end so: at the greatest node that is cut, or for want of memory
+abbrev pub EmbedEnds : Parts → List ShapeNode → EmbedEnd → Type 0
+EmbedEnds parts shape (embed_end.Cut node) = IsGreatestCut parts shape node
+EmbedEnds parts shape embed_end.NoMemory = Unit {0}

@@ -1,3 +1,6 @@
+pub mod Places
+pub mod PlacedTree
+pub mod Naming
 pub mod Fitting
 pub mod Balance
 pub mod BalancedTree
@@ -8,3 +11,6 @@ pub mod Range
 pub use Rattle.cts_tree.specs.Nodes
 pub use Rattle.cts_merge.specs.LeastPair
 pub use Rattle.cts_postorder.specs.Pass
+pub use Rattle.cts_block.specs.NearestFree
+pub use Rattle.cts_route.specs.Routes
+pub use Rattle.cts_up.specs.Plan

@@ -7,12 +7,15 @@
 #![tactic(auto)]
 
 mod balancing;
+mod embedding;
 mod end;
 pub mod laws;
 mod node;
+mod placing;
 mod upward;
 mod wires;
 
 pub use balancing::balance;
-pub use end::BalanceEnd;
+pub use embedding::embed;
+pub use end::{BalanceEnd, EmbedEnd};
 pub use node::NodeBalance;

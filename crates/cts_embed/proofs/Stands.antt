@@ -1,0 +1,127 @@
+-- What a node is and where it stands, under the names that the code gives to sinks.
+use Rattle.std.proofs.Common.{◌≡◌, ℕ, ◌<◌, List, length, get_or, slice_get, Option, Some, refl, sym, ap, subst, ◌∙◌, arith}
+use Rattle.std.specs.Option.{MatchOption, option_map}
+use Rattle.std.proofs.lemmas.Option.{slice_get-get_or}
+use Rattle.std.proofs.lemmas.Int.{ints}
+use Rattle.cts_geom.specs.Regions.{IsRegionInRange}
+use Rattle.cts_geom.specs.declared.points.Spot.{Spot}
+use Rattle.cts_geom.specs.Coordinate.{IsCoordinate}
+use Rattle.cts_geom.specs.Points.{IsSpotInRange, spot_at}
+use Rattle.cts_units.specs.declared.params.Sink.{Sink}
+use Rattle.cts_instance.specs.declared.parts.Parts.{Parts}
+use Rattle.cts_instance.specs.Validity.{IsSink, IsValid}
+use Rattle.cts_instance.proofs.PlaceLemmas.{has_coordinates}
+use Rattle.cts_topo.specs.declared.shape.ShapeNode.{ShapeNode}
+use Rattle.cts_topo.specs.declared.shape.ShapeNode.TheVariants.{Leaf, Pair}
+use Rattle.cts_postorder.specs.BinaryTree.{BinaryTree, tip}
+use Rattle.cts_postorder.specs.PostOrder.{trees_of}
+use Rattle.cts_postorder.proofs.Growth.{length-trees_of}
+use Rattle.cts_postorder.proofs.Zips.{all_zip-at}
+use Rattle.cts_topo.specs.Shape.{children, IsShapeOver}
+use Rattle.cts_topo.proofs.Counts.{leaf_within}
+use Rattle.cts_up.specs.Sinks.{AreSinksInRange}
+use Rattle.cts_up.specs.Plan.{IsFinished, IsPlan}
+use Rattle.cts_up.proofs.Sides.{sides_merge}
+use Rattle.cts_tree.specs.declared.nodes.PlacedNode.{PlacedNode}
+use Rattle.cts_embed.specs.PlacedTree.{IsPlacedFrom}
+use Rattle.cts_merge.specs.declared.side.Finished.{Finished}
+use Rattle.cts_tree.specs.declared.nodes.NodeKind.TheVariants as kinds
+use Rattle.cts_embed.specs.Naming.{NamesOneOf}
+use Rattle.cts_embed.specs.Places.{IsNodePlace, IsPairPlace, kind_of}
+use Rattle.cts_embed.proofs.FreePlaces.{in_die_in_range}
+use Rattle.cts_embed.proofs.Starts.{place_in_die}
+
+pub place_in_range : (parts : Parts) (n : ShapeNode) (f : Finished) (from place : Spot) → IsValid parts
+    → IsNodePlace parts n f from place → IsSpotInRange place
+place_in_range parts n f from place ok is = in_die_in_range parts.die place ok.die (place_in_die parts n f from place ok is)
+
+-- a leaf, whose sink is read from a list that is the instance's
+module _ (parts : Parts) (lent : List Sink) (same : lent ≡ parts.sinks) (s : ℕ) (n : ShapeNode) (is : n ≡ Leaf s)
+    (names : NamesOneOf (length parts.sinks) n) where
+  pub sink_within : s < length lent
+  unfolding NamesOneOf
+  sink_within =
+      subst (λ sinks. s < length sinks) (sym same) (subst (NamesOneOf (length parts.sinks)) is names)
+
+  module _ (d : Sink) where
+    found : slice_get parts.sinks s ≡ Some (get_or lent s d)
+    found = ap (λ sinks. slice_get sinks s) (sym same) ∙ slice_get-get_or lent s d sink_within
+
+    pub leaf_kind_is : (buffer : Option ℕ) → kind_of parts.sinks n buffer ≡ Some (kinds.Leaf (get_or lent s d).id s)
+    unfolding kind_of
+    leaf_kind_is buffer =
+        ap (λ m. kind_of parts.sinks m buffer) is ∙ ap (option_map (λ (x : Sink). kinds.Leaf x.id s)) found
+
+    pub leaf_place_is : (f : Finished) (from place : Spot) → place ≡ spot_at (get_or lent s d).x (get_or lent s d).y
+        → IsNodePlace parts n f from place
+    unfolding IsNodePlace
+    leaf_place_is f from place at =
+        subst (λ m. IsNodePlace parts m f from place) (sym is)
+        (subst (λ (o : Option Sink). MatchOption o ⊥ (λ x. place ≡ spot_at x.x x.y)) (sym found) at)
+
+    sink_in : IsValid parts → (P : Sink → Type 0) → P (get_or parts.sinks s d) → P (get_or lent s d)
+    sink_in ok P has = subst (λ sinks. P (get_or sinks s d)) (sym same) has
+
+    within : s < length parts.sinks
+    within = subst (λ sinks. s < length sinks) same sink_within
+
+    pub sink_x : IsValid parts → IsCoordinate (get_or lent s d).x
+    sink_x ok = sink_in ok (λ x. IsCoordinate x.x) ((has_coordinates parts ok).sinks_x s d within)
+
+    pub sink_y : IsValid parts → IsCoordinate (get_or lent s d).y
+    sink_y ok = sink_in ok (λ x. IsCoordinate x.y) ((has_coordinates parts ok).sinks_y s d within)
+
+-- a pair
+pub pair_kind_is : (parts : Parts) (l r : ℕ) (n : ShapeNode) (buffer : Option ℕ) → n ≡ Pair l r
+    → kind_of parts.sinks n buffer ≡ Some (kinds.Pair l r buffer)
+unfolding kind_of
+pair_kind_is parts l r n buffer is = ap (λ m. kind_of parts.sinks m buffer) is
+
+pub pair_place_is : (parts : Parts) (l r : ℕ) (n : ShapeNode) (f : Finished) (from place : Spot) → n ≡ Pair l r
+    → IsPairPlace parts f from place → IsNodePlace parts n f from place
+unfolding IsNodePlace
+pair_place_is parts l r n f from place is pair = subst (λ m. IsNodePlace parts m f from place) (sym is) pair
+
+-- a leaf of a shape names one of the sinks
+pub names_at : (count : ℕ) (nodes : List ShapeNode) → IsShapeOver count nodes → (k : ℕ) (e : ShapeNode) → k < length nodes
+    → NamesOneOf count (get_or nodes k e)
+unfolding NamesOneOf
+names_at count nodes over k e h = by_node (get_or nodes k e) refl
+  where
+    by_node : (n : ShapeNode) → get_or nodes k e ≡ n → NamesOneOf count n
+    by_node (Leaf s) here = leaf_within count nodes over k e s h here
+    by_node (Pair l r) here = tt
+
+sinks_in_range : (parts : Parts) → IsValid parts → AreSinksInRange parts.sinks
+sinks_in_range parts ok = record {
+  few = ok.sink_count;
+  each = λ k d h.
+      let s : IsSink parts.die _ = ok.sinks k d h in
+      record {
+        placed = record {
+          x_low = omega (arith, ints, ok.die.x_low, s.in_die.west);
+          x_high = omega (arith, ints, ok.die.x_high, s.in_die.east);
+          y_low = omega (arith, ints, ok.die.y_low, s.in_die.south);
+          y_high = omega (arith, ints, ok.die.y_high, s.in_die.north);
+        };
+        cap = s.cap;
+      };
+}
+
+-- the regions of a plan
+pub region_at : (parts : Parts) (nodes : List ShapeNode) (plan : List Finished) → IsValid parts
+    → IsPlan parts.params parts.sinks nodes plan → (k : ℕ) (f d : Finished) → k < length nodes → f ≡ get_or plan k d
+    → IsRegionInRange f.side.region
+region_at parts nodes plan ok all k f d h read =
+    let t : BinaryTree ShapeNode = get_or (trees_of children nodes) k (tip (Leaf 0)) in
+    let made : IsFinished parts.params parts.sinks t (get_or plan k d) =
+    all_zip-at (IsFinished parts.params parts.sinks) (trees_of children nodes) plan k (tip (Leaf 0)) d all
+    (omega (arith, length-trees_of children nodes)) in
+    (sides_merge parts.params parts.sinks t f (subst (IsFinished parts.params parts.sinks t) (sym read) made) ok.params (sinks_in_range parts ok)).region
+
+-- what is placed from values that are read from lists
+pub placed_read : (parts : Parts) (n : ShapeNode) (f g : Finished) (from start : Spot) (node : PlacedNode) → f ≡ g → from ≡ start
+    → IsPlacedFrom parts n f from node → IsPlacedFrom parts n g start node
+placed_read parts n f g from start node same_node same_start placed =
+    subst (λ (x : Finished). IsPlacedFrom parts n x start node) same_node
+    (subst (λ (x : Spot). IsPlacedFrom parts n f x node) same_start placed)

@@ -1,0 +1,114 @@
+use Rattle.std.proofs.Common.{◌-◌, length, drop, reverse, get_or, arith, sym, ap, subst, ◌∙◌}
+use Rattle.std.specs.List.{AllZip}
+use Rattle.std.proofs.lemmas.List.{get_or-replicate}
+use Rattle.cts_geom.specs.Points.{IsSpotInRange}
+use Rattle.cts_postorder.specs.Occurrence.{occurrences_of}
+use Rattle.cts_topo.specs.declared.shape.ShapeNode.TheVariants.{Leaf}
+use Rattle.cts_topo.specs.Shape.{children}
+use Rattle.cts_embed.specs.PlacedTree.{IsPlacedNode}
+use Rattle.cts_embed.proofs.Starts.{starts_begin, number_in_starts, number_in_plan, from_in_range, placed_more, starts_at_leaf, starts_at_pair, left_within, right_within, all_placed, none_placed}
+use Rattle.cts_embed.proofs.Stands.{names_at, region_at, placed_read}
+use Rattle.cts_embed.proofs.PlacedFits.{placed_fits}
+use Rattle.cts_embed.proofs.embedding.place_nodes.Goals as goal
+
+pub loop-number-init : goal.loop-number-init
+loop-number-init c = (
+  starts_begin c.args.instance.now c.args.nodes.now c.requires.shape.post_order c.args.plan.now c.requires.plan c.in_ok-starts.starts.items
+      (sym (c.in_ok-starts.starts.ok.0) ∙ c.in_ok-starts.ensures.len)
+      (λ k v h. ap (λ vs. get_or vs k v) (c.in_ok-starts.ensures.items_if_clones_equal (λ y e. e))
+      ∙ get_or-replicate (length c.args.nodes.now) k c.source_place.result v h ∙ c.source_place.ensures.place),
+  none_placed c.args.instance.now c.args.nodes.now c.requires.shape.post_order c.in_ok-placed.placed.items c.in_ok-placed.ensures.items,
+)
+
+pub bounds-plan-number : goal.bounds-plan-number
+bounds-plan-number c =
+    number_in_plan c.args.instance.now c.args.nodes.now c.requires.shape.post_order c.args.plan.now c.requires.plan c.loop-number.number
+    c.loop-number.starts.items c.loop-number-test.true c.loop-number.auto.number (c.loop-number.invariant.0)
+
+pub index-requires : goal.index-requires
+index-requires c =
+    omega (
+      arith,
+      c.loop-number.starts.ok.0,
+      number_in_starts c.args.instance.now c.args.nodes.now c.requires.shape.post_order c.args.plan.now c.requires.plan c.loop-number.number
+          c.loop-number.starts.items c.loop-number-test.true c.loop-number.auto.number (c.loop-number.invariant.0),
+    )
+
+pub place_node-node-requires-clause-names : goal.place_node-node-requires-clause-names
+place_node-node-requires-clause-names c =
+    names_at (length c.args.instance.now.sinks) c.args.nodes.now c.requires.shape (c.loop-number.number - 1) (Leaf 0)
+    (omega (arith, c.loop-number-test.true, c.loop-number.auto.number))
+
+pub place_node-node-requires-clause-region : goal.place_node-node-requires-clause-region
+place_node-node-requires-clause-region c =
+    region_at c.args.instance.now c.args.nodes.now c.args.plan.now c.source_place.ensures.valid c.requires.plan (c.loop-number.number - 1)
+    c.index-plan-number.result c.index-plan-number.result (omega (arith, c.loop-number-test.true, c.loop-number.auto.number))
+    c.index-plan-number.is
+
+pub place_node-node-requires-clause-from : goal.place_node-node-requires-clause-from
+place_node-node-requires-clause-from c =
+    subst IsSpotInRange (sym c.index.ensures)
+    (from_in_range c.args.instance.now c.args.nodes.now c.requires.shape.post_order c.args.plan.now c.requires.plan c.loop-number.number
+    c.loop-number.starts.items c.loop-number-test.true c.loop-number.auto.number (c.loop-number.invariant.0)
+    c.source_place.ensures.valid c.index.result.now)
+
+pub index_mut-requires : goal.index_mut-requires
+index_mut-requires c =
+    omega (
+      arith,
+      c.loop-number.starts.ok.0,
+      left_within c.args.instance.now c.args.nodes.now c.requires.shape.post_order c.args.plan.now c.requires.plan c.loop-number.number
+          c.loop-number.starts.items c.loop-number-test.true c.loop-number.auto.number (c.loop-number.invariant.0)
+          (Leaf 0) c.index-plan-number.result c.index.result.now c.in-Pair.left c.in-Pair.right c.in-Pair.is,
+    )
+
+pub index_mut-requires-in-Pair : goal.index_mut-requires-in-Pair
+index_mut-requires-in-Pair c =
+    omega (
+      arith,
+      c.loop-number.starts.ok.0,
+      right_within c.args.instance.now c.args.nodes.now c.requires.shape.post_order c.args.plan.now c.requires.plan c.loop-number.number
+          c.loop-number.starts.items c.loop-number-test.true c.loop-number.auto.number (c.loop-number.invariant.0)
+          (Leaf 0) c.index-plan-number.result c.index.result.now c.in-Pair.left c.in-Pair.right c.in-Pair.is,
+    )
+
+pub loop-number-preserved-in-Pair : goal.loop-number-preserved-in-Pair
+loop-number-preserved-in-Pair c = (
+  starts_at_pair c.args.instance.now c.args.nodes.now c.requires.shape.post_order c.args.plan.now c.requires.plan c.loop-number.number
+      c.loop-number.starts.items c.loop-number-test.true c.loop-number.auto.number (c.loop-number.invariant.0)
+      (Leaf 0) c.index-plan-number.result c.index.result.now c.in-Pair.left c.in-Pair.right c.in-Pair.is c.place_node-node.result
+      (placed_read c.args.instance.now (get_or c.args.nodes.now (c.loop-number.number - 1) (Leaf 0)) c.index-plan-number.result _
+      c.index.result.now _ c.place_node-node.result c.index-plan-number.is c.index.ensures c.place_node-node.ensures),
+  subst (λ items. AllZip (IsPlacedNode c.args.instance.now) (drop (c.loop-number.number - 1) (occurrences_of children c.args.nodes.now)) (reverse items))
+      (sym c.in_ok-push.ensures.items)
+      (placed_more c.args.instance.now c.args.nodes.now c.requires.shape.post_order c.args.plan.now c.requires.plan c.loop-number.number
+      c.loop-number.starts.items c.loop-number-test.true c.loop-number.auto.number (c.loop-number.invariant.0) (Leaf 0)
+      c.index-plan-number.result c.index.result.now c.place_node-node.result c.loop-number.placed.items (c.loop-number.invariant.1)
+      (placed_read c.args.instance.now (get_or c.args.nodes.now (c.loop-number.number - 1) (Leaf 0)) c.index-plan-number.result _
+      c.index.result.now _ c.place_node-node.result c.index-plan-number.is c.index.ensures c.place_node-node.ensures)),
+)
+
+pub loop-number-preserved : goal.loop-number-preserved
+loop-number-preserved c = (
+  starts_at_leaf c.args.instance.now c.args.nodes.now c.requires.shape.post_order c.args.plan.now c.requires.plan c.loop-number.number
+      c.loop-number.starts.items c.loop-number-test.true c.loop-number.auto.number (c.loop-number.invariant.0)
+      (Leaf 0) c.index-plan-number.result c.index.result.now c.in_default.field-0 c.in_default.is,
+  subst (λ items. AllZip (IsPlacedNode c.args.instance.now) (drop (c.loop-number.number - 1) (occurrences_of children c.args.nodes.now)) (reverse items))
+      (sym c.in_ok-push.ensures.items)
+      (placed_more c.args.instance.now c.args.nodes.now c.requires.shape.post_order c.args.plan.now c.requires.plan c.loop-number.number
+      c.loop-number.starts.items c.loop-number-test.true c.loop-number.auto.number (c.loop-number.invariant.0) (Leaf 0)
+      c.index-plan-number.result c.index.result.now c.place_node-node.result c.loop-number.placed.items (c.loop-number.invariant.1)
+      (placed_read c.args.instance.now (get_or c.args.nodes.now (c.loop-number.number - 1) (Leaf 0)) c.index-plan-number.result _
+      c.index.result.now _ c.place_node-node.result c.index-plan-number.is c.index.ensures c.place_node-node.ensures)),
+)
+
+pub returns-clause-placed : goal.returns-clause-placed
+returns-clause-placed c =
+    all_placed c.args.instance.now c.args.nodes.now c.loop-number.placed.items c.loop-number.number (omega (arith, c.loop-number-test.false))
+    (c.loop-number.invariant.1)
+
+pub returns-clause-fits : goal.returns-clause-fits
+returns-clause-fits c =
+    placed_fits c.args.instance.now c.args.nodes.now (reverse c.loop-number.placed.items)
+    (all_placed c.args.instance.now c.args.nodes.now c.loop-number.placed.items c.loop-number.number (omega (arith, c.loop-number-test.false))
+    (c.loop-number.invariant.1)) c.source_place.ensures.valid c.requires.shape

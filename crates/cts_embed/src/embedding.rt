@@ -1,0 +1,79 @@
+//! The pass from the root down: places and routes.
+
+ghost use Rattle.std.specs.Prelude.{◌≡◌, length, reverse, All, IfOk, IfErr};
+ghost use Rattle.std.specs.List.{AllZip};
+ghost use Rattle.cts_block.specs.declared.blocks.Kind.TheVariants.{Buffer};
+ghost use Rattle.cts_postorder.specs.Occurrence.{occurrences_of};
+ghost use Rattle.cts_topo.specs.Shape.{IsShapeOver, children};
+ghost use Rattle.cts_up.specs.Plan.{IsPlan};
+ghost use Rattle.cts_embed.specs.Ends.{EmbedEnds};
+ghost use Rattle.cts_embed.specs.Fitting.{Fits};
+ghost use Rattle.cts_embed.specs.PlacedTree.{IsPlacedNode, IsPlacedTree};
+
+use crate::end::EmbedEnd;
+use crate::placing::{place_node, source_place};
+use cts_instance::Instance;
+use cts_merge::Finished;
+use cts_topo::{Shape, ShapeNode};
+use cts_tree::{Placed, PlacedNode};
+use std::alloc::Global;
+
+/// The placed nodes of a shape, from the root down.
+fn place_nodes(
+    alloc: Global,
+    instance: &Instance,
+    nodes: &[ShapeNode],
+    plan: &[Finished],
+) -> Result<Vec<PlacedNode>, EmbedEnd>
+    requires shape { IsShapeOver (length instance.now.sinks) nodes.now }
+    requires plan { IsPlan instance.now.params instance.now.sinks nodes.now plan.now }
+    requires walls { All (λ block. block.kind ≡ Buffer) instance.now.blocks }
+    ensures placed { IfOk result (λ placed.
+        AllZip (IsPlacedNode instance.now) (occurrences_of children nodes.now) (reverse placed.items)) }
+    ensures fits { IfOk result (λ placed. Fits instance.now (reverse placed.items)) }
+    ensures ends { IfErr result (EmbedEnds instance.now nodes.now) }
+{
+    let mut starts = vec![in alloc; source_place(instance); nodes.len()]?;
+    let mut placed = Vec::with_capacity(alloc, nodes.len())?;
+    for number in (0..nodes.len()).rev() {
+        let node = place_node(instance, nodes[number], &plan[number], starts[number]);
+        let place = node.place;
+        placed.push(node)?;
+        if let ShapeNode::Pair { left, right } = nodes[number] {
+            starts[left as usize] = place;
+            starts[right as usize] = place;
+        }
+    }
+    Ok(placed)
+}
+
+/// The nodes in the other order.
+fn reversed(mut nodes: Vec<PlacedNode>) -> Vec<PlacedNode>
+    ensures { result.items ≡ reverse nodes.items }
+{
+    nodes.as_mut_slice().reverse();
+    nodes
+}
+
+/// The placed tree of a shape by its plan: each node with its place and the route to it.
+///
+/// From the source down, the root and then each part of a pair takes the point of its region that is
+/// nearest to the place above it, the least (u, v) among equally near ones. A leaf stands at its sink.
+/// A pair whose place isn't free, for its buffer or for wires alone, moves to the nearest free point of
+/// whole nm. Routes run along x first. Answers `NoMemory` where an allocation fails.
+pub fn embed(
+    alloc: Global,
+    instance: &Instance,
+    shape: &Shape,
+    plan: &[Finished],
+) -> Result<Placed, EmbedEnd>
+    requires shape { IsShapeOver (length instance.now.sinks) shape.now }
+    requires plan { IsPlan instance.now.params instance.now.sinks shape.now plan.now }
+    requires walls { All (λ block. block.kind ≡ Buffer) instance.now.blocks }
+    ensures placed { IfOk result (IsPlacedTree instance.now shape.now) }
+    ensures fits { IfOk result (Fits instance.now) }
+    ensures ends { IfErr result (EmbedEnds instance.now shape.now) }
+{
+    let placed = place_nodes(alloc, instance, shape.nodes(), plan)?;
+    Ok(Placed::of(reversed(placed)))
+}
