@@ -9,20 +9,42 @@ is_current() {
     [ -x "$program" ] && [ -z "$(find "$top/crates.txt" "$top/HANDLES" "$top/crates" \( -name out -o -name must-fail \) -prune -o -type f -newer "$program" -print | head -n 1)" ]
 }
 
-# The crates that the program needs, a line for each layer, so that each crate comes after those that it stands on.
+# The crates that the program needs, a line for those that are proved beside each other. Each comes after the crates that
+# it stands on, and no two of a line stand on one crate, since rt works in a crate and in those below it alone.
 layers() {
     awk '
         { sub(/#.*/, ""); at = index($0, ":"); if (!at) next
           split(substr($0, 1, at - 1), name, " "); below[name[1]] = substr($0, at + 1) }
-        function depth(crate,    words, count, i, most, it) {
-            if (crate in height) return height[crate]
+        function visit(crate,    words, count, i, most) {
+            if (crate in height) return
             count = split(below[crate], words, " ")
-            for (i = 1; i <= count; i++) if (words[i] in below) { it = depth(words[i]); if (it > most) most = it }
-            if (most + 1 > highest) highest = most + 1
-            layer[most + 1] = layer[most + 1] " " crate
-            return height[crate] = most + 1
+            for (i = 1; i <= count; i++) if (words[i] in below) {
+                visit(words[i])
+                if (height[words[i]] > most) most = height[words[i]]
+                needs[crate] = needs[crate] " " words[i] needs[words[i]]
+            }
+            height[crate] = most + 1
+            order[++last] = crate
+            if (height[crate] > highest) highest = height[crate]
         }
-        END { depth("cts_main"); for (i = 1; i <= highest; i++) print substr(layer[i], 2) }
+        function shares(crate, taken,    words, count, i) {
+            count = split(needs[crate], words, " ")
+            for (i = 1; i <= count; i++) if (index(taken " ", " " words[i] " ")) return 1
+            return 0
+        }
+        END {
+            visit("cts_main")
+            for (layer = 1; layer <= highest; layer++) {
+                lines = 0
+                for (i = 1; i <= last; i++) if (height[order[i]] == layer) {
+                    for (at = 1; at <= lines && shares(order[i], taken[at]); at++);
+                    if (at > lines) { lines = at; line[at] = taken[at] = "" }
+                    line[at] = line[at] " " order[i]
+                    taken[at] = taken[at] needs[order[i]]
+                }
+                for (at = 1; at <= lines; at++) print substr(line[at], 2)
+            }
+        }
     ' "$top/crates.txt"
 }
 
@@ -35,45 +57,53 @@ jobs() {
     echo "$count"
 }
 
-# Proves one crate, or the program itself with a run on the example.
+# Becomes the proof of one crate, or a run of the program itself on the example.
 prove() {
-    cd "$top/crates/$1" || return 1
+    cd "$top/crates/$1" || exit 1
     if [ "$1" = cts_main ]; then
-        rt run --jobs "$2" -- synth 1 <"$top/examples/one-sink.cts" 2>&1 >/dev/null
+        exec rt run --jobs "$2" -- synth 1 <"$top/examples/one-sink.cts" 2>&1 >/dev/null
     else
-        rt lib --jobs "$2" 2>&1
+        exec rt lib --jobs "$2" 2>&1
     fi
+}
+
+# Proves the crates of one layer beside each other, and tells how each ended.
+prove_layer() {
+    each=$(((all + $# - 1) / $#)) started='' failed=''
+    for crate; do
+        prove "$crate" "$each" </dev/null >"$log.$crate" &
+        started="$started $!"
+    done
+    for pid in $started; do
+        wait "$pid"
+        status=$?
+        done=$((done + 1))
+        if [ "$status" -eq 0 ]; then
+            echo "cts: $done of $count: $1 is proved" >&2
+        else
+            failed="$failed $1"
+        fi
+        cat "$log.$1" >>"$log"
+        rm -f "$log.$1"
+        shift
+    done
+    [ -z "$failed" ] && return 0
+    echo "cts: not proved or built:$failed; what the prover said is in $log" >&2
+    return 1
 }
 
 build() {
     command -v rt >/dev/null || { echo "cts: the Rattle toolchain's command rt is needed to build the program" >&2; return 1; }
-    mkdir -p "${log%/*}" && : >"$log" || return 1
+    mkdir -p "${log%/*}" && : >"$log" && layers >"$log.layers" || return 1
+    trap 'kill $started 2>/dev/null; exit 130' HUP INT TERM
     echo "cts: proving and building the program, once; this takes some minutes" >&2
-    all=$(jobs) done=0 count=$(layers | wc -w)
-    layers >"$log.layers"
+    all=$(jobs) done=0 count=$(wc -w <"$log.layers")
     while read -r layer; do
-        set -- $layer
-        each=$(((all + $# - 1) / $#))
-        started=
-        for crate; do
-            prove "$crate" "$each" </dev/null >"$log.$crate" &
-            started="$started $!:$crate"
-        done
-        for it in $started; do
-            crate=${it#*:}
-            wait "${it%%:*}"
-            status=$?
-            cat "$log.$crate" >>"$log"
-            rm -f "$log.$crate"
-            done=$((done + 1))
-            if [ "$status" -ne 0 ]; then
-                echo "cts: $done of $count: $crate is not proved or built; what the prover said is in $log" >&2
-                return 1
-            fi
-            echo "cts: $done of $count: $crate is proved" >&2
-        done
+        # (a line is a list of words)
+        prove_layer $layer || { rm -f "$log.layers"; return 1; }
     done <"$log.layers"
     rm -f "$log.layers"
+    trap - HUP INT TERM
     touch "$program"
 }
 

@@ -1,11 +1,12 @@
 //! Runs the cases of its input, and prints what each gives: the rows of the documents, as data.
 //!
 //! A case is a line `% WORDS / STREAMS | NAME` and the text below it, up to the next `%`. Of the words, the streams and
-//! the name only the words have to be there; `src/case.rt` says what they mean. Last it reads an instance with as many
-//! sinks as there may be.
+//! the name only the words have to be there; `src/case.rt` says what they mean. Last it writes some
+//! long numbers, and reads an instance with as many sinks and blocks as there may be.
 #![tactic(auto)]
 
 mod case;
+mod decimals;
 mod many;
 mod show;
 
@@ -17,5 +18,6 @@ fn main(rt: HostRuntime) -> io::Result<()> {
     for case in text.split(|byte| *byte == b'%').skip(1) {
         case::run(&rt, case)?;
     }
+    decimals::write(&rt)?;
     many::read(&rt)
 }

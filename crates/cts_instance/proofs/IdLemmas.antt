@@ -1,5 +1,5 @@
 -- Ids that are put in order one after another.
-use Rattle.std.proofs.Common.{◌≡◌, ℕ, ◌+◌, ◌<◌, ◌≤◌, ◌^◌, Bool, true, false, cond, ◌||◌, nat_eq, nat_lt, max, List, [], ◌∷◌, ◌++◌, length, take, get_or, refl, sym, ap, ◌∙◌, arith, length-append}
+use Rattle.std.proofs.Common.{◌≡◌, ℕ, ◌+◌, ◌<◌, ◌≤◌, ◌^◌, Bool, true, false, cond, not, ◌||◌, nat_eq, nat_lt, max, List, [], ◌∷◌, ◌++◌, length, take, get_or, refl, sym, ap, ◌∙◌, arith, length-append}
 use Rattle.std.specs.List.{list_any}
 use Rattle.std.specs.Ordering.{nat_cmp}
 use Rattle.std.specs.BTreeMap.{is_at}
@@ -77,3 +77,44 @@ push_ordered ids known ordered end id end' p fits e = record {
       rw (list_any-append, before, here) refl;
   end_fits = omega (arith, e, p.end_fits);
 }
+
+-- one id more, in order
+pub added_first : (ids ids' : List ℕ) (count count' : ℕ) (known known' : BTreeSet ℕ) (id : ℕ) → HasFirst ids count known → count ≡ length ids
+    → Updates nat_cmp known known' id true → ids' ≡ ids ++ id ∷ [] → count' ≡ length ids' → HasFirst ids' count' known'
+unfolding HasFirst
+added_first ids ids' count count' known known' id first all updates is all' x =
+    updates.0 x
+    ∙ ap (λ before. cond (is_at (nat_cmp id) x) true before) (has_all ids count known x first all)
+    ∙ found_after id x (list_any (nat_eq x) ids)
+    ∙ ap (λ last. list_any (nat_eq x) ids || last) (or_false (nat_eq x id))
+    ∙ sym (list_any-append (nat_eq x) ids (id ∷ []))
+    ∙ sym (ap (list_any (nat_eq x)) (take_all count' ids' (omega (arith, all')) ∙ is))
+
+pub not_true : (found : Bool) → true ≡ not found → found ≡ false
+not_true true e = cc
+not_true false e = refl
+
+pub not_false : (found : Bool) → false ≡ not found → found ≡ true
+not_false true e = refl
+not_false false e = cc
+
+-- what is kept where an id is new, and where it isn't
+pub kept_new : (ids pushed : List ℕ) (id : ℕ) → list_any (nat_eq id) ids ≡ false → pushed ≡ ids ++ id ∷ []
+    → pushed ≡ cond (list_any (nat_eq id) ids) ids (ids ++ id ∷ [])
+kept_new ids pushed id none is = rw none is
+
+pub kept_old : (ids left : List ℕ) (id : ℕ) → list_any (nat_eq id) ids ≡ true → left ≡ ids
+    → left ≡ cond (list_any (nat_eq id) ids) ids (ids ++ id ∷ [])
+kept_old ids left id some is = rw some is
+
+pub ends_added : (ids ids' : List ℕ) (end id : ℕ) → EndsBefore ids end → id < end → ids' ≡ cond (list_any (nat_eq id) ids) ids (ids ++ id ∷ [])
+    → EndsBefore ids' end
+unfolding EndsBefore
+ends_added ids ids' end id ends early is x past = by_found (list_any (nat_eq id) ids) is
+  where
+    by_found : (found : Bool) → ids' ≡ cond found ids (ids ++ id ∷ []) → list_any (nat_eq x) ids' ≡ false
+    by_found true e = rw e (ends x past)
+    by_found false e =
+        let before : list_any (nat_eq x) ids ≡ false = ends x past in
+        let here : nat_eq x id ≡ false = (let less : id < x = omega (arith, past, early) in grind (arith, nat_tests)) in
+        rw (e, list_any-append, before, here) refl

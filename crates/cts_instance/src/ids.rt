@@ -1,6 +1,7 @@
 //! The ids of the sinks that were seen so far.
 
-ghost use Rattle.std.specs.Prelude.{◌≡◌, ◌≤◌, length, OnOk};
+ghost use Rattle.std.specs.Prelude.{◌≡◌, ◌≤◌, [], ◌∷◌, ◌++◌, length, vec_len, nat_eq, not, if◌then◌else◌, IfOk, OnOk, OnErr};
+ghost use Rattle.std.specs.List.{list_any};
 ghost use Rattle.cts_instance.specs.Ids.{HasFirst};
 
 use cts_num::NoMemory;
@@ -35,9 +36,6 @@ impl Model for SinkIds {
 }
 
 impl SinkIds {
-    ghost use Rattle.std.specs.Prelude.{[], ◌∷◌, ◌++◌, nat_eq, not, if◌then◌else◌, IfOk, OnErr};
-    ghost use Rattle.std.specs.List.{list_any};
-
     /// No ids yet, with room for this many.
     pub fn with_capacity(alloc: Global, count: usize) -> Result<SinkIds, NoMemory>
         ensures { IfOk result (λ ids. ids ≡ []) }
@@ -65,33 +63,39 @@ impl SinkIds {
             ≡ (if list_any (nat_eq id) self.old then self.old else self.old ++ id ∷ [])) }
         ensures err { OnErr result (self.new ≡ self.old) }
     {
-        if self.has(id)? {
-            return Ok(false);
-        }
-        self.push(id)?;
-        Ok(true)
-    }
-
-    /// Whether an id is there.
-    fn has(&mut self, id: u32) -> Result<bool, NoMemory>
-        ensures has { IfOk result (λ has. has ≡ list_any (nat_eq id) self.old) }
-        ensures kept { self.new ≡ self.old }
-    {
         if u64::from(id) >= self.end {
-            return Ok(false);
+            self.ids.push(id)?;
+            self.end = u64::from(id) + 1;
+            return Ok(true);
         }
         order(&self.ids, &mut self.known, &mut self.ordered)?;
-        Ok(self.known.contains(&id))
+        let is_new = add(&mut self.ids, &mut self.known, id)?;
+        self.ordered = self.ids.len();
+        Ok(is_new)
     }
+}
 
-    /// Adds an id at the end.
-    fn push(&mut self, id: u32) -> Result<(), NoMemory>
-        ensures added { OnOk result (self.new ≡ self.old ++ id ∷ []) }
-        ensures err { OnErr result (self.new ≡ self.old) }
-    {
-        self.ids.push(id)?;
-        self.end = self.end.max(u64::from(id) + 1);
-        Ok(())
+/// Adds an id to the ids, and to the ordered set that has them all.
+fn add(ids: &mut Vec<u32>, known: &mut BTreeSet<u32>, id: u32) -> Result<bool, NoMemory>
+    requires { HasFirst ids.old.items (vec_len ids.old) known.old }
+    ensures new { IfOk result (λ is_new. is_new ≡ not (list_any (nat_eq id) ids.old.items)) }
+    ensures added { OnOk result (ids.new.items
+        ≡ (if list_any (nat_eq id) ids.old.items then ids.old.items else ids.old.items ++ id ∷ [])) }
+    ensures all { OnOk result (HasFirst ids.new.items (vec_len ids.new) known.new) }
+    ensures err { OnErr result (ids.new.items ≡ ids.old.items) }
+    ensures kept { OnErr result (HasFirst ids.old.items (vec_len ids.old) known.new) }
+{
+    ids.push(id)?;
+    match known.insert(id) {
+        Ok(true) => Ok(true),
+        Ok(false) => {
+            ids.pop();
+            Ok(false)
+        }
+        Err(_) => {
+            ids.pop();
+            Err(NoMemory)
+        }
     }
 }
 

@@ -5,3 +5,4 @@ pub mod Spelling
 pub mod Steps
 pub mod Tables
 pub mod Texts
+mod Rows

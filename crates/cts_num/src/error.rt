@@ -19,24 +19,3 @@ impl<T: Drop> From<AllocFailed<T>> for NoMemory {
         NoMemory
     }
 }
-
-#[cfg(test)]
-mod tests {
-    use super::*;
-    use std::alloc::Global;
-    use std::test::Fail;
-
-    fn copy(alloc: Global, byte: u8) -> Result<Vec<u8>, NoMemory> {
-        let mut bytes = Vec::with_capacity(alloc, 1)?;
-        bytes.push(byte)?;
-        Ok(bytes)
-    }
-
-    #[test]
-    fn stands_for_each_failed_allocation(rt: HostRuntime) -> Result<(), Fail> {
-        assert_eq!(rt; copy(rt.alloc(), 7)?.as_slice(), [7].as_slice());
-        let text = format!(in rt.alloc(); "{}", NoMemory::from(AllocError))?;
-        assert_eq!(rt; text.as_str(), "no memory");
-        Ok(())
-    }
-}

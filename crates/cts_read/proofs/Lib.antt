@@ -5,3 +5,4 @@ pub mod Places
 pub mod WordLists
 pub mod WordCounts
 pub mod Refusals
+pub mod Agreements
