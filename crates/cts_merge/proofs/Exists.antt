@@ -1,5 +1,5 @@
 -- Every sink has a leaf, and any two sides have a pair or are beyond.
-use Rattle.std.proofs.Common.{◌≡◌, ℕ, ◌+◌, ◌-◌, ◌^◌, ◌≤◌, ◌⊎◌, inl, inr, Option, None, refl, ap, arith}
+use Rattle.std.proofs.Common.{◌≡◌, ℕ, ◌+◌, ◌≤◌, ◌⊎◌, inl, inr, Option, None, refl, ap, arith}
 use Rattle.std.proofs.lemmas.Bool.{cases_lt}
 use Rattle.std.proofs.lemmas.Int.{ints}
 use Rattle.cts_geom.specs.declared.points.Spot.{Spot}
@@ -11,6 +11,7 @@ use Rattle.cts_units.specs.declared.params.Sink.{Sink}
 use Rattle.cts_units.specs.declared.params.Params.{Params}
 use Rattle.cts_units.specs.Choice.{IsBufferChoice, added_delay_of, seen_load_of}
 use Rattle.cts_units.proofs.Choices.{choice_exists}
+use Rattle.cts_units.specs.Limits.{max_length, max_load, max_delay}
 use Rattle.cts_merge.specs.declared.side.Side.{Side}
 use Rattle.cts_merge.specs.declared.side.Finished.{Finished}
 use Rattle.cts_merge.specs.LeastPair.{HasLeastPair, Spans}
@@ -70,14 +71,14 @@ leaf_there sink = (sink_leaf sink, sink_leaf_is sink)
 
 -- the pair of two sides by their least pair of lengths, within the limits on these and on the load
 module _ (params : Params) (a b : Side) (ea eb : ℕ) (least : IsMergePair params.wire a b ea eb)
-    (ea_within : ea ≤ 2 ^ 31 - 1) (eb_within : eb ≤ 2 ^ 31 - 1) (load_within : pair_load_of params.wire a b ea eb ≤ 2 ^ 56) where
+    (ea_within : ea ≤ max_length) (eb_within : eb ≤ max_length) (load_within : pair_load_of params.wire a b ea eb ≤ max_load) where
   pair_or_slow : (choice : Option ℕ) → IsBufferChoice params (pair_load_of params.wire a b ea eb) choice
       → (region : Region) → IsMeet a.region ea b.region eb region
       → ((pair : Finished) × IsMerged params a b pair) ⊎ IsBeyond params a b
   pair_or_slow choice chosen region meet =
       let load : ℕ = pair_load_of params.wire a b ea eb in
       let greatest : ℕ = pair_delay_of params.wire a b ea eb + added_delay_of params.library choice load in
-      elim (cases_lt (2 ^ 104) greatest) [
+      elim (cases_lt max_delay greatest) [
         | inl over ↦
             inr (record {
               ea = ea;
@@ -115,11 +116,11 @@ merged_or_beyond params a b ok =
     let choice = choice_exists params load in
     let box : Box a.region pair.ea b.region pair.eb =
     box_of a.region pair.ea b.region pair.eb (omega (arith, pair.least.admissible)) in
-    elim (cases_lt (2 ^ 31 - 1) pair.ea) [
+    elim (cases_lt max_length pair.ea) [
       | inl long ↦ inr (record { ea = pair.ea; eb = pair.eb; least = pair.least; over = inl long })
-      | inr ea_within ↦ elim (cases_lt (2 ^ 31 - 1) pair.eb) [
+      | inr ea_within ↦ elim (cases_lt max_length pair.eb) [
         | inl long ↦ inr (record { ea = pair.ea; eb = pair.eb; least = pair.least; over = inr (inl long) })
-        | inr eb_within ↦ elim (cases_lt (2 ^ 56) load) [
+        | inr eb_within ↦ elim (cases_lt max_load load) [
           | inl heavy ↦ inr (record { ea = pair.ea; eb = pair.eb; least = pair.least; over = inr (inr (inl heavy)) })
           | inr load_within ↦
               pair_or_slow params a b pair.ea pair.eb pair.least (omega arith) (omega arith) (omega arith)

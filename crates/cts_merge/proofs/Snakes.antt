@@ -1,6 +1,7 @@
 -- Snakes and stretches as the code meets them: the target is a number that is equal to the other side's delay.
-use Rattle.std.proofs.Common.{◌≡◌, ℕ, ◌+◌, ◌-◌, ◌*◌, ◌^◌, ◌<◌, ◌≤◌, ◌⊎◌, Result, IfErr, Ok, Err, inl, inr, subst, arith}
+use Rattle.std.proofs.Common.{◌≡◌, ℕ, ◌+◌, ◌*◌, ◌<◌, ◌≤◌, ◌⊎◌, Result, IfErr, Ok, Err, inl, inr, subst, arith}
 use Rattle.std.proofs.lemmas.Bool.{cases_lt}
+use Rattle.cts_units.specs.Limits.{max_length}
 use Rattle.cts_merge.specs.LeastPair.{IsLeastPair, IsTooLong, Spans, Covers}
 use Rattle.cts_merge.specs.Stretch.{IsStretch, IsLongStretch}
 use Rattle.cts_merge.proofs.Rising.{Rises}
@@ -33,7 +34,7 @@ long_snake_second f g up_f up_g gap start e slow s =
     record { ea = s.len; eb = 0; least = snake_second f g up_f up_g gap start s.len e slow s.stretch; long = inl s.long }
 
 -- a gap of more than two wires
-pub long_gap : (f g : ℕ → ℕ) → Rises f → Rises g → (gap : ℕ) → 2 * (2 ^ 31 - 1) < gap → IsTooLong f g (Spans gap)
+pub long_gap : (f g : ℕ → ℕ) → Rises f → Rises g → (gap : ℕ) → 2 * max_length < gap → IsTooLong f g (Spans gap)
 long_gap f g up_f up_g gap wide =
     let p = spans_exists f g up_f up_g gap in
     let whole : gap ≤ p.ea + p.eb = omega (arith, p.least.admissible) in
@@ -41,7 +42,7 @@ long_gap f g up_f up_g gap wide =
       ea = p.ea;
       eb = p.eb;
       least = p.least;
-      long = elim (cases_lt (2 ^ 31 - 1) p.ea) [ inl long ↦ inl long | inr short ↦ inr (omega arith) ];
+      long = elim (cases_lt max_length p.ea) [ inl long ↦ inl long | inr short ↦ inr (omega arith) ];
     }
 
 pub stretch_first : (f g : ℕ → ℕ) → Rises f → Rises g → (la lb slow xb : ℕ) → slow ≡ f la → g lb ≤ slow
@@ -65,7 +66,7 @@ long_stretch_second f g up_f up_g la lb slow e fast s =
     record { ea = s.len; eb = lb; least = stretch_second f g up_f up_g la lb slow s.len e fast s.stretch; long = inl s.long }
 
 -- a route of more than one wire
-pub long_route : (f g : ℕ → ℕ) → Rises f → Rises g → (la lb : ℕ) → (2 ^ 31 - 1 < la) ⊎ (2 ^ 31 - 1 < lb)
+pub long_route : (f g : ℕ → ℕ) → Rises f → Rises g → (la lb : ℕ) → (max_length < la) ⊎ (max_length < lb)
     → IsTooLong f g (Covers la lb)
 long_route f g up_f up_g la lb long =
     let p = covers_exists f g up_f up_g la lb in

@@ -1,5 +1,5 @@
 -- Sides of finished trees are within the limits of a merge.
-use Rattle.std.proofs.Common.{◌≡◌, ℕ, ◌^◌, ◌≤◌, List, Option, Some, None, slice_get, refl, sym, subst, arith}
+use Rattle.std.proofs.Common.{◌≡◌, ℕ, ◌≤◌, List, Option, Some, None, slice_get, refl, sym, subst, arith}
 use Rattle.std.specs.Option.{option_map_or}
 use Rattle.std.proofs.lemmas.Int.{ints}
 use Rattle.std.proofs.lemmas.Option.{slice_get_within, get_or_from_slice_get}
@@ -9,7 +9,7 @@ use Rattle.cts_units.specs.declared.params.Buffer.{Buffer}
 use Rattle.cts_units.specs.declared.params.Sink.{Sink}
 use Rattle.cts_units.specs.declared.params.Params.{Params}
 use Rattle.cts_units.specs.Choice.{seen_load_of}
-use Rattle.cts_units.specs.Limits.{IsBuffer, IsParams}
+use Rattle.cts_units.specs.Limits.{IsBuffer, IsParams, max_load}
 use Rattle.cts_postorder.specs.BinaryTree.{BinaryTree, tip, fork}
 use Rattle.cts_topo.specs.declared.shape.ShapeNode.{ShapeNode}
 use Rattle.cts_merge.specs.declared.side.Side.{Side}
@@ -23,13 +23,13 @@ use Rattle.cts_up.proofs.Leaves.{LeafOf, leaf_of, sink_has}
 use Rattle.cts_up.proofs.Regions.{regions_small}
 
 -- the load that is seen of a node is within the limit where its own is
-pub seen_within : (params : Params) (buffer : Option ℕ) (load : ℕ) → IsParams params → load ≤ 2 ^ 56
-    → seen_load_of params.library buffer load ≤ 2 ^ 56
+pub seen_within : (params : Params) (buffer : Option ℕ) (load : ℕ) → IsParams params → load ≤ max_load
+    → seen_load_of params.library buffer load ≤ max_load
 seen_within params None load ok h = h
 seen_within params (Some index) load ok h = by_buffer (slice_get params.library index) refl
   where
     by_buffer : (o : Option Buffer) → slice_get params.library index ≡ o
-        → option_map_or (λ (b : Buffer). b.cin) o load ≤ 2 ^ 56
+        → option_map_or (λ (b : Buffer). b.cin) o load ≤ max_load
     by_buffer None e = h
     by_buffer (Some b) e =
         let is : IsBuffer b =
@@ -39,9 +39,9 @@ seen_within params (Some index) load ok h = by_buffer (slice_get params.library 
 
 pair_in_range : (params : Params) (a b : Side) (f : Finished) → IsParams params → IsMerged params a b f → IsSideInRange f.side
 pair_in_range params a b f ok is =
-    let seen : seen_load_of params.library f.buffer (pair_load_of params.wire a b f.ea f.eb) ≤ 2 ^ 56 =
+    let seen : seen_load_of params.library f.buffer (pair_load_of params.wire a b f.ea f.eb) ≤ max_load =
     seen_within params f.buffer (pair_load_of params.wire a b f.ea f.eb) ok is.load_within in
-    record { greatest = is.greatest_within; load = subst (λ x. x ≤ 2 ^ 56) (sym is.load) seen }
+    record { greatest = is.greatest_within; load = subst (λ x. x ≤ max_load) (sym is.load) seen }
 
 sides_in_range : (params : Params) (sinks : List Sink) (t : BinaryTree ShapeNode) (f : Finished) → IsFinished params sinks t f
     → IsParams params → AreSinksInRange sinks → IsSideInRange f.side

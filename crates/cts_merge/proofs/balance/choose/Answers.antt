@@ -1,6 +1,7 @@
 -- A route that is too long, or a stretch of the wire to the side that is faster over its route.
-use Rattle.std.proofs.Common.{◌-◌, ◌^◌, ◌<◌, ◌⊎◌, inl, inr, arith}
+use Rattle.std.proofs.Common.{◌-◌, ◌<◌, ◌⊎◌, inl, inr, arith}
 use Rattle.std.proofs.lemmas.Bool.{cases_lt}
+use Rattle.cts_units.specs.Limits.{max_length}
 use Rattle.cts_merge.specs.Balance.{IsBeyondBalance}
 use Rattle.cts_merge.proofs.SideDelays.{delay_rises}
 use Rattle.cts_merge.proofs.Snakes.{for_error, stretch_first, stretch_second, long_stretch_first, long_stretch_second, long_route}
@@ -9,8 +10,8 @@ use Rattle.cts_merge.proofs.balance.choose.Goals as goal
 pub returns-then-la-gt-MAX_LENGTH-clause-beyond : goal.returns-then-la-gt-MAX_LENGTH-clause-beyond
 returns-then-la-gt-MAX_LENGTH-clause-beyond c =
     let wire = c.args.params.now.wire in
-    let long : (2 ^ 31 - 1 < c.args.la) ⊎ (2 ^ 31 - 1 < c.args.lb) =
-    elim (cases_lt (2 ^ 31 - 1) c.args.la) [ inl first ↦ inl first | inr short ↦ inr (omega (arith, c.then-la-gt-MAX_LENGTH.either)) ] in
+    let long : (max_length < c.args.la) ⊎ (max_length < c.args.lb) =
+    elim (cases_lt max_length c.args.la) [ inl first ↦ inl first | inr short ↦ inr (omega (arith, c.then-la-gt-MAX_LENGTH.either)) ] in
     long_route _ _ (delay_rises wire c.args.a.now c.requires.params.wire) (delay_rises wire c.args.b.now c.requires.params.wire)
     c.args.la c.args.lb long
 

@@ -1,5 +1,6 @@
 -- The longest length with at most that delay, or the next one, is nearest; past the bracket the nearest length is over the limit.
-use Rattle.std.proofs.Common.{◌+◌, ◌-◌, ◌^◌, ◌<◌, ◌≤◌, arith}
+use Rattle.std.proofs.Common.{◌+◌, ◌-◌, ◌<◌, ◌≤◌, arith}
+use Rattle.cts_units.specs.Limits.{max_length}
 use Rattle.cts_merge.specs.Side.{delay_through}
 use Rattle.cts_merge.specs.Stretch.{IsLongest}
 use Rattle.cts_merge.proofs.SideDelays.{delay_rises}
@@ -10,9 +11,9 @@ pub returns-in_default-clause-beyond : goal.returns-in_default-clause-beyond
 returns-in_default-clause-beyond c =
     let f = delay_through c.args.wire c.args.side.now in
     let up = delay_rises c.args.wire c.args.side.now c.requires.wire in
-    let far : f (2 ^ 31) ≤ c.args.target = omega (arith, c.in_default.ensures, c.requires.room) in
+    let far : f (max_length + 1) ≤ c.args.target = omega (arith, c.in_default.ensures, c.requires.room) in
     let s = stretch_exists f up c.args.base c.args.target c.requires.room in
-    let past : 2 ^ 31 ≤ s.len = stretch_past f up c.args.base c.args.target s.len (2 ^ 31) s.stretch far in
+    let past : max_length + 1 ≤ s.len = stretch_past f up c.args.base c.args.target s.len (max_length + 1) s.stretch far in
     record { len = s.len; stretch = s.stretch; long = omega (arith, past) }
 
 pub returns-then-short_by-long_by-clause-stretch :
