@@ -1,1 +1,3 @@
 pub mod WithinLimits
+pub mod SinksOnce
+pub mod Reached

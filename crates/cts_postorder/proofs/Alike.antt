@@ -5,7 +5,9 @@ use Rattle.cts_postorder.specs.BinaryTree.{BinaryTree, tip, fork, label, size, l
 use Rattle.cts_postorder.specs.PostOrder.{IsPostOrder, trees_of, root_of}
 use Rattle.cts_postorder.specs.Occurrence.{Occurrence, occurrence, occurrences, occurrences_of}
 use Rattle.cts_postorder.proofs.Spelling.{trees_of-labels}
-use Rattle.cts_postorder.proofs.Lists.{Whole, whole_of, root_of-labels}
+use Rattle.std.proofs.lemmas.Simd.{map-map}
+use Rattle.cts_postorder.proofs.Growth.{map-label-trees_of}
+use Rattle.cts_postorder.proofs.Lists.{Whole, whole_of, root_of-labels, map-here-occurrences_of}
 
 module _ {N M : Type 0} (R : Occurrence N → M → Type 0) where
   -- the second tree has the form of the first, and each of its nodes is related to the place of the first
@@ -148,3 +150,20 @@ alike_label R up (tip n) (tip m) a = a
 alike_label R up (tip n) (fork l' r' m) a = absurd a
 alike_label R up (fork l r n) (tip m) a = absurd a
 alike_label R up (fork l r n) (fork l' r' m) a = a.2
+
+-- the places of a list of nodes carry the nodes
+pub map-node-occurrences_of : {N : Type 0} (kids : N → Option (ℕ × ℕ)) (nodes : List N) → IsPostOrder (map kids nodes)
+    → map (λ (o : Occurrence N). label o.here) (occurrences_of kids nodes) ≡ nodes
+map-node-occurrences_of {N} kids nodes ok =
+    sym (map-map label (λ (o : Occurrence N). o.here) (occurrences_of kids nodes))
+    ∙ ap (map label) (map-here-occurrences_of kids nodes ok) ∙ map-label-trees_of kids nodes
+
+-- two relations of lists, one after the other
+pub all_zip-then : {A B C : Type 0} (P : A → B → Type 0) (Q : B → C → Type 0) (xs : List A) (ys : List B) (zs : List C)
+    → AllZip P xs ys → AllZip Q ys zs → AllZip (λ x z. (y : B) × P x y × Q y z) xs zs
+all_zip-then P Q [] [] [] p q = tt
+all_zip-then P Q [] [] (z ∷ zs) p q = absurd q
+all_zip-then P Q [] (y ∷ ys) zs p q = absurd p
+all_zip-then P Q (x ∷ xs) [] zs p q = absurd p
+all_zip-then P Q (x ∷ xs) (y ∷ ys) [] p q = absurd q
+all_zip-then P Q (x ∷ xs) (y ∷ ys) (z ∷ zs) p q = ((y, p.0, q.0), all_zip-then P Q xs ys zs (p.1) (q.1))
