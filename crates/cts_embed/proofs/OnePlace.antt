@@ -60,7 +60,7 @@ below_one parts from start t p q same hp hq =
     let node : hp.node ≡ hq.node = finished_one parts.params parts.sinks t hp.node hq.node hp.finished hq.finished in
     node_place_one parts (label t) hq.node start p q (moved parts (label t) hp.node hq.node from start p node same hp.is_place) hq.is_place
 
-start_one : (parts : Parts) (up : List (BinaryTree ShapeNode)) (p q : Spot) → IsRouteStart parts up p → IsRouteStart parts up q → p ≡ q
+pub start_one : (parts : Parts) (up : List (BinaryTree ShapeNode)) (p q : Spot) → IsRouteStart parts up p → IsRouteStart parts up q → p ≡ q
 unfolding IsRouteStart
 start_one parts [] p q hp hq = hp ∙ sym hq
 start_one parts (pair ∷ up) p q hp hq =

@@ -1,3 +1,8 @@
 pub mod WithinLimits
 pub mod SinksOnce
 pub mod Reached
+pub mod LegalWays
+pub mod Wires
+pub mod Fitted
+pub mod Unique
+pub mod Sound

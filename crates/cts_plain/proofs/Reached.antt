@@ -1,5 +1,5 @@
 -- In the tree of a shape each sink is reached once and at its place, and its nodes name what the instance has.
-use Rattle.std.proofs.Common.{◌≡◌, ℕ, zero, suc, ◌+◌, ◌<◌, ◌≤◌, ◌==◌, List, [], ◌∷◌, ◌++◌, map, length, get_or, slice_get, filter_map, count_by, Option, Some, None, MatchOption, refl, sym, ap, ap₂, subst, ◌∙◌, arith}
+use Rattle.std.proofs.Common.{◌≡◌, ℕ, zero, suc, ◌+◌, ◌<◌, ◌≤◌, ◌==◌, inl, inr, List, [], ◌∷◌, ◌++◌, map, length, get_or, slice_get, filter_map, count_by, Option, Some, None, MatchOption, refl, sym, ap, ap₂, subst, ◌∙◌, arith}
 use Rattle.std.specs.List.{All, AllZip, cons_option}
 use Rattle.std.specs.Option.{option_map}
 use Rattle.std.proofs.lemmas.Option.{slice_get-get_or}
@@ -7,7 +7,8 @@ use Rattle.std.proofs.lemmas.Slice.Zip.{AllZip-long}
 use Rattle.cts_geom.specs.Points.{spot_at}
 use Rattle.cts_geom.specs.declared.points.Spot.{Spot}
 use Rattle.cts_units.specs.declared.params.Sink.{Sink}
-use Rattle.cts_postorder.specs.BinaryTree.{label}
+use Rattle.cts_units.specs.declared.params.Params.{Params}
+use Rattle.cts_postorder.specs.BinaryTree.{BinaryTree, tip, fork, label}
 use Rattle.cts_postorder.specs.PostOrder.{IsPostOrder}
 use Rattle.cts_postorder.specs.Occurrence.{Occurrence, occurrences_of}
 use Rattle.cts_postorder.proofs.Zips.{all_zip-map_left, all_zip-weaker, all_zip-all}
@@ -23,25 +24,58 @@ use Rattle.cts_topo.specs.Shape.{children, leaf_sink, leaf_sinks, IsShapeOver}
 use Rattle.cts_merge.specs.declared.side.Finished.{Finished}
 use Rattle.cts_embed.specs.Places.{IsNodePlace, kind_of}
 use Rattle.cts_embed.specs.PlacedTree.{IsPlacedNode, IsPlacedTree}
-use Rattle.cts_embed.specs.BalancedTree.{IsBalancedNode, IsBalancedTree}
+use Rattle.cts_embed.specs.declared.node.NodeBalance.{NodeBalance}
+use Rattle.cts_embed.specs.Balance.{IsBalance}
+use Rattle.cts_embed.specs.BalancedTree.{IsBalancedNode, IsBalancedTree, IsWireLength}
 use Rattle.cts_elmore.specs.Sound.{IsSinkAt, ReachesEachSinkOnce, leaf_ids}
 use Rattle.cts_plain.proofs.SinksOnce.{stands_by, id_by, ids_once}
 
 -- what a placed node keeps in the balance
-abbrev Keeps : PlacedNode → TreeNode → Type 0
-Keeps m n = (n.kind ≡ m.kind) × (n.place ≡ m.place)
+pub record Keeps (m : PlacedNode) (n : TreeNode) : Type 0 where
+  pub kind : n.kind ≡ m.kind
+  pub place : n.place ≡ m.place
+  pub route : n.route ≡ m.route
+  pub no_shorter : m.route.length ≤ n.wire
+
+-- a wire is as long as its route at least
+long_enough : (params : Params) (sinks : List Sink) (l r : BinaryTree PlacedNode) (n : PlacedNode) (p : NodeBalance)
+    → IsBalance params sinks (fork l r n) p
+    → ((label l).route.length ≤ p.left_wire) × ((label r).route.length ≤ p.right_wire)
+unfolding IsBalance
+long_enough params sinks l r n p h =
+    elim h.4.wires.admissible [
+      | inl first ↦ (omega (arith, first.0), omega (arith, first.1))
+      | inr second ↦ (omega (arith, second.1), omega (arith, second.0))
+    ]
+
+wire_covers : (i : Parts) (up : List (BinaryTree PlacedNode)) (t : BinaryTree PlacedNode) (len : ℕ) → IsWireLength i up t len
+    → (label t).route.length ≤ len
+unfolding IsWireLength
+wire_covers i [] t len is = omega (arith, is)
+wire_covers i (tip n ∷ up) t len is = absurd is
+wire_covers i (fork l r n ∷ up) t len is =
+    let both = long_enough i.params i.sinks l r n is.0 is.1 in
+    elim is.2 [
+      | inl left ↦ omega (arith, both.0, left.1, ap (λ (x : BinaryTree PlacedNode). (label x).route.length) left.0)
+      | inr right ↦ omega (arith, both.1, right.1, ap (λ (x : BinaryTree PlacedNode). (label x).route.length) right.0)
+    ]
 
 module _ (i : Parts) where
   -- a node of the tree, and the place of the shape that it was made of
-  abbrev IsMadeOf : Occurrence ShapeNode → TreeNode → Type 0
+  abbrev pub IsMadeOf : Occurrence ShapeNode → TreeNode → Type 0
   IsMadeOf o n = (m : PlacedNode) × IsPlacedNode i o m × Keeps m n
 
-  kept : (placed : List PlacedNode) → IsPostOrder (map placed_children placed) → (tree : List TreeNode)
+  pub kept : (placed : List PlacedNode) → IsPostOrder (map placed_children placed) → (tree : List TreeNode)
       → IsBalancedTree i placed tree → AllZip Keeps placed tree
   kept placed ok tree balanced =
       subst (λ ms. AllZip Keeps ms tree) (map-node-occurrences_of placed_children placed ok)
       (all_zip-map_left Keeps (λ (o : Occurrence PlacedNode). label o.here) (occurrences_of placed_children placed) tree
-      (all_zip-weaker (IsBalancedNode i) (λ o n. Keeps (label o.here) n) (λ o n is. (is.kind, is.place))
+      (all_zip-weaker (IsBalancedNode i) (λ o n. Keeps (label o.here) n) (λ o n is. record {
+        kind = is.kind;
+        place = is.place;
+        route = is.route;
+        no_shorter = wire_covers i o.above o.here n.wire is.wire;
+      })
       (occurrences_of placed_children placed) tree balanced.nodes))
 
   leaf_place : (n : ShapeNode) (finished : Finished) (from place : Spot) → IsNodePlace i n finished from place
@@ -56,9 +90,9 @@ module _ (i : Parts) where
   -- each node of the tree by itself
   stands : (o : Occurrence ShapeNode) (n : TreeNode) → IsMadeOf o n
       → MatchOption (leaf_id n.kind) (Unit {0}) (IsSinkAt i.sinks n)
-  stands o n (m, is, (kind, place)) =
-      stands_by i.sinks (label o.here) is.finished.buffer n (is.placed.kind ∙ ap Some (sym kind))
-      (λ s sink named found. place ∙ leaf_place (label o.here) is.finished is.from m.place is.placed.place s sink named found)
+  stands o n (m, is, keeps) =
+      stands_by i.sinks (label o.here) is.finished.buffer n (is.placed.kind ∙ ap Some (sym keeps.kind))
+      (λ s sink named found. keeps.place ∙ leaf_place (label o.here) is.finished is.from m.place is.placed.place s sink named found)
 
   -- one more leaf, or none
   ids_more : (d : Sink) (named id : Option ℕ) (ids places : List ℕ) → id ≡ option_map (λ s. (get_or i.sinks s d).id) named
@@ -74,10 +108,10 @@ module _ (i : Parts) where
   ids_are d [] [] all = refl
   ids_are d [] (n ∷ tree) all = absurd all
   ids_are d (o ∷ os) [] all = absurd all
-  ids_are d (o ∷ os) (n ∷ tree) ((m, is, (kind, place)), rest) =
+  ids_are d (o ∷ os) (n ∷ tree) ((m, is, keeps), rest) =
       ids_more d (leaf_sink (label o.here)) (leaf_id n.kind) (leaf_ids tree)
       (filter_map (λ (q : Occurrence ShapeNode). leaf_sink (label q.here)) os)
-      (id_by i.sinks (label o.here) is.finished.buffer n.kind d (is.placed.kind ∙ ap Some (sym kind)))
+      (id_by i.sinks (label o.here) is.finished.buffer n.kind d (is.placed.kind ∙ ap Some (sym keeps.kind)))
       (ids_are d os tree rest)
 
   filter_map-map : {A B : Type 0} (f : A → B) (g : B → Option ℕ) (xs : List A)

@@ -1,15 +1,24 @@
--- What holds of every tree that the synthesis makes.
-use Rattle.std.specs.Prelude.{List, map}
-use Rattle.cts_postorder.specs.PostOrder.{IsPostOrder}
-use Rattle.cts_tree.specs.declared.nodes.PlacedNode.{PlacedNode}
+-- What holds of every synthesis.
+use Rattle.std.specs.Prelude.{◌≡◌, List, length, All}
+use Rattle.cts_block.specs.declared.blocks.Kind.TheVariants.{Buffer}
 use Rattle.cts_tree.specs.declared.nodes.TreeNode.{TreeNode}
-use Rattle.cts_tree.specs.Nodes.{placed_children}
 use Rattle.cts_instance.specs.declared.parts.Parts.{Parts}
-use Rattle.cts_embed.specs.BalancedTree.{IsBalancedTree}
-use Rattle.cts_elmore.specs.Limits.{IsWithinLimits}
+use Rattle.cts_instance.specs.Validity.{IsValid}
+use Rattle.cts_topo.specs.declared.shape.ShapeNode.{ShapeNode}
+use Rattle.cts_topo.specs.Shape.{IsShapeOver}
+use Rattle.cts_elmore.specs.Sound.{IsSound}
+use Rattle.cts_elmore.specs.Fits.{FitsInstance}
+use Rattle.cts_plain.specs.Synthesis.{Synthesis, IsTreeOf, IsSynthesisOver, StandsInDie}
 
--- a balanced tree is within the limits, by its own loads and delays
-abbrev pub BalancedTreesAreWithinLimits : Type 0
-BalancedTreesAreWithinLimits =
-    (i : Parts) (placed : List PlacedNode) (tree : List TreeNode) → IsPostOrder (map placed_children placed)
-    → IsBalancedTree i placed tree → IsWithinLimits i tree
+-- over one shape there is one synthesis
+abbrev pub SynthesisIsOne : Type 0
+SynthesisIsOne =
+    (i : Parts) (shape : List ShapeNode) (a b : Synthesis) → IsShapeOver (length i.sinks) shape
+    → IsSynthesisOver i shape a → IsSynthesisOver i shape b → a ≡ b
+
+-- where no block stops wires, the tree is sound, stands in the die, and is made of the instance's sinks and buffers
+abbrev pub TreesAreSound : Type 0
+TreesAreSound =
+    (i : Parts) (shape : List ShapeNode) (tree : List TreeNode) → IsValid i → IsShapeOver (length i.sinks) shape
+    → All (λ block. block.kind ≡ Buffer) i.blocks → IsTreeOf i shape tree
+    → IsSound i tree × All (StandsInDie i.die) tree × FitsInstance i tree

@@ -1,1 +1,9 @@
+pub mod Synthesis
+pub mod Ends
+pub mod EndsOf
 pub mod Laws
+pub use Rattle.cts_up.specs.Plan
+pub use Rattle.cts_embed.specs.PlacedTree
+pub use Rattle.cts_embed.specs.BalancedTree
+pub use Rattle.cts_elmore.specs.Figures
+pub use Rattle.cts_elmore.specs.Sound

@@ -1,8 +1,14 @@
-//! What holds of every tree that the synthesis makes, as laws: each is the contract of a function that does nothing.
+//! What holds of every synthesis, as laws: each is the contract of a function that does nothing.
 
-ghost use Rattle.cts_plain.specs.Laws.{BalancedTreesAreWithinLimits};
+ghost use Rattle.cts_plain.specs.Laws.{SynthesisIsOne, TreesAreSound};
 
-/// A balanced tree is within the limits, by its own loads and delays.
-pub fn balanced_trees_are_within_limits()
-    ensures { BalancedTreesAreWithinLimits }
+/// Over one shape there is one synthesis at most.
+pub fn synthesis_is_one()
+    ensures { SynthesisIsOne }
+{}
+
+/// Where no block stops wires, the tree of a shape is sound, stands in the die, and is made of the
+/// instance's sinks and buffers.
+pub fn trees_are_sound()
+    ensures { TreesAreSound }
 {}

@@ -1,0 +1,78 @@
+//! The passes of the synthesis, one after the other.
+
+ghost use Rattle.std.specs.Prelude.{◌≡◌, ◌+◌, ◌≤◌, length, All, IfOk, IfErr};
+ghost use Rattle.cts_block.specs.declared.blocks.Kind.TheVariants.{Buffer};
+ghost use Rattle.cts_topo.specs.Shape.{IsShapeOver};
+ghost use Rattle.cts_up.specs.Plan.{IsPlan};
+ghost use Rattle.cts_elmore.specs.Figures.{AreFigures, AreFiguresInRange};
+ghost use Rattle.cts_elmore.specs.Sound.{IsSound};
+ghost use Rattle.cts_plain.specs.Ends.{Ends, EndsOver};
+ghost use Rattle.cts_plain.specs.Synthesis.{IsSynthesis, IsSynthesisOver, StandsInDie, made};
+
+use crate::end::NoTree;
+use cts_elmore::{Figures, measure};
+use cts_embed::{balance, embed};
+use cts_instance::Instance;
+use cts_merge::{Finished, Steps};
+use cts_topo::{Shape, topology};
+use cts_tree::Tree;
+use cts_up::up;
+use std::alloc::Global;
+use std::sync::ledger::Ledger;
+
+/// The tree of a shape over an instance's sinks by its plan, with its figures: places and routes from
+/// the root down, the wires balanced upward, and what each node's load, delay and slew then are.
+///
+/// `Cut` with the greatest number of a node that no route reaches, `Beyond` with the least number of a
+/// node that is over the limits in the balance, `NoMemory` where an allocation fails.
+pub fn finish(
+    alloc: Global,
+    instance: &Instance,
+    shape: &Shape,
+    plan: &[Finished],
+) -> Result<(Tree, Figures), NoTree>
+    requires shape { IsShapeOver (length instance.now.sinks) shape.now }
+    requires plan { IsPlan instance.now.params instance.now.sinks shape.now plan.now }
+    requires walls { All (λ block. block.kind ≡ Buffer) instance.now.blocks }
+    ensures tree { IfOk result (λ r. IsSynthesisOver instance.now shape.now (made r.0)) }
+    ensures figures { IfOk result (λ r. AreFigures instance.now r.0 r.1) }
+    ensures sound { IfOk result (λ r. IsSound instance.now r.0) }
+    ensures one_each { IfOk result (λ r. length r.1.nodes ≡ length r.0) }
+    ensures in_range { IfOk result (λ r. AreFiguresInRange r.1) }
+    ensures in_die { IfOk result (λ r. All (StandsInDie instance.now.die) r.0) }
+    ensures ends { IfErr result (EndsOver instance.now shape.now) }
+{
+    // Each read call says that the instance is valid, which the limits of the passes rest on.
+    let _die = instance.die();
+    let placed = embed(alloc, instance, shape, plan)?;
+    let tree = balance(alloc, instance, placed)?;
+    let figures = measure(alloc, instance, &tree)?;
+    Ok((tree, figures))
+}
+
+/// The synthesis of an instance by one thread: its tree with the figures, or why it has none.
+///
+/// `Beyond` with the least number of a node that is over the limits of lengths, loads or delays, in the
+/// plan or else in the balance; `Cut` with the greatest number of a node that no route reaches, where
+/// the plan has no node beyond; `NoMemory` where an allocation fails. Each pair that the plan tries
+/// counts one merge.
+pub fn synthesise<L: Ledger>(
+    alloc: Global,
+    instance: &Instance,
+    steps: &mut Steps<L>,
+) -> Result<(Tree, Figures), NoTree>
+    requires walls { All (λ block. block.kind ≡ Buffer) instance.now.blocks }
+    ensures tree { IfOk result (λ r. IsSynthesis instance.now (made r.0)) }
+    ensures figures { IfOk result (λ r. AreFigures instance.now r.0 r.1) }
+    ensures sound { IfOk result (λ r. IsSound instance.now r.0) }
+    ensures one_each { IfOk result (λ r. length r.1.nodes ≡ length r.0) }
+    ensures in_range { IfOk result (λ r. AreFiguresInRange r.1) }
+    ensures in_die { IfOk result (λ r. All (StandsInDie instance.now.die) r.0) }
+    ensures ends { IfErr result (Ends instance.now) }
+    ensures merges { steps.new ≤ steps.old + length instance.now.sinks }
+{
+    let sinks = instance.sinks();
+    let shape = topology(alloc, sinks)?;
+    let plan = up(alloc, instance.params(), sinks, &shape, steps)?;
+    finish(alloc, instance, &shape, &plan)
+}
