@@ -22,3 +22,6 @@ mod subtree;
 pub use figures::{Figures, NodeFigure, NodeFigures};
 pub use limits::within;
 pub use measurement::measure;
+
+#[cfg(test)]
+mod tests;
