@@ -1,4 +1,14 @@
 //! The figures of a clock tree: loads, Elmore delays, slews, skew and bound.
+//!
+//! A layer above asks by [`within`] whether a tree is within the limits of wires, loads and delays,
+//! whoever made it, and takes the [`Figures`] of a tree that is by [`measure`]. Both ask for a tree
+//! that names the instance's sinks and buffers, `specs/Fits.antt`. A layer above cites
+//! `specs/Figures.antt` for what figures are: `Loads` has the sums over what a point drives, `Delays`
+//! the sums over a node's path from the source, `Skew` residues, skew and bound over the leaves, and
+//! `Limits` what is over the limits of a tree and what meets those of an instance.
+//!
+//! All of these are told of a tree and of the path of each node. The laws of [`laws`] say what a pair
+//! adds to its parts and hands down to them, and that the skew is at most the bound.
 #![tactic(auto)]
 
 mod descent;
@@ -12,3 +22,6 @@ mod subtree;
 pub use figures::{Figures, NodeFigure, NodeFigures};
 pub use limits::within;
 pub use measurement::measure;
+
+#[cfg(test)]
+mod tests;

@@ -22,10 +22,13 @@ unreachable-requires-in_default c =
 
 pub overflow_sub-last : goal.overflow_sub-last
 overflow_sub-last c =
-    omega (arith, some_node c.args.instance.now c.nodes-nodes.result.now
-    (subst (λ (nodes : List TreeNode). IsPostOrder (map tree_children nodes)) (sym c.nodes-nodes.ensures.nodes) c.nodes-nodes.ensures.post_order)
-    c.as_slice-subtrees.result.now (subst (AllZip (IsSubtree c.args.instance.now) (trees_of tree_children c.nodes-nodes.result.now)) (sym c.as_slice-subtrees.ensures.value)
-    (subst (IsGathered c.args.instance.now c.nodes-nodes.result.now) c.in-Within.is c.in_ok-subtrees.ensures)))
+    omega (
+      arith,
+      some_node c.args.instance.now c.nodes-nodes.result.now
+          (subst (λ (nodes : List TreeNode). IsPostOrder (map tree_children nodes)) (sym c.nodes-nodes.ensures.nodes) c.nodes-nodes.ensures.post_order)
+          c.as_slice-subtrees.result.now (subst (AllZip (IsSubtree c.args.instance.now) (trees_of tree_children c.nodes-nodes.result.now)) (sym c.as_slice-subtrees.ensures.value)
+          (subst (IsGathered c.args.instance.now c.nodes-nodes.result.now) c.in-Within.is c.in_ok-subtrees.ensures)),
+    )
 
 pub bounds-subtrees-last : goal.bounds-subtrees-last
 bounds-subtrees-last c =
@@ -36,51 +39,66 @@ bounds-subtrees-last c =
 
 pub bounds-nodes-last : goal.bounds-nodes-last
 bounds-nodes-last c =
-    omega (arith, some_node c.args.instance.now c.nodes-nodes.result.now
-    (subst (λ (nodes : List TreeNode). IsPostOrder (map tree_children nodes)) (sym c.nodes-nodes.ensures.nodes) c.nodes-nodes.ensures.post_order)
-    c.as_slice-subtrees.result.now (subst (AllZip (IsSubtree c.args.instance.now) (trees_of tree_children c.nodes-nodes.result.now)) (sym c.as_slice-subtrees.ensures.value)
-    (subst (IsGathered c.args.instance.now c.nodes-nodes.result.now) c.in-Within.is c.in_ok-subtrees.ensures)))
+    omega (
+      arith,
+      some_node c.args.instance.now c.nodes-nodes.result.now
+          (subst (λ (nodes : List TreeNode). IsPostOrder (map tree_children nodes)) (sym c.nodes-nodes.ensures.nodes) c.nodes-nodes.ensures.post_order)
+          c.as_slice-subtrees.result.now (subst (AllZip (IsSubtree c.args.instance.now) (trees_of tree_children c.nodes-nodes.result.now)) (sym c.as_slice-subtrees.ensures.value)
+          (subst (IsGathered c.args.instance.now c.nodes-nodes.result.now) c.in-Within.is c.in_ok-subtrees.ensures)),
+    )
 
 pub bounds-nodes-last-in_ok-descent : goal.bounds-nodes-last-in_ok-descent
 bounds-nodes-last-in_ok-descent c =
-    omega (arith, some_node c.args.instance.now c.nodes-nodes.result.now
-    (subst (λ (nodes : List TreeNode). IsPostOrder (map tree_children nodes)) (sym c.nodes-nodes.ensures.nodes) c.nodes-nodes.ensures.post_order)
-    c.as_slice-subtrees.result.now (subst (AllZip (IsSubtree c.args.instance.now) (trees_of tree_children c.nodes-nodes.result.now)) (sym c.as_slice-subtrees.ensures.value)
-    (subst (IsGathered c.args.instance.now c.nodes-nodes.result.now) c.in-Within.is c.in_ok-subtrees.ensures)))
+    omega (
+      arith,
+      some_node c.args.instance.now c.nodes-nodes.result.now
+          (subst (λ (nodes : List TreeNode). IsPostOrder (map tree_children nodes)) (sym c.nodes-nodes.ensures.nodes) c.nodes-nodes.ensures.post_order)
+          c.as_slice-subtrees.result.now (subst (AllZip (IsSubtree c.args.instance.now) (trees_of tree_children c.nodes-nodes.result.now)) (sym c.as_slice-subtrees.ensures.value)
+          (subst (IsGathered c.args.instance.now c.nodes-nodes.result.now) c.in-Within.is c.in_ok-subtrees.ensures)),
+    )
 
 pub overflow_add-result : goal.overflow_add-result
 overflow_add-result c =
-    omega (arith, wires_small c.args.instance.now c.nodes-nodes.result.now
-    (subst (λ (nodes : List TreeNode). IsPostOrder (map tree_children nodes)) (sym c.nodes-nodes.ensures.nodes) c.nodes-nodes.ensures.post_order)
-    c.as_slice-subtrees.result.now (subst (AllZip (IsSubtree c.args.instance.now) (trees_of tree_children c.nodes-nodes.result.now)) (sym c.as_slice-subtrees.ensures.value)
-    (subst (IsGathered c.args.instance.now c.nodes-nodes.result.now) c.in-Within.is c.in_ok-subtrees.ensures))
-    c.in-Some.drive c.in-Some.ensures
-    (record { below = 0; seen = 0; wires = 0; greatest = 0; least = 0; residue = 0; bound = 0 }) c.index-nodes-last.result
-    (subst (FitsInstance c.args.instance.now) (sym c.nodes-nodes.ensures.nodes) c.requires.fits))
+    omega (
+      arith,
+      wires_small c.args.instance.now c.nodes-nodes.result.now
+          (subst (λ (nodes : List TreeNode). IsPostOrder (map tree_children nodes)) (sym c.nodes-nodes.ensures.nodes) c.nodes-nodes.ensures.post_order)
+          c.as_slice-subtrees.result.now (subst (AllZip (IsSubtree c.args.instance.now) (trees_of tree_children c.nodes-nodes.result.now)) (sym c.as_slice-subtrees.ensures.value)
+          (subst (IsGathered c.args.instance.now c.nodes-nodes.result.now) c.in-Within.is c.in_ok-subtrees.ensures))
+          c.in-Some.drive c.in-Some.ensures
+          (record { below = 0; seen = 0; wires = 0; greatest = 0; least = 0; residue = 0; bound = 0 }) c.index-nodes-last.result
+          (subst (FitsInstance c.args.instance.now) (sym c.nodes-nodes.ensures.nodes) c.requires.fits),
+    )
 
 pub overflow_add-result-2 : goal.overflow_add-result-2
 overflow_add-result-2 c =
-    omega (arith, greatest_small c.args.instance.now c.nodes-nodes.result.now
-    (subst (λ (nodes : List TreeNode). IsPostOrder (map tree_children nodes)) (sym c.nodes-nodes.ensures.nodes) c.nodes-nodes.ensures.post_order)
-    c.as_slice-subtrees.result.now (subst (AllZip (IsSubtree c.args.instance.now) (trees_of tree_children c.nodes-nodes.result.now)) (sym c.as_slice-subtrees.ensures.value)
-    (subst (IsGathered c.args.instance.now c.nodes-nodes.result.now) c.in-Within.is c.in_ok-subtrees.ensures))
-    c.in-Some.drive c.in-Some.ensures
-    (record { below = 0; seen = 0; wires = 0; greatest = 0; least = 0; residue = 0; bound = 0 }) c.index-nodes-last.result)
+    omega (
+      arith,
+      greatest_small c.args.instance.now c.nodes-nodes.result.now
+          (subst (λ (nodes : List TreeNode). IsPostOrder (map tree_children nodes)) (sym c.nodes-nodes.ensures.nodes) c.nodes-nodes.ensures.post_order)
+          c.as_slice-subtrees.result.now (subst (AllZip (IsSubtree c.args.instance.now) (trees_of tree_children c.nodes-nodes.result.now)) (sym c.as_slice-subtrees.ensures.value)
+          (subst (IsGathered c.args.instance.now c.nodes-nodes.result.now) c.in-Within.is c.in_ok-subtrees.ensures))
+          c.in-Some.drive c.in-Some.ensures
+          (record { below = 0; seen = 0; wires = 0; greatest = 0; least = 0; residue = 0; bound = 0 }) c.index-nodes-last.result,
+    )
 
 pub overflow_add-result-3 : goal.overflow_add-result-3
 overflow_add-result-3 c =
-    omega (arith, greatest_small c.args.instance.now c.nodes-nodes.result.now
-    (subst (λ (nodes : List TreeNode). IsPostOrder (map tree_children nodes)) (sym c.nodes-nodes.ensures.nodes) c.nodes-nodes.ensures.post_order)
-    c.as_slice-subtrees.result.now (subst (AllZip (IsSubtree c.args.instance.now) (trees_of tree_children c.nodes-nodes.result.now)) (sym c.as_slice-subtrees.ensures.value)
-    (subst (IsGathered c.args.instance.now c.nodes-nodes.result.now) c.in-Within.is c.in_ok-subtrees.ensures))
-    c.in-Some.drive c.in-Some.ensures
-    (record { below = 0; seen = 0; wires = 0; greatest = 0; least = 0; residue = 0; bound = 0 }) c.index-nodes-last.result,
-    least_small c.args.instance.now c.nodes-nodes.result.now
-    (subst (λ (nodes : List TreeNode). IsPostOrder (map tree_children nodes)) (sym c.nodes-nodes.ensures.nodes) c.nodes-nodes.ensures.post_order)
-    c.as_slice-subtrees.result.now (subst (AllZip (IsSubtree c.args.instance.now) (trees_of tree_children c.nodes-nodes.result.now)) (sym c.as_slice-subtrees.ensures.value)
-    (subst (IsGathered c.args.instance.now c.nodes-nodes.result.now) c.in-Within.is c.in_ok-subtrees.ensures))
-    c.in-Some.drive c.in-Some.ensures
-    (record { below = 0; seen = 0; wires = 0; greatest = 0; least = 0; residue = 0; bound = 0 }) c.index-nodes-last.result)
+    omega (
+      arith,
+      greatest_small c.args.instance.now c.nodes-nodes.result.now
+          (subst (λ (nodes : List TreeNode). IsPostOrder (map tree_children nodes)) (sym c.nodes-nodes.ensures.nodes) c.nodes-nodes.ensures.post_order)
+          c.as_slice-subtrees.result.now (subst (AllZip (IsSubtree c.args.instance.now) (trees_of tree_children c.nodes-nodes.result.now)) (sym c.as_slice-subtrees.ensures.value)
+          (subst (IsGathered c.args.instance.now c.nodes-nodes.result.now) c.in-Within.is c.in_ok-subtrees.ensures))
+          c.in-Some.drive c.in-Some.ensures
+          (record { below = 0; seen = 0; wires = 0; greatest = 0; least = 0; residue = 0; bound = 0 }) c.index-nodes-last.result,
+      least_small c.args.instance.now c.nodes-nodes.result.now
+          (subst (λ (nodes : List TreeNode). IsPostOrder (map tree_children nodes)) (sym c.nodes-nodes.ensures.nodes) c.nodes-nodes.ensures.post_order)
+          c.as_slice-subtrees.result.now (subst (AllZip (IsSubtree c.args.instance.now) (trees_of tree_children c.nodes-nodes.result.now)) (sym c.as_slice-subtrees.ensures.value)
+          (subst (IsGathered c.args.instance.now c.nodes-nodes.result.now) c.in-Within.is c.in_ok-subtrees.ensures))
+          c.in-Some.drive c.in-Some.ensures
+          (record { below = 0; seen = 0; wires = 0; greatest = 0; least = 0; residue = 0; bound = 0 }) c.index-nodes-last.result,
+    )
 
 pub overflow_sub-result : goal.overflow_sub-result
 overflow_sub-result c =
