@@ -1,5 +1,6 @@
 pub mod Places
 pub mod PlacedTree
+pub mod Walls
 pub mod Naming
 pub mod Fitting
 pub mod Balance

@@ -19,3 +19,6 @@ pub use balancing::balance;
 pub use embedding::embed;
 pub use end::{BalanceEnd, EmbedEnd};
 pub use node::NodeBalance;
+
+#[cfg(test)]
+mod tests;

@@ -1,7 +1,6 @@
 //! The place of one node, and the route to it.
 
-ghost use Rattle.std.specs.Prelude.{◌≡◌, length, All, Some};
-ghost use Rattle.cts_block.specs.declared.blocks.Kind.TheVariants.{Buffer};
+ghost use Rattle.std.specs.Prelude.{◌≡◌, length, Some};
 ghost use Rattle.cts_geom.specs.Points.{IsSpotInRange, point_of, spot_at};
 ghost use Rattle.cts_geom.specs.Coordinate.{IsCoordinate};
 ghost use Rattle.cts_geom.specs.Regions.{IsRegionInRange};
@@ -11,6 +10,7 @@ ghost use Rattle.cts_embed.specs.PlacedTree.{IsPlacedFrom};
 ghost use Rattle.cts_route.specs.Routes.{IsRoute};
 ghost use Rattle.cts_embed.specs.Places.{IsPairPlace, IsNodePlace, kind_of, source_of};
 ghost use Rattle.cts_instance.specs.Validity.{IsValid};
+ghost use Rattle.cts_embed.specs.Walls.{StopNoWires};
 
 use cts_block::nearest_free;
 use cts_geom::{Half, Spot, distance, halves, nearest, spot_of};
@@ -68,7 +68,7 @@ fn way_along_x(from: Spot, to: Spot) -> Route
 /// The route between two points, where no block stops wires.
 #[tactic(auto, using(crate::proofs::Ways::way_is_route))]
 fn route_of(instance: &Instance, from: Spot, to: Spot) -> Route
-    requires walls { All (λ block. block.kind ≡ Buffer) instance.now.blocks }
+    requires walls { StopNoWires instance.now.blocks }
     requires from { IsSpotInRange from }
     requires to { IsSpotInRange to }
     ensures { IsRoute instance.now.blocks instance.now.die (point_of from) (point_of to) result }
@@ -124,7 +124,7 @@ pub(crate) fn place_node(
     requires names { NamesOneOf (length instance.now.sinks) node }
     requires region { IsRegionInRange finished.now.side.region }
     requires from { IsSpotInRange from }
-    requires walls { All (λ block. block.kind ≡ Buffer) instance.now.blocks }
+    requires walls { StopNoWires instance.now.blocks }
     ensures { IsPlacedFrom instance.now node finished.now from result }
 {
     let (kind, place) = stand(instance, node, finished, from);
