@@ -1,3 +1,5 @@
+pub mod FreeMap
 pub mod FreePoints
 pub mod NearestFree
+pub mod Raster
 pub mod Search

@@ -4,10 +4,17 @@
 //! contracts cite: whether a point is in the die, strictly inside a block, or free.
 #![tactic(auto)]
 
+mod banding;
+mod bands;
 mod blocks;
 mod distance;
+mod edge;
+mod edges;
 mod free;
+mod index;
+mod indexing;
 mod obstacles;
+mod raster;
 mod scan;
 mod search;
 mod whole;
