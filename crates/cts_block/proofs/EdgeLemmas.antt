@@ -17,7 +17,7 @@ use Rattle.cts_block.specs.declared.whole.Side.{Side}
 use Rattle.cts_block.specs.declared.whole.Side.TheVariants.{Left, Right}
 use Rattle.cts_block.specs.NearestFree.{LiesIn}
 use Rattle.cts_block.specs.Search.{IsFreeAmong, IsAhead, IsOn, IsOnSide, IsSegmentIn, edge_of, half_of}
-use Rattle.cts_block.specs.FreeMap.{HasEdge}
+use Rattle.cts_block.specs.Index.{HasEdge}
 use Rattle.cts_block.proofs.SearchLemmas.{left_edge_in_die, right_edge_in_die}
 use Rattle.cts_block.proofs.OrderLemmas.{ahead_trans}
 

@@ -18,7 +18,7 @@ use Rattle.cts_block.specs.declared.whole.Side.{Side}
 use Rattle.cts_block.specs.declared.whole.Side.TheVariants.{Left, Right}
 use Rattle.cts_block.specs.declared.whole.Whole.{Whole}
 use Rattle.cts_block.specs.Search.{IsClosest, IsBeyond, IsOn, IsOffset, columns_of, last_of, half_of}
-use Rattle.cts_block.specs.FreeMap.{IsEdge, HoldsSide, IsIndex, edges_of}
+use Rattle.cts_block.specs.Index.{IsEdge, HoldsSide, IsIndex, edges_of}
 use Rattle.cts_block.proofs.ColumnLemmas.{IsClear, IsCovered}
 use Rattle.cts_block.proofs.ObstacleLemmas.{clear_or_covered}
 

@@ -2,6 +2,7 @@ pub mod ColumnLemmas
 pub mod EdgeLemmas
 mod Example
 pub mod IndexLemmas
+pub mod MapLemmas
 pub mod ObstacleLemmas
 pub mod OrderLemmas
 pub mod RasterLemmas

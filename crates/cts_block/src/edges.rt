@@ -8,7 +8,7 @@ ghost use Rattle.cts_block.specs.NearestFree.{IsDieInRange, LiesIn};
 ghost use Rattle.cts_block.specs.FreePoints.{IsInDie};
 ghost use Rattle.cts_block.specs.Search.{IsPlaceInRange, IsFreeAmong, IsAhead, IsOn, IsOnSide, IsOffset, IsSegmentIn};
 ghost use Rattle.cts_block.specs.Search.{half_of as spec_half_of, edge_of as spec_edge_of};
-ghost use Rattle.cts_block.specs.FreeMap.{IsEdge, HasEdge};
+ghost use Rattle.cts_block.specs.Index.{IsEdge, HasEdge};
 
 use crate::blocks::Block;
 use crate::distance::{left_edge, reach, right_edge};

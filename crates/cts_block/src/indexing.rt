@@ -6,7 +6,7 @@ ghost use Rattle.cts_block.specs.declared.whole.Whole.{Whole};
 ghost use Rattle.cts_block.specs.FreePoints.{IsInDie};
 ghost use Rattle.cts_block.specs.NearestFree.{IsDieInRange, LiesIn};
 ghost use Rattle.cts_block.specs.Search.{IsPlaceInRange, IsFreeAmong, IsAhead, IsClosest, IsOnSide, IsBeyond, columns_of, last_of, half_of};
-ghost use Rattle.cts_block.specs.FreeMap.{HoldsSide, IsIndex, edges_of as spec_edges_of};
+ghost use Rattle.cts_block.specs.Index.{HoldsSide, IsIndex, edges_of as spec_edges_of};
 
 use crate::blocks::Block;
 use crate::distance::closest_columns;

@@ -11,6 +11,7 @@ mod distance;
 mod edge;
 mod edges;
 mod free;
+mod free_map;
 mod index;
 mod indexing;
 mod obstacles;
@@ -21,4 +22,5 @@ mod whole;
 
 pub use blocks::{Block, Kind};
 pub use free::{free_for_buffer, free_for_wire};
+pub use free_map::FreeMap;
 pub use scan::nearest_free;

@@ -2,7 +2,7 @@ use Rattle.std.proofs.Common.{[], ◌∷◌, rules, arith}
 use Rattle.std.proofs.lemmas.List.Elements.{All-push, Contains-append_left}
 use Rattle.std.proofs.lemmas.List.Sorted.{All-permutation, Contains-permutation, IsNonDecreasingBy-from_sort_by_key}
 use Rattle.cts_block.specs.declared.edge.Edge.{Edge}
-use Rattle.cts_block.specs.FreeMap.{IsEdge}
+use Rattle.cts_block.specs.Index.{IsEdge}
 use Rattle.cts_block.proofs.EdgeLemmas.{side_more, side_all, grown_edge, last_edge}
 use Rattle.cts_block.proofs.edges.edges_on.Goals as goal
 use Rattle.cts_block.proofs.edges.edges_on.Goals.{in-Some+in_ok-push-in-Some, in-None}

@@ -3,7 +3,7 @@ use Rattle.std.specs.Prelude.{All}
 use Rattle.cts_block.specs.declared.blocks.Block.{Block}
 use Rattle.cts_block.specs.declared.whole.Whole.{Whole}
 use Rattle.cts_block.specs.Search.{IsFreeAmong, edge_of}
-use Rattle.cts_block.specs.FreeMap.{IsEdge, HasEdge}
+use Rattle.cts_block.specs.Index.{IsEdge, HasEdge}
 use Rattle.cts_block.proofs.edges.edges_on.Given as goal
 
 abbrev pub invariant-loop-block : goal.invariant-loop-block

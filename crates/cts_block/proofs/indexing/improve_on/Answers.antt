@@ -4,7 +4,7 @@ use Rattle.cts_block.specs.declared.edge.Edge.{Edge}
 use Rattle.cts_block.specs.declared.whole.Whole.{Whole}
 use Rattle.cts_block.specs.Search.{IsFreeAmong, IsAhead, IsOn}
 use Rattle.std.specs.Prelude.{Contains}
-use Rattle.cts_block.specs.FreeMap.{HoldsSide, IsEdge, edges_of}
+use Rattle.cts_block.specs.Index.{HoldsSide, IsEdge, edges_of}
 use Rattle.cts_block.proofs.IndexLemmas.{all_of_part, side_of_index, edge_is_far, edge_is_beyond}
 use Rattle.cts_block.proofs.indexing.improve_on.Goals as goal
 
