@@ -44,7 +44,7 @@ pub record IsDieInRange (die : Die) : Type 0 where
   pub y_ordered : die.y1 ≤ℤ die.y2
 
 -- the point (x, y), in nm, lies in the closed die
-pub record IsWithin (die : Die) (x y : ℤ) : Type 0 where
+pub record IsCornerIn (die : Die) (x y : ℤ) : Type 0 where
   pub left : die.x1 ≤ℤ x
   pub right : x ≤ℤ die.x2
   pub bottom : die.y1 ≤ℤ y
@@ -52,8 +52,8 @@ pub record IsWithin (die : Die) (x y : ℤ) : Type 0 where
 
 -- both corners of the block lie in the closed die
 pub record LiesIn (die : Die) (block : Block) : Type 0 where
-  pub from : IsWithin die block.x1 block.y1
-  pub to : IsWithin die block.x2 block.y2
+  pub from : IsCornerIn die block.x1 block.y1
+  pub to : IsCornerIn die block.x2 block.y2
 
 -- a place has no more than one nearest free point
 abbrev pub NearestFreeIsOne : Type 0
