@@ -107,7 +107,7 @@ pub placed_tree_one : PlacedTreeIsOne
 placed_tree_one parts shape placed other p q =
     all_zip-one (IsPlacedNode parts) (λ o m n. placed_node_one parts o m n) (occurrences_of children shape) placed other p q
 
-none_cut : (parts : Parts) (os : List (Occurrence ShapeNode)) (placed : List PlacedNode) → AllZip (IsPlacedNode parts) os placed
+pub none_cut : (parts : Parts) (os : List (Occurrence ShapeNode)) (placed : List PlacedNode) → AllZip (IsPlacedNode parts) os placed
     → All (λ o. ¬ IsCutNode parts o) os
 none_cut parts [] placed all = All-nil _
 none_cut parts (o ∷ os) [] all = absurd all

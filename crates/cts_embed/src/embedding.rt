@@ -11,7 +11,7 @@ ghost use Rattle.cts_embed.specs.PlacedTree.{IsPlacedNode, IsPlacedTree};
 ghost use Rattle.cts_embed.specs.Walls.{StopNoWires};
 
 use crate::end::EmbedEnd;
-use crate::placing::{place_node, source_place};
+use crate::placing::{free_map, place_node, source_place};
 use cts_instance::Instance;
 use cts_merge::Finished;
 use cts_topo::{Shape, ShapeNode};
@@ -33,10 +33,17 @@ fn place_nodes(
     ensures fits { IfOk result (λ placed. Fits instance.now (reverse placed.items)) }
     ensures ends { IfErr result (EmbedEnds instance.now nodes.now) }
 {
+    let free = free_map(alloc, instance)?;
     let mut starts = vec![in alloc; source_place(instance); nodes.len()]?;
     let mut placed = Vec::with_capacity(alloc, nodes.len())?;
     for number in (0..nodes.len()).rev() {
-        let node = place_node(instance, nodes[number], &plan[number], starts[number]);
+        let node = place_node(
+            instance,
+            &free,
+            nodes[number],
+            &plan[number],
+            starts[number],
+        );
         let place = node.place;
         placed.push(node)?;
         if let ShapeNode::Pair { left, right } = nodes[number] {
