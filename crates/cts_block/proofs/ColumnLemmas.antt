@@ -7,8 +7,10 @@ use Rattle.cts_geom.specs.declared.bounds.Die.{Die}
 use Rattle.cts_block.specs.declared.blocks.Block.{Block}
 use Rattle.cts_block.specs.declared.whole.Whole.{Whole}
 use Rattle.cts_block.specs.declared.whole.Range.{Range}
+use Rattle.cts_block.specs.declared.whole.Side.{Side}
+use Rattle.cts_block.specs.declared.whole.Side.TheVariants.{Left, Right}
 use Rattle.cts_block.specs.FreePoints.{IsInside}
-use Rattle.cts_block.specs.Search.{IsFreeAmong, IsAhead, IsClosest, columns_of, half_of}
+use Rattle.cts_block.specs.Search.{IsFreeAmong, IsAhead, IsClosest, IsOnSide, IsBeyond, columns_of, half_of}
 use Rattle.cts_block.proofs.OrderLemmas.{ahead_refl, ahead_trans, right_is_later, left_is_later}
 
 -- one of the blocks that count has the point inside
@@ -20,27 +22,12 @@ pub record IsCovered (Counts : Block → Type 0) (p : Whole) : Type 0 where
 abbrev pub IsClear : (Block → Type 0) → Whole → Type 0
 IsClear Counts p = (block : Block) → Counts block → ¬ IsInside block (half_of p)
 
--- the point lies on the right edge of a block, or on the left one, between its ends
-pub record IsOnRight (Counts : Block → Type 0) (p : Whole) : Type 0 where
-  pub block : Block
-  pub counts : Counts block
-  pub column : p.x ≡ block.x2
-  pub low : block.y1 <ℤ p.y
-  pub high : p.y <ℤ block.y2
-
-pub record IsOnLeft (Counts : Block → Type 0) (p : Whole) : Type 0 where
-  pub block : Block
-  pub counts : Counts block
-  pub column : p.x ≡ block.x1
-  pub low : block.y1 <ℤ p.y
-  pub high : p.y <ℤ block.y2
-
 -- a free point that is no later than another one, and where it lies
 pub record HasAhead (Counts : Block → Type 0) (die : Die) (from : Half) (columns : Range) (p : Whole) : Type 0 where
   pub point : Whole
   pub free : IsFreeAmong Counts die point
   pub ahead : IsAhead from point p
-  pub place : ((point.x ≡ columns.low) ⊎ (point.x ≡ columns.high)) ⊎ (IsOnRight Counts point ⊎ IsOnLeft Counts point)
+  pub place : ((point.x ≡ columns.low) ⊎ (point.x ≡ columns.high)) ⊎ ((side : Side) × IsBeyond side columns point × IsOnSide Counts side point)
 
 module _ (Counts : Block → Type 0) (die : Die) (from : Half) (columns : Range) (closest : IsClosest (columns_of die) from.x columns) (decide : (p : Whole) → IsClear Counts p ⊎ IsCovered Counts p) where
   -- one step to the left, where nothing is in the way
@@ -54,7 +41,7 @@ module _ (Counts : Block → Type 0) (die : Die) (from : Half) (columns : Range)
   }
 
   -- where a block is in the way, the point lies on its right edge
-  stopped_left : (p : Whole) → IsFreeAmong Counts die p → IsCovered Counts (record { x = p.x -ℤ pos 1; y = p.y }) → IsOnRight Counts p
+  stopped_left : (p : Whole) → IsFreeAmong Counts die p → IsCovered Counts (record { x = p.x -ℤ pos 1; y = p.y }) → IsOnSide Counts Right p
   stopped_left p free covered =
       let block = covered.block in
       let left : (pos 2 *ℤ block.x1) <ℤ (pos 2 *ℤ (p.x -ℤ pos 1)) = covered.inside.x.above in
@@ -83,7 +70,7 @@ module _ (Counts : Block → Type 0) (die : Die) (from : Half) (columns : Range)
             let more : HasAhead Counts die from columns next = from_right n next (step_left p free beyond clear) (omega (arith, ints, beyond)) (omega (arith, ints, beyond, near)) in
             let step : IsAhead from next p = right_is_later (columns_of die) from columns closest p beyond (omega (arith, ints, free.in_die.x.at_most)) in
             record { point = more.point; free = more.free; ahead = ahead_trans from more.point next p more.ahead step; place = more.place }
-        | inr covered ↦ record { point = p; free = free; ahead = ahead_refl from p; place = inr (inl (stopped_left p free covered)) }
+        | inr covered ↦ record { point = p; free = free; ahead = ahead_refl from p; place = inr (Right, beyond, stopped_left p free covered) }
       ])
       (λ there. record { point = p; free = free; ahead = ahead_refl from p; place = inl (inr (omega (arith, ints, right, there))) })
 
@@ -97,7 +84,7 @@ module _ (Counts : Block → Type 0) (die : Die) (from : Half) (columns : Range)
     clear = clear;
   }
 
-  stopped_right : (p : Whole) → IsFreeAmong Counts die p → IsCovered Counts (record { x = p.x +ℤ pos 1; y = p.y }) → IsOnLeft Counts p
+  stopped_right : (p : Whole) → IsFreeAmong Counts die p → IsCovered Counts (record { x = p.x +ℤ pos 1; y = p.y }) → IsOnSide Counts Left p
   stopped_right p free covered =
       let block = covered.block in
       let left : (pos 2 *ℤ block.x1) <ℤ (pos 2 *ℤ (p.x +ℤ pos 1)) = covered.inside.x.above in
@@ -126,7 +113,7 @@ module _ (Counts : Block → Type 0) (die : Die) (from : Half) (columns : Range)
             let more : HasAhead Counts die from columns next = from_left n next (step_right p free beyond clear) (omega (arith, ints, beyond)) (omega (arith, ints, beyond, near)) in
             let step : IsAhead from next p = left_is_later (columns_of die) from columns closest p beyond (omega (arith, ints, free.in_die.x.at_least)) in
             record { point = more.point; free = more.free; ahead = ahead_trans from more.point next p more.ahead step; place = more.place }
-        | inr covered ↦ record { point = p; free = free; ahead = ahead_refl from p; place = inr (inr (stopped_right p free covered)) }
+        | inr covered ↦ record { point = p; free = free; ahead = ahead_refl from p; place = inr (Left, beyond, stopped_right p free covered) }
       ])
       (λ there. record { point = p; free = free; ahead = ahead_refl from p; place = inl (inl (omega (arith, ints, left, there))) })
 
@@ -140,16 +127,14 @@ module _ (Counts : Block → Type 0) (die : Die) (from : Half) (columns : Range)
   pub ahead_of_all : (best : Whole)
       → ((q : Whole) → IsFreeAmong Counts die q → q.x ≡ columns.low → IsAhead from best q)
       → ((q : Whole) → IsFreeAmong Counts die q → q.x ≡ columns.high → IsAhead from best q)
-      → ((q : Whole) → IsFreeAmong Counts die q → IsOnRight Counts q → IsAhead from best q)
-      → ((q : Whole) → IsFreeAmong Counts die q → IsOnLeft Counts q → IsAhead from best q)
+      → ((side : Side) (q : Whole) → IsFreeAmong Counts die q → IsBeyond side columns q → IsOnSide Counts side q → IsAhead from best q)
       → (p : Whole) → IsFreeAmong Counts die p → IsAhead from best p
-  ahead_of_all best at_low at_high at_right at_left p free =
+  ahead_of_all best at_low at_high at_side p free =
       let near = has_ahead p free in
       let q = near.point in
       let first : IsAhead from best q = elim near.place [
         | inl (inl low) ↦ at_low q near.free low
         | inl (inr high) ↦ at_high q near.free high
-        | inr (inl right) ↦ at_right q near.free right
-        | inr (inr left) ↦ at_left q near.free left
+        | inr (side, beyond, on) ↦ at_side side q near.free beyond on
       ] in
       ahead_trans from best q p first near.ahead

@@ -13,11 +13,13 @@ use Rattle.cts_block.specs.declared.blocks.Block.{Block}
 use Rattle.cts_block.specs.declared.blocks.Kind.{Kind}
 use Rattle.cts_block.specs.declared.blocks.Kind.TheVariants.{Buffer, All as Every}
 use Rattle.cts_block.specs.declared.whole.Whole.{Whole}
+use Rattle.cts_block.specs.declared.whole.Side.{Side}
+use Rattle.cts_block.specs.declared.whole.Side.TheVariants.{Left, Right}
 use Rattle.cts_block.specs.FreePoints.{IsInside, IsOpenToWires, IsOpenToBuffers}
 use Rattle.cts_block.specs.NearestFree.{IsFree, IsLeastFree}
-use Rattle.cts_block.specs.Search.{IsFreeAmong, IsAhead, IsOnEdge, IsObstacle, Stops, half_of}
+use Rattle.cts_block.specs.Search.{IsFreeAmong, IsAhead, IsOnEdge, IsOnSide, IsObstacle, Stops, half_of}
 use Rattle.cts_block.proofs.OrderLemmas.{ahead_trans}
-use Rattle.cts_block.proofs.ColumnLemmas.{IsClear, IsCovered, IsOnRight, IsOnLeft}
+use Rattle.cts_block.proofs.ColumnLemmas.{IsClear, IsCovered}
 
 pub inside_or_not : (block : Block) (at : Half) → IsInside block at ⊎ (¬ IsInside block at)
 inside_or_not block at =
@@ -115,11 +117,9 @@ module _ (blocks : List Block) (buffered : Bool) (die : Die) (from : Half) (i : 
 
 -- ahead of all points on the edges of the blocks that count
 module _ (blocks : List Block) (buffered : Bool) (die : Die) (from : Half) (best : Whole) (edges : (block : Block) → IsObstacle blocks buffered block → (q : Whole) → IsFreeAmong (IsObstacle blocks buffered) die q → IsOnEdge block q → IsAhead from best q) where
-  pub ahead_on_right : (q : Whole) → IsFreeAmong (IsObstacle blocks buffered) die q → IsOnRight (IsObstacle blocks buffered) q → IsAhead from best q
-  ahead_on_right q free on = edges on.block on.counts q free (record { column = inr on.column; low = omega (arith, ints, on.low); high = omega (arith, ints, on.high) })
-
-  pub ahead_on_left : (q : Whole) → IsFreeAmong (IsObstacle blocks buffered) die q → IsOnLeft (IsObstacle blocks buffered) q → IsAhead from best q
-  ahead_on_left q free on = edges on.block on.counts q free (record { column = inl on.column; low = omega (arith, ints, on.low); high = omega (arith, ints, on.high) })
+  pub ahead_on_side : (side : Side) (q : Whole) → IsFreeAmong (IsObstacle blocks buffered) die q → IsOnSide (IsObstacle blocks buffered) side q → IsAhead from best q
+  ahead_on_side Left q free on = edges on.block on.counts q free (record { column = inl on.column; low = omega (arith, ints, on.low); high = omega (arith, ints, on.high) })
+  ahead_on_side Right q free on = edges on.block on.counts q free (record { column = inr on.column; low = omega (arith, ints, on.low); high = omega (arith, ints, on.high) })
 
 -- twice the distance of a point of whole nm from a place
 pub doubled_distance : (at : Spot) (from : Half) → from ≡ point_of at → (x y : ℤ) → 2 * distance_of at (spot_at x y) ≡ manhattan_of from (half_of (record { x = x; y = y }))

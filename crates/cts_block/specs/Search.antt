@@ -1,5 +1,5 @@
 -- Words of the search for the nearest free point, over points of whole nm. The blocks that count are given as a set.
-use Rattle.std.specs.Prelude.{◌≡◌, ◌^◌, ◌⊎◌, ℤ, pos, neg_ℤ, ◌+ℤ◌, ◌*ℤ◌, ◌≤ℤ◌, Bool, true, false, List, Contains}
+use Rattle.std.specs.Prelude.{◌≡◌, ◌^◌, ◌⊎◌, ℤ, pos, neg_ℤ, ◌+ℤ◌, ◌*ℤ◌, ◌≤ℤ◌, ◌<ℤ◌, ℕ, Bool, true, false, List, Contains}
 use Rattle.cts_geom.specs.declared.points.Half.{Half}
 use Rattle.cts_geom.specs.declared.bounds.Die.{Die}
 use Rattle.cts_geom.specs.Coordinate.{IsCoordinate}
@@ -9,6 +9,8 @@ use Rattle.cts_block.specs.declared.blocks.Kind.{Kind}
 use Rattle.cts_block.specs.declared.whole.Whole.{Whole}
 use Rattle.cts_block.specs.declared.whole.Range.{Range}
 use Rattle.cts_block.specs.declared.whole.Segment.{Segment}
+use Rattle.cts_block.specs.declared.whole.Side.{Side}
+use Rattle.cts_block.specs.declared.whole.Side.TheVariants.{Left, Right}
 use Rattle.cts_block.specs.FreePoints.{IsInDie, IsInside, StopsWires}
 use Rattle.cts_block.specs.NearestFree.{IsNoLater}
 
@@ -69,6 +71,33 @@ pub record IsOnEdge (block : Block) (p : Whole) : Type 0 where
   pub column : (p.x ≡ block.x1) ⊎ (p.x ≡ block.x2)
   pub low : block.y1 ≤ℤ p.y
   pub high : p.y ≤ℤ block.y2
+
+-- the x of a block on one side
+abbrev pub edge_of : Side → Block → ℤ
+edge_of Left block = block.x1
+edge_of Right block = block.x2
+
+-- the point lies on that side of a block that counts, between its ends
+pub record IsOnSide (Counts : Block → Type 0) (side : Side) (p : Whole) : Type 0 where
+  pub block : Block
+  pub counts : Counts block
+  pub column : p.x ≡ edge_of side block
+  pub low : block.y1 <ℤ p.y
+  pub high : p.y <ℤ block.y2
+
+-- of the columns that are nearest to a place, the one on that side, and whether a point lies beyond it
+abbrev pub last_of : Side → Range → ℤ
+last_of Left columns = columns.low
+last_of Right columns = columns.high
+
+abbrev pub IsBeyond : Side → Range → Whole → Type 0
+IsBeyond Left columns p = p.x <ℤ columns.low
+IsBeyond Right columns p = columns.high <ℤ p.x
+
+-- how far an x is from the other side of the die
+abbrev pub IsOffset : Side → Die → ℤ → ℕ → Type 0
+IsOffset Left die x offset = die.x2 ≡ x +ℤ pos offset
+IsOffset Right die x offset = x ≡ die.x1 +ℤ pos offset
 
 -- the kind of a block counts where a buffer, or else wires alone, is to stand
 abbrev pub Stops : Bool → Kind → Type 0

@@ -17,7 +17,7 @@ use crate::whole::{Range, Segment, Whole};
 use cts_geom::{Die, Half};
 
 /// The first free point from `from` on upward.
-fn rise<O: Obstacles>(obstacles: &O, die: &Die, from: Whole) -> Whole
+pub fn rise<O: Obstacles>(obstacles: &O, die: &Die, from: Whole) -> Whole
     requires die { IsDieInRange die.now }
     requires lie { (block : Block) → O.counts obstacles.now block → LiesIn die.now block }
     requires in_die { IsInDie die.now (spec_half_of from) }
@@ -35,7 +35,7 @@ fn rise<O: Obstacles>(obstacles: &O, die: &Die, from: Whole) -> Whole
 }
 
 /// The first free point from `from` on downward.
-fn fall<O: Obstacles>(obstacles: &O, die: &Die, from: Whole) -> Whole
+pub fn fall<O: Obstacles>(obstacles: &O, die: &Die, from: Whole) -> Whole
     requires die { IsDieInRange die.now }
     requires lie { (block : Block) → O.counts obstacles.now block → LiesIn die.now block }
     requires in_die { IsInDie die.now (spec_half_of from) }

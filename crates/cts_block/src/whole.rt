@@ -21,3 +21,10 @@ pub struct Segment {
     pub top: Whole,
     pub ghost vertical: { top.x ≡ bottom.x },
 }
+
+/// A side of a block or of the die, in x.
+#[derive(Clone, Copy)]
+pub enum Side {
+    Left,
+    Right,
+}

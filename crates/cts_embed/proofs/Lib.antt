@@ -14,3 +14,5 @@ pub mod Stands
 pub mod PlacedFits
 pub mod OnePlace
 pub mod Reach
+pub mod Cuts
+mod Example

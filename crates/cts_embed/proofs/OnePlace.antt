@@ -1,11 +1,10 @@
 -- A shape has one placed tree, and no node that is cut where it has one.
-use Rattle.std.proofs.Common.{◌≡◌, ℕ, List, [], ◌∷◌, slice_get, Option, Some, None, sym, ap, subst, ◌∙◌}
+use Rattle.std.proofs.Common.{◌≡◌, List, [], ◌∷◌, slice_get, Option, Some, None, sym, ap, subst, ◌∙◌}
 use Rattle.std.specs.List.{All, AllZip}
 use Rattle.std.specs.Option.{is_some, MatchOption}
 use Rattle.std.proofs.lemmas.List.Elements.{All-cons, All-nil}
 use Rattle.cts_geom.specs.declared.points.Spot.{Spot}
 use Rattle.cts_geom.specs.Points.{point_of, spot_at}
-use Rattle.cts_geom.specs.Regions.{nearest_of}
 use Rattle.cts_geom.proofs.RegionLemmas.{nearest_one}
 use Rattle.cts_units.specs.declared.params.Sink.{Sink}
 use Rattle.cts_postorder.specs.BinaryTree.{BinaryTree, label}
@@ -22,11 +21,10 @@ use Rattle.cts_topo.specs.declared.shape.ShapeNode.{ShapeNode}
 use Rattle.cts_topo.specs.declared.shape.ShapeNode.TheVariants.{Leaf, Pair}
 use Rattle.cts_topo.specs.Shape.{children}
 use Rattle.cts_merge.specs.declared.side.Finished.{Finished}
-use Rattle.cts_up.specs.Plan.{IsFinished}
 use Rattle.cts_up.proofs.Unique.{finished_one}
 use Rattle.cts_block.specs.NearestFree.{IsNearestFree}
 use Rattle.cts_embed.specs.Places.{IsNodePlace, IsPairPlace, IsPlaceBelow, IsRouteStart, kind_of}
-use Rattle.cts_embed.specs.PlacedTree.{IsPlacedNode, IsPlacedFrom, IsCutNode, IsPlacedTree}
+use Rattle.cts_embed.specs.PlacedTree.{IsPlacedNode, IsPlacedFrom, IsCutNode}
 use Rattle.cts_embed.specs.Laws.{PlacedTreeIsOne, PlacedIsNotCut, GreatestCutIsOne}
 use Rattle.cts_embed.proofs.FreePlaces.{nearest_free_one}
 
@@ -109,7 +107,7 @@ pub placed_tree_one : PlacedTreeIsOne
 placed_tree_one parts shape placed other p q =
     all_zip-one (IsPlacedNode parts) (λ o m n. placed_node_one parts o m n) (occurrences_of children shape) placed other p q
 
-none_cut : (parts : Parts) (os : List (Occurrence ShapeNode)) (placed : List PlacedNode) → AllZip (IsPlacedNode parts) os placed
+pub none_cut : (parts : Parts) (os : List (Occurrence ShapeNode)) (placed : List PlacedNode) → AllZip (IsPlacedNode parts) os placed
     → All (λ o. ¬ IsCutNode parts o) os
 none_cut parts [] placed all = All-nil _
 none_cut parts (o ∷ os) [] all = absurd all

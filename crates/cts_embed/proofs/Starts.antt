@@ -27,7 +27,7 @@ use Rattle.cts_merge.specs.declared.side.Finished.{Finished}
 use Rattle.cts_up.specs.Plan.{IsFinished, IsPlan}
 use Rattle.cts_tree.specs.declared.nodes.PlacedNode.{PlacedNode}
 use Rattle.cts_embed.specs.Places.{IsNodePlace, IsPlaceBelow, IsRouteStart, source_of}
-use Rattle.cts_embed.specs.PlacedTree.{IsPlacedFrom, IsPlacedNode}
+use Rattle.cts_embed.specs.PlacedTree.{IsCutFrom, IsCutNode, IsPlacedFrom, IsPlacedNode}
 use Rattle.cts_embed.proofs.FreePlaces.{nearest_in_die, in_die_in_range}
 
 -- a point of whole nm in the die
@@ -138,6 +138,18 @@ module _ (parts : Parts) (nodes : List ShapeNode) (ok : IsPostOrder (map childre
         made = made_here (number - 1) o f (omega arith);
         placed = subst (λ n. IsPlacedFrom parts n (get_or plan (number - 1) f) (get_or starts (number - 1) v) node)
             (sym (label_here (number - 1) o e (omega arith))) placed;
+      }
+
+      pub cut_here : (o : Occurrence ShapeNode)
+          → IsCutFrom parts (get_or nodes (number - 1) e) (get_or plan (number - 1) f) (get_or starts (number - 1) v)
+          → IsCutNode parts (get_or (occurrences_of children nodes) (number - 1) o)
+      cut_here o cut = record {
+        from = get_or starts (number - 1) v;
+        start = start_here o v;
+        finished = get_or plan (number - 1) f;
+        made = made_here (number - 1) o f (omega arith);
+        cut = subst (λ n. IsCutFrom parts n (get_or plan (number - 1) f) (get_or starts (number - 1) v))
+            (sym (label_here (number - 1) o e (omega arith))) cut;
       }
 
       pub placed_more : (node : PlacedNode) (placed : List PlacedNode)

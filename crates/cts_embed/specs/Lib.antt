@@ -1,5 +1,7 @@
 pub mod Places
 pub mod PlacedTree
+pub mod Walls
+pub mod Prepared
 pub mod Naming
 pub mod Fitting
 pub mod Balance

@@ -1,17 +1,17 @@
 //! The pass from the root down: places and routes.
 
-ghost use Rattle.std.specs.Prelude.{◌≡◌, length, reverse, All, IfOk, IfErr};
+ghost use Rattle.std.specs.Prelude.{◌≡◌, length, reverse, IfOk, IfErr};
 ghost use Rattle.std.specs.List.{AllZip};
-ghost use Rattle.cts_block.specs.declared.blocks.Kind.TheVariants.{Buffer};
 ghost use Rattle.cts_postorder.specs.Occurrence.{occurrences_of};
 ghost use Rattle.cts_topo.specs.Shape.{IsShapeOver, children};
 ghost use Rattle.cts_up.specs.Plan.{IsPlan};
 ghost use Rattle.cts_embed.specs.Ends.{EmbedEnds};
 ghost use Rattle.cts_embed.specs.Fitting.{Fits};
 ghost use Rattle.cts_embed.specs.PlacedTree.{IsPlacedNode, IsPlacedTree};
+ghost use Rattle.cts_embed.specs.Walls.{StopNoWires};
 
 use crate::end::EmbedEnd;
-use crate::placing::{place_node, source_place};
+use crate::placing::{free_map, place_node, source_place};
 use cts_instance::Instance;
 use cts_merge::Finished;
 use cts_topo::{Shape, ShapeNode};
@@ -27,16 +27,23 @@ fn place_nodes(
 ) -> Result<Vec<PlacedNode>, EmbedEnd>
     requires shape { IsShapeOver (length instance.now.sinks) nodes.now }
     requires plan { IsPlan instance.now.params instance.now.sinks nodes.now plan.now }
-    requires walls { All (λ block. block.kind ≡ Buffer) instance.now.blocks }
+    requires walls { StopNoWires instance.now.blocks }
     ensures placed { IfOk result (λ placed.
         AllZip (IsPlacedNode instance.now) (occurrences_of children nodes.now) (reverse placed.items)) }
     ensures fits { IfOk result (λ placed. Fits instance.now (reverse placed.items)) }
     ensures ends { IfErr result (EmbedEnds instance.now nodes.now) }
 {
+    let free = free_map(alloc, instance)?;
     let mut starts = vec![in alloc; source_place(instance); nodes.len()]?;
     let mut placed = Vec::with_capacity(alloc, nodes.len())?;
     for number in (0..nodes.len()).rev() {
-        let node = place_node(instance, nodes[number], &plan[number], starts[number]);
+        let node = place_node(
+            instance,
+            &free,
+            nodes[number],
+            &plan[number],
+            starts[number],
+        );
         let place = node.place;
         placed.push(node)?;
         if let ShapeNode::Pair { left, right } = nodes[number] {
@@ -69,7 +76,7 @@ pub fn embed(
 ) -> Result<Placed, EmbedEnd>
     requires shape { IsShapeOver (length instance.now.sinks) shape.now }
     requires plan { IsPlan instance.now.params instance.now.sinks shape.now plan.now }
-    requires walls { All (λ block. block.kind ≡ Buffer) instance.now.blocks }
+    requires walls { StopNoWires instance.now.blocks }
     ensures placed { IfOk result (IsPlacedTree instance.now shape.now) }
     ensures fits { IfOk result (Fits instance.now) }
     ensures ends { IfErr result (EmbedEnds instance.now shape.now) }

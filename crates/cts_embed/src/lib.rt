@@ -1,9 +1,11 @@
 //! From the plan of a shape to its tree: places and routes from the root down, and then the wires balanced upward.
 //!
-//! A layer above hands a placed tree to [`balance`] and takes the tree, or the least node that is beyond. It cites
-//! `specs/Balance.antt`, which tells by a recursion on the tree what the balance makes of each node, and
-//! `specs/BalancedTree.antt`, which tells each node of the balanced tree by the pairs above it. The laws of
-//! [`laws`] say that a placed tree has either one balanced tree or one least node that is beyond.
+//! A layer above hands the plan of a shape to [`embed`] and takes the placed tree; it cites `specs/Places.antt` for where
+//! a node stands and `specs/PlacedTree.antt` for the tree of the same form whose nodes are told one by one, each by its
+//! subtree and the pairs above it. It hands a placed tree to [`balance`] and takes the tree, or the least node that is
+//! beyond; it cites `specs/Balance.antt`, which tells by a recursion on the tree what the balance makes of each node, and
+//! `specs/BalancedTree.antt`, which tells the nodes of the balanced tree in the same way. The laws of [`laws`] say that
+//! there is one answer to each, and where places lie.
 #![tactic(auto)]
 
 mod balancing;
@@ -19,3 +21,6 @@ pub use balancing::balance;
 pub use embedding::embed;
 pub use end::{BalanceEnd, EmbedEnd};
 pub use node::NodeBalance;
+
+#[cfg(test)]
+mod tests;

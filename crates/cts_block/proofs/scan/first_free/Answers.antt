@@ -1,7 +1,7 @@
 use Rattle.cts_block.specs.Search.{IsObstacle}
 use Rattle.cts_block.proofs.OrderLemmas.{ahead_trans}
 use Rattle.cts_block.proofs.ColumnLemmas.{ahead_of_all}
-use Rattle.cts_block.proofs.ObstacleLemmas.{clear_or_covered, ahead_on_right, ahead_on_left}
+use Rattle.cts_block.proofs.ObstacleLemmas.{clear_or_covered, ahead_on_side}
 use Rattle.cts_block.proofs.scan.first_free.Goals as goal
 
 pub returns-clause-first : goal.returns-clause-first
@@ -17,5 +17,4 @@ returns-clause-first c =
     ahead_of_all (IsObstacle blocks buffered) die from _ c.closest_columns-columns.ensures (clear_or_covered blocks buffered) best
     (λ q free low. ahead_trans from best near q all.ahead (columns.low q free low))
     (λ q free high. ahead_trans from best near q all.ahead (columns.high q free high))
-    (ahead_on_right blocks buffered die from best all.first)
-    (ahead_on_left blocks buffered die from best all.first)
+    (λ side q free beyond on. ahead_on_side blocks buffered die from best all.first side q free on)

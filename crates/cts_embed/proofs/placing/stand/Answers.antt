@@ -44,4 +44,10 @@ returns-in-Pair-clause-kind c =
 pub returns-in-Pair-clause-place : goal.returns-in-Pair-clause-place
 returns-in-Pair-clause-place c =
     pair_place_is c.args.instance.now c.in-Pair.left c.in-Pair.right c.args.node c.args.finished.now c.args.from c.pair_place-place.result
-    c.in-Pair.is c.pair_place-place.ensures.place
+    c.in-Pair.is (c.pair_place-place.ensures c.args.instance.now c.requires.free)
+
+pub returns-in-Pair-clause-in_range : goal.returns-in-Pair-clause-in_range
+returns-in-Pair-clause-in_range c =
+    place_in_range c.args.instance.now c.args.node c.args.finished.now c.args.from c.pair_place-place.result c.requires.free.valid
+    (pair_place_is c.args.instance.now c.in-Pair.left c.in-Pair.right c.args.node c.args.finished.now c.args.from c.pair_place-place.result
+    c.in-Pair.is (c.pair_place-place.ensures c.args.instance.now c.requires.free))
