@@ -1,5 +1,5 @@
 -- A walk along edges in the order of their distance.
-use Rattle.std.proofs.Common.{◌≡◌, ℕ, ◌+◌, ◌*◌, ◌-◌, ◌<◌, ◌≤◌, ◌⊎◌, inl, inr, ◌≤ℤ◌, List, [], ◌∷◌, ◌++◌, refl, length, slice_index_or, sym, ◌∙◌, below_more, arith}
+use Rattle.std.proofs.Common.{◌≡◌, ℕ, ◌+◌, ◌*◌, ◌-◌, ◌<◌, ◌≤◌, inl, inr, ◌≤ℤ◌, List, [], ◌∷◌, ◌++◌, refl, length, slice_index_or, sym, ◌∙◌, below_more, arith}
 use Rattle.std.specs.Prelude.{All, Contains}
 use Rattle.std.specs.List.Sorted.{IsNonDecreasingBy}
 use Rattle.std.proofs.lemmas.Bool.{cases_lt}
@@ -56,8 +56,8 @@ module _ (Counts : Block → Type 0) (die : Die) (from : Half) (edges : List Edg
             ahead_if_nearer from best q (nearer (manhattan_of from (half_of best)) (manhattan_of from (half_of q)) (slice_index_or edges i d).offset (slice_index_or edges k d).offset start this later reached)
       ]
     where
-    nearer : (b m x y s : ℕ) → b < 2 * (x - s) → x ≤ y → 2 * y ≤ m + 2 * s → b < m
-    nearer b m x y s first order far' = omega (arith, first, order, far')
+      nearer : (b m x y s : ℕ) → b < 2 * (x - s) → x ≤ y → 2 * y ≤ m + 2 * s → b < m
+      nearer b m x y s first order far' = omega (arith, first, order, far')
 
 pub grown_edge : (old new : List Edge) → ((edge : Edge) → Contains old edge → Contains new edge) → (q : Whole) → HasEdge old q → HasEdge new q
 grown_edge old new grown q has = record { edge = has.edge; listed = grown has.edge has.listed; on = has.on }

@@ -1,17 +1,17 @@
 -- Cells of a raster: how they are filled, and how a block is found in them.
-use Rattle.std.proofs.Common.{◌≡◌, ℕ, zero, suc, ◌+◌, ◌<◌, ◌≤◌, ◌⊎◌, inl, inr, ℤ, pos, ◌+ℤ◌, ◌*ℤ◌, ◌≤ℤ◌, ◌<ℤ◌, List, [], ◌∷◌, ◌++◌, length, slice_index_or, Some, None, refl, sym, ap, ◌∙◌, subst, below_more, arith}
+use Rattle.std.proofs.Common.{◌≡◌, ℕ, zero, suc, ◌+◌, ◌<◌, ◌⊎◌, inl, inr, ℤ, pos, ◌+ℤ◌, ◌*ℤ◌, ◌≤ℤ◌, ◌<ℤ◌, List, [], ◌∷◌, ◌++◌, length, slice_index_or, Some, None, refl, sym, ap, ◌∙◌, subst, below_more, arith}
 use Rattle.std.specs.Prelude.{All, Contains, Option, IfSome, IfNone}
 use Rattle.std.proofs.Math.ListN.{get_or-append}
 use Rattle.std.proofs.Math.Seq.{get_or-append_seam}
 use Rattle.std.proofs.lemmas.Int.{ints}
 use Rattle.std.proofs.lemmas.List.{get_or_default}
-use Rattle.std.proofs.lemmas.List.Elements.{All-contains, All-contains_itself, Contains-append_left, Contains-append_right, Contains-append_cases}
+use Rattle.std.proofs.lemmas.List.Elements.{All-contains, All-contains_itself, Contains-append_right, Contains-append_cases}
 use Rattle.cts_geom.specs.declared.points.Half.{Half}
 use Rattle.cts_block.specs.declared.blocks.Block.{Block}
 use Rattle.cts_block.specs.declared.bands.Bands.{Bands}
 use Rattle.cts_block.specs.declared.whole.Range.{Range}
 use Rattle.cts_block.specs.FreePoints.{IsInside}
-use Rattle.cts_block.specs.Raster.{IsHalfIn, HasAround, IsCellOf, AreCells, AreColumns, IsRaster, band_of, end_of}
+use Rattle.cts_block.specs.Raster.{IsHalfIn, IsCellOf, AreCells, AreColumns, IsRaster, band_of, end_of}
 
 -- a block at the end of a list is in it
 pub last_contained : (blocks : List Block) (block : Block) → Contains (blocks ++ block ∷ []) block
@@ -145,8 +145,8 @@ module _ (blocks : List Block) (columns rows : Bands) (cells : List (List (List 
             beyond_end block.x2 end x at.x right after low inside.x.below
       ]
     where
-    beyond_end : (right end x halves : ℤ) → right ≤ℤ end → end ≤ℤ x → (pos 2 *ℤ x) ≤ℤ halves → halves <ℤ (pos 2 *ℤ right) → ⊥
-    beyond_end right end x halves a b c d = omega (arith, ints, a, b, c, d)
+      beyond_end : (right end x halves : ℤ) → right ≤ℤ end → end ≤ℤ x → (pos 2 *ℤ x) ≤ℤ halves → halves <ℤ (pos 2 *ℤ right) → ⊥
+      beyond_end right end x halves a b c d = omega (arith, ints, a, b, c, d)
 
   pub none_above : (y : ℤ) → (pos 2 *ℤ y) ≤ℤ at.y → at.y ≤ℤ (pos 2 *ℤ y +ℤ pos 1) → ((y <ℤ rows.low) ⊎ (end_of rows ≤ℤ y))
       → (block : Block) → Contains blocks block → ¬ IsInside block at
@@ -160,5 +160,5 @@ module _ (blocks : List Block) (columns rows : Bands) (cells : List (List (List 
             beyond_end block.y2 end y at.y top after low inside.y.below
       ]
     where
-    beyond_end : (top end y halves : ℤ) → top ≤ℤ end → end ≤ℤ y → (pos 2 *ℤ y) ≤ℤ halves → halves <ℤ (pos 2 *ℤ top) → ⊥
-    beyond_end top end y halves a b c d = omega (arith, ints, a, b, c, d)
+      beyond_end : (top end y halves : ℤ) → top ≤ℤ end → end ≤ℤ y → (pos 2 *ℤ y) ≤ℤ halves → halves <ℤ (pos 2 *ℤ top) → ⊥
+      beyond_end top end y halves a b c d = omega (arith, ints, a, b, c, d)

@@ -1,5 +1,5 @@
 -- Blocks in a die, prepared for many look-ups.
-use Rattle.std.specs.Prelude.{◌↔◌, false, List, All, Contains}
+use Rattle.std.specs.Prelude.{false, List, All, Contains}
 use Rattle.cts_geom.specs.declared.bounds.Die.{Die}
 use Rattle.cts_block.specs.declared.blocks.Block.{Block}
 use Rattle.cts_block.specs.declared.index.Index.{Index}

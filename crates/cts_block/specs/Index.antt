@@ -1,5 +1,5 @@
 -- Blocks with their exposed edges, from which the search for a free point starts.
-use Rattle.std.specs.Prelude.{◌≡◌, ℕ, ◌^◌, ◌≤◌, Bool, true, false, List, All, Contains}
+use Rattle.std.specs.Prelude.{◌^◌, ◌≤◌, Bool, true, false, List, All, Contains}
 use Rattle.std.specs.List.Sorted.{IsNonDecreasingBy}
 use Rattle.cts_geom.specs.declared.bounds.Die.{Die}
 use Rattle.cts_block.specs.declared.blocks.Block.{Block}

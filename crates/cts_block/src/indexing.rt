@@ -84,7 +84,14 @@ fn edges_beyond(edges: &[Edge], start: u64) -> &[Edge]
 
 /// The first of a free point and of all free points on that side of blocks, beyond the columns that
 /// are nearest to a place.
-fn improve_on(index: &Index, die: &Die, from: Half, near: Whole, columns: Range, side: Side) -> Whole
+fn improve_on(
+    index: &Index,
+    die: &Die,
+    from: Half,
+    near: Whole,
+    columns: Range,
+    side: Side,
+) -> Whole
     requires die { IsDieInRange die.now }
     requires lie { All (LiesIn die.now) index.now.raster }
     requires index { IsIndex die.now index.now }

@@ -159,7 +159,12 @@ fn meets(block: &Block, column: Range, row: Range) -> bool
 }
 
 /// The blocks that reach into a cell, or one that fills it.
-fn cell_of(alloc: Global, blocks: &[Block], column: Range, row: Range) -> Result<Vec<Block>, NoMemory>
+fn cell_of(
+    alloc: Global,
+    blocks: &[Block],
+    column: Range,
+    row: Range,
+) -> Result<Vec<Block>, NoMemory>
     ensures { IfOk result (λ cell. IsCellOf blocks.now column row cell.items) }
 {
     let mut cell = Vec::new(alloc);
@@ -177,7 +182,12 @@ fn cell_of(alloc: Global, blocks: &[Block], column: Range, row: Range) -> Result
 }
 
 /// The cells of a column, from row to row.
-fn column_of(alloc: Global, blocks: &[Block], column: Range, rows: &Bands) -> Result<Items<Items<Block>>, NoMemory>
+fn column_of(
+    alloc: Global,
+    blocks: &[Block],
+    column: Range,
+    rows: &Bands,
+) -> Result<Items<Items<Block>>, NoMemory>
     ensures { IfOk result (AreCells blocks.now column rows.now) }
 {
     let mut cells = Vec::with_capacity(alloc, rows.count)?;
@@ -189,7 +199,12 @@ fn column_of(alloc: Global, blocks: &[Block], column: Range, rows: &Bands) -> Re
 }
 
 /// The cells of all columns.
-fn cells_of(alloc: Global, blocks: &[Block], columns: &Bands, rows: &Bands) -> Result<Items<Items<Items<Block>>>, NoMemory>
+fn cells_of(
+    alloc: Global,
+    blocks: &[Block],
+    columns: &Bands,
+    rows: &Bands,
+) -> Result<Items<Items<Items<Block>>>, NoMemory>
     ensures { IfOk result (AreColumns blocks.now columns.now rows.now) }
 {
     let mut cells = Vec::with_capacity(alloc, columns.count)?;

@@ -7,8 +7,8 @@ pub overflow_add-result : goal.overflow_add-result
 overflow_add-result c =
     let bands = c.args.bands.now in
     let product : bands.size * c.args.band ≤ 2 ^ 43 =
-        let within : c.args.band ≤ bands.count = omega arith in
-        omega (arith, mul-le-mul_left bands.size within)
+    let within : c.args.band ≤ bands.count = omega arith in
+    omega (arith, mul-le-mul_left bands.size within)
     in
     omega (arith, ints, product)
 
@@ -16,8 +16,8 @@ pub overflow_sub-result : goal.overflow_sub-result
 overflow_sub-result c =
     let bands = c.args.bands.now in
     let product : bands.size * c.args.band ≤ 2 ^ 43 =
-        let within : c.args.band ≤ bands.count = omega arith in
-        omega (arith, mul-le-mul_left bands.size within)
+    let within : c.args.band ≤ bands.count = omega arith in
+    omega (arith, mul-le-mul_left bands.size within)
     in
     omega (arith, ints, product)
 
@@ -25,8 +25,8 @@ pub returns-clause-low : goal.returns-clause-low
 returns-clause-low c =
     let bands = c.args.bands.now in
     let product : bands.size * c.args.band ≤ 2 ^ 43 =
-        let within : c.args.band ≤ bands.count = omega arith in
-        omega (arith, mul-le-mul_left bands.size within)
+    let within : c.args.band ≤ bands.count = omega arith in
+    omega (arith, mul-le-mul_left bands.size within)
     in
     omega (arith, ints, product)
 
@@ -34,7 +34,7 @@ pub returns-clause-high : goal.returns-clause-high
 returns-clause-high c =
     let bands = c.args.bands.now in
     let product : bands.size * c.args.band ≤ 2 ^ 43 =
-        let within : c.args.band ≤ bands.count = omega arith in
-        omega (arith, mul-le-mul_left bands.size within)
+    let within : c.args.band ≤ bands.count = omega arith in
+    omega (arith, mul-le-mul_left bands.size within)
     in
     omega (arith, ints, product)

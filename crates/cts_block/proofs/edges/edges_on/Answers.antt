@@ -1,4 +1,4 @@
-use Rattle.std.proofs.Common.{[], ◌∷◌, rules, arith}
+use Rattle.std.proofs.Common.{rules, arith}
 use Rattle.std.proofs.lemmas.List.Elements.{All-push, Contains-append_left}
 use Rattle.std.proofs.lemmas.List.Sorted.{All-permutation, Contains-permutation, IsNonDecreasingBy-from_sort_by_key}
 use Rattle.cts_block.specs.declared.edge.Edge.{Edge}
@@ -42,5 +42,5 @@ pub returns-clause-complete : goal.returns-clause-complete
 returns-clause-complete g c = λ q free on.
     let old = c.loop-block.edges.items in
     let has = side_all (g.O.Obstacles.counts c.args.obstacles.now) c.args.die.now c.args.side c.args.blocks.now old
-        (λ k d below. c.loop-block.invariant.complete k d (omega (arith, below, c.loop-block-test.false))) q free on in
+    (λ k d below. c.loop-block.invariant.complete k d (omega (arith, below, c.loop-block-test.false))) q free on in
     grown_edge old _ (λ edge listed. Contains-permutation old _ edge c.sort_by_key.ensures.permutation listed) q has

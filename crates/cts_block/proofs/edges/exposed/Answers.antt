@@ -1,4 +1,4 @@
-use Rattle.std.proofs.Common.{◌≡◌, ◌≤ℤ◌, sym, ◌∙◌, arith}
+use Rattle.std.proofs.Common.{◌≤ℤ◌, sym, ◌∙◌, arith}
 use Rattle.std.proofs.lemmas.Int.{ints}
 use Rattle.cts_block.proofs.edges.exposed.Goals as goal
 

@@ -1,4 +1,4 @@
-use Rattle.std.proofs.Common.{◌≡◌, true, false, [], ◌∷◌, refl, arith}
+use Rattle.std.proofs.Common.{◌≡◌, true, false, refl, arith}
 use Rattle.std.proofs.lemmas.List.Elements.{Contains-append_left}
 use Rattle.cts_block.proofs.RasterLemmas.{last_contained}
 use Rattle.cts_block.proofs.MapLemmas.{stopping_more, stopping_sound, stopping_all}

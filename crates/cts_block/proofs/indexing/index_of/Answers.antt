@@ -1,4 +1,3 @@
-use Rattle.cts_block.specs.declared.whole.Side.TheVariants.{Left, Right}
 use Rattle.cts_block.proofs.indexing.index_of.Goals as goal
 
 pub returns-clause-index : goal.returns-clause-index

@@ -1,7 +1,6 @@
-use Rattle.std.proofs.Common.{◌≡◌, true, false, [], ◌∷◌}
+use Rattle.std.proofs.Common.{◌≡◌, true, false}
 use Rattle.std.proofs.lemmas.List.Elements.{Contains-append_left}
 use Rattle.cts_geom.specs.declared.points.Half.{Half}
-use Rattle.cts_block.specs.declared.blocks.Block.{Block}
 use Rattle.cts_block.specs.Raster.{IsHalfIn}
 use Rattle.cts_block.proofs.RasterLemmas.{kept_more, sound_more, last_contained}
 use Rattle.cts_block.proofs.raster.beside.Goals as goal

@@ -1,7 +1,6 @@
-use Rattle.std.proofs.Common.{◌≡◌, ℕ, ◌+◌, List, [], ◌∷◌, length, arith}
+use Rattle.std.proofs.Common.{◌≡◌, ℕ, List, arith}
 use Rattle.std.proofs.lemmas.List.{length-append}
 use Rattle.cts_block.specs.declared.blocks.Block.{Block}
-use Rattle.cts_block.specs.declared.whole.Range.{Range}
 use Rattle.cts_block.specs.Raster.{AreCells, band_of}
 use Rattle.cts_block.proofs.RasterLemmas.{each_more, range_same, cells_of_near}
 use Rattle.cts_block.proofs.raster.cells_of.Goals as goal
@@ -17,7 +16,7 @@ loop-index-preserved c =
     let cells = c.in_ok-column_of.field-0 in
     let near = c.in_ok-near.ensures in
     let here : Is c.loop-index.index cells = rw (← column)
-        (cells_of_near blocks c.in_ok-near.near.items c.numbers_of-column.result rows cells near.sound near.complete (rw (← c.as_slice.ensures.value) c.in_ok-column_of.ensures)) in
+    (cells_of_near blocks c.in_ok-near.near.items c.numbers_of-column.result rows cells near.sound near.complete (rw (← c.as_slice.ensures.value) c.in_ok-column_of.ensures)) in
     rw c.in_ok-push.ensures.items (record {
       count = simp length-append (omega (arith, before.count));
       column = each_more Is old cells c.loop-index.index before.count before.column here;

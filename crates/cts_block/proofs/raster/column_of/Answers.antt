@@ -1,7 +1,6 @@
-use Rattle.std.proofs.Common.{◌≡◌, ℕ, ◌+◌, List, [], ◌∷◌, length, arith}
+use Rattle.std.proofs.Common.{◌≡◌, ℕ, List, arith}
 use Rattle.std.proofs.lemmas.List.{length-append}
 use Rattle.cts_block.specs.declared.blocks.Block.{Block}
-use Rattle.cts_block.specs.declared.whole.Range.{Range}
 use Rattle.cts_block.specs.Raster.{IsCellOf, band_of}
 use Rattle.cts_block.proofs.RasterLemmas.{each_more, range_same}
 use Rattle.cts_block.proofs.raster.column_of.Goals as goal

@@ -1,7 +1,6 @@
-use Rattle.std.proofs.Common.{◌≡◌, arith}
+use Rattle.std.proofs.Common.{arith}
 use Rattle.std.proofs.lemmas.Int.{ints}
-use Rattle.cts_block.specs.declared.blocks.Block.{Block}
-use Rattle.cts_block.specs.Raster.{IsCellOf, IsHalfIn, band_of}
+use Rattle.cts_block.specs.Raster.{IsHalfIn, band_of}
 use Rattle.cts_block.proofs.RasterLemmas.{cell_at, half_in, found_in_cell, none_in_cell, none_beside, none_above}
 use Rattle.cts_block.proofs.raster.RasterObstacles.covering.Goals as goal
 
@@ -23,18 +22,18 @@ pub returns-clause-found : goal.returns-clause-found
 returns-clause-found c =
     let in' = c.self.inside in
     let cell = cell_at in'.blocks in'.columns in'.rows in'.cells c.self.invariant.columns_are c.in_ok-column.column c.in_ok-row.row
-        c.in_ok-column.ensures.within c.in_ok-row.ensures.within c.index-items-column.result c.index-items-row.result
-        (rw c.items.ensures at c.index-items-column.is) (rw c.items-2.ensures at c.index-items-row.is) in
+    c.in_ok-column.ensures.within c.in_ok-row.ensures.within c.index-items-column.result c.index-items-row.result
+    (rw c.items.ensures at c.index-items-column.is) (rw c.items-2.ensures at c.index-items-row.is) in
     rw (← c.self.view_is) (found_in_cell c.around.result in'.blocks c.index-items-row.result c.args.point cell.sound (rw (c.items-cell.ensures) at c.around.ensures.found))
 
 pub returns-clause-none : goal.returns-clause-none
 returns-clause-none c =
     let in' = c.self.inside in
     let cell = cell_at in'.blocks in'.columns in'.rows in'.cells c.self.invariant.columns_are c.in_ok-column.column c.in_ok-row.row
-        c.in_ok-column.ensures.within c.in_ok-row.ensures.within c.index-items-column.result c.index-items-row.result
-        (rw c.items.ensures at c.index-items-column.is) (rw c.items-2.ensures at c.index-items-row.is) in
+    c.in_ok-column.ensures.within c.in_ok-row.ensures.within c.index-items-column.result c.index-items-row.result
+    (rw c.items.ensures at c.index-items-column.is) (rw c.items-2.ensures at c.index-items-row.is) in
     let column : IsHalfIn (band_of in'.columns c.in_ok-column.column) c.args.point.x = half_in _ _ _ c.in_ok-column.ensures.low c.in_ok-column.ensures.high
-        (omega (arith, ints, c.rounded_down.ensures.low)) (omega (arith, ints, c.rounded_down.ensures.high)) in
+    (omega (arith, ints, c.rounded_down.ensures.low)) (omega (arith, ints, c.rounded_down.ensures.high)) in
     let row : IsHalfIn (band_of in'.rows c.in_ok-row.row) c.args.point.y = half_in _ _ _ c.in_ok-row.ensures.low c.in_ok-row.ensures.high
-        (omega (arith, ints, c.rounded_down-2.ensures.low)) (omega (arith, ints, c.rounded_down-2.ensures.high)) in
+    (omega (arith, ints, c.rounded_down-2.ensures.low)) (omega (arith, ints, c.rounded_down-2.ensures.high)) in
     rw (← c.self.view_is) (none_in_cell c.around.result in'.blocks c.index-items-row.result c.args.point _ _ cell column row (rw (c.items-cell.ensures) at c.around.ensures.none))
