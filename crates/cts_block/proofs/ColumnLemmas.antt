@@ -14,13 +14,13 @@ use Rattle.cts_block.specs.Search.{IsFreeAmong, IsAhead, IsClosest, IsOnSide, Is
 use Rattle.cts_block.proofs.OrderLemmas.{ahead_refl, ahead_trans, right_is_later, left_is_later}
 
 -- one of the blocks that count has the point inside
-pub record IsCovered (Counts : Block → Type 0) (p : Whole) : Type 0 where
+pub record IsCovered (Counts : Block → Type 0) (at : Half) : Type 0 where
   pub block : Block
   pub counts : Counts block
-  pub inside : IsInside block (half_of p)
+  pub inside : IsInside block at
 
-abbrev pub IsClear : (Block → Type 0) → Whole → Type 0
-IsClear Counts p = (block : Block) → Counts block → ¬ IsInside block (half_of p)
+abbrev pub IsClear : (Block → Type 0) → Half → Type 0
+IsClear Counts at = (block : Block) → Counts block → ¬ IsInside block at
 
 -- a free point that is no later than another one, and where it lies
 pub record HasAhead (Counts : Block → Type 0) (die : Die) (from : Half) (columns : Range) (p : Whole) : Type 0 where
@@ -29,9 +29,9 @@ pub record HasAhead (Counts : Block → Type 0) (die : Die) (from : Half) (colum
   pub ahead : IsAhead from point p
   pub place : ((point.x ≡ columns.low) ⊎ (point.x ≡ columns.high)) ⊎ ((side : Side) × IsBeyond side columns point × IsOnSide Counts side point)
 
-module _ (Counts : Block → Type 0) (die : Die) (from : Half) (columns : Range) (closest : IsClosest (columns_of die) from.x columns) (decide : (p : Whole) → IsClear Counts p ⊎ IsCovered Counts p) where
+module _ (Counts : Block → Type 0) (die : Die) (from : Half) (columns : Range) (closest : IsClosest (columns_of die) from.x columns) (decide : (at : Half) → IsClear Counts at ⊎ IsCovered Counts at) where
   -- one step to the left, where nothing is in the way
-  step_left : (p : Whole) → IsFreeAmong Counts die p → columns.high <ℤ p.x → IsClear Counts (record { x = p.x -ℤ pos 1; y = p.y }) → IsFreeAmong Counts die (record { x = p.x -ℤ pos 1; y = p.y })
+  step_left : (p : Whole) → IsFreeAmong Counts die p → columns.high <ℤ p.x → IsClear Counts (half_of (record { x = p.x -ℤ pos 1; y = p.y })) → IsFreeAmong Counts die (record { x = p.x -ℤ pos 1; y = p.y })
   step_left p free beyond clear = record {
     in_die = record {
       x = record { at_least = omega (arith, ints, beyond, closest.low_least, closest.ordered); at_most = omega (arith, ints, free.in_die.x.at_most) };
@@ -41,7 +41,7 @@ module _ (Counts : Block → Type 0) (die : Die) (from : Half) (columns : Range)
   }
 
   -- where a block is in the way, the point lies on its right edge
-  stopped_left : (p : Whole) → IsFreeAmong Counts die p → IsCovered Counts (record { x = p.x -ℤ pos 1; y = p.y }) → IsOnSide Counts Right p
+  stopped_left : (p : Whole) → IsFreeAmong Counts die p → IsCovered Counts (half_of (record { x = p.x -ℤ pos 1; y = p.y })) → IsOnSide Counts Right p
   stopped_left p free covered =
       let block = covered.block in
       let left : (pos 2 *ℤ block.x1) <ℤ (pos 2 *ℤ (p.x -ℤ pos 1)) = covered.inside.x.above in
@@ -65,7 +65,7 @@ module _ (Counts : Block → Type 0) (die : Die) (from : Half) (columns : Range)
       by_lt_z columns.high p.x
       (λ beyond.
       let next : Whole = record { x = p.x -ℤ pos 1; y = p.y } in
-      elim (decide next) [
+      elim (decide (half_of next)) [
         | inl clear ↦
             let more : HasAhead Counts die from columns next = from_right n next (step_left p free beyond clear) (omega (arith, ints, beyond)) (omega (arith, ints, beyond, near)) in
             let step : IsAhead from next p = right_is_later (columns_of die) from columns closest p beyond (omega (arith, ints, free.in_die.x.at_most)) in
@@ -75,7 +75,7 @@ module _ (Counts : Block → Type 0) (die : Die) (from : Half) (columns : Range)
       (λ there. record { point = p; free = free; ahead = ahead_refl from p; place = inl (inr (omega (arith, ints, right, there))) })
 
   -- the same to the right
-  step_right : (p : Whole) → IsFreeAmong Counts die p → p.x <ℤ columns.low → IsClear Counts (record { x = p.x +ℤ pos 1; y = p.y }) → IsFreeAmong Counts die (record { x = p.x +ℤ pos 1; y = p.y })
+  step_right : (p : Whole) → IsFreeAmong Counts die p → p.x <ℤ columns.low → IsClear Counts (half_of (record { x = p.x +ℤ pos 1; y = p.y })) → IsFreeAmong Counts die (record { x = p.x +ℤ pos 1; y = p.y })
   step_right p free beyond clear = record {
     in_die = record {
       x = record { at_least = omega (arith, ints, free.in_die.x.at_least); at_most = omega (arith, ints, beyond, closest.high_most, closest.ordered) };
@@ -84,7 +84,7 @@ module _ (Counts : Block → Type 0) (die : Die) (from : Half) (columns : Range)
     clear = clear;
   }
 
-  stopped_right : (p : Whole) → IsFreeAmong Counts die p → IsCovered Counts (record { x = p.x +ℤ pos 1; y = p.y }) → IsOnSide Counts Left p
+  stopped_right : (p : Whole) → IsFreeAmong Counts die p → IsCovered Counts (half_of (record { x = p.x +ℤ pos 1; y = p.y })) → IsOnSide Counts Left p
   stopped_right p free covered =
       let block = covered.block in
       let left : (pos 2 *ℤ block.x1) <ℤ (pos 2 *ℤ (p.x +ℤ pos 1)) = covered.inside.x.above in
@@ -108,7 +108,7 @@ module _ (Counts : Block → Type 0) (die : Die) (from : Half) (columns : Range)
       by_lt_z p.x columns.low
       (λ beyond.
       let next : Whole = record { x = p.x +ℤ pos 1; y = p.y } in
-      elim (decide next) [
+      elim (decide (half_of next)) [
         | inl clear ↦
             let more : HasAhead Counts die from columns next = from_left n next (step_right p free beyond clear) (omega (arith, ints, beyond)) (omega (arith, ints, beyond, near)) in
             let step : IsAhead from next p = left_is_later (columns_of die) from columns closest p beyond (omega (arith, ints, free.in_die.x.at_least)) in

@@ -89,8 +89,8 @@ by_side P left right Left = left
 by_side P left right Right = right
 
 -- of all blocks of a list, one covers a point, or none does
-pub clear_or_covered_all : (blocks : List Block) (p : Whole) → IsClear (Contains blocks) p ⊎ IsCovered (Contains blocks) p
-clear_or_covered_all blocks p = elim (clear_or_covered blocks true p) [
+pub clear_or_covered_all : (blocks : List Block) (at : Half) → IsClear (Contains blocks) at ⊎ IsCovered (Contains blocks) at
+clear_or_covered_all blocks at = elim (clear_or_covered blocks true at) [
   | inl clear ↦ inl (λ block listed. clear block (record { listed = listed; stops = tt }))
   | inr covered ↦ inr (record { block = covered.block; counts = covered.counts.listed; inside = covered.inside })
 ]

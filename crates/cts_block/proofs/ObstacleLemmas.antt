@@ -39,13 +39,13 @@ by_stops false Buffer P stops other = other (λ never. never)
 by_stops false Every P stops other = stops tt
 
 -- of the blocks of a list, one that counts covers a point, or none does
-pub clear_or_covered : (blocks : List Block) (buffered : Bool) (p : Whole) → IsClear (IsObstacle blocks buffered) p ⊎ IsCovered (IsObstacle blocks buffered) p
-clear_or_covered [] buffered p = inl (λ block counts. absurd (omega (arith, counts.listed.1)))
-clear_or_covered (first ∷ rest) buffered p =
+pub clear_or_covered : (blocks : List Block) (buffered : Bool) (at : Half) → IsClear (IsObstacle blocks buffered) at ⊎ IsCovered (IsObstacle blocks buffered) at
+clear_or_covered [] buffered at = inl (λ block counts. absurd (omega (arith, counts.listed.1)))
+clear_or_covered (first ∷ rest) buffered at =
     let here : Contains (first ∷ rest) first = Contains-append_left (first ∷ []) rest first (0, omega arith, refl) in
-    let Goal : Type 0 = IsClear (IsObstacle (first ∷ rest) buffered) p ⊎ IsCovered (IsObstacle (first ∷ rest) buffered) p in
-    let by_rest : ¬ (Stops buffered first.kind × IsInside first (half_of p)) → Goal = λ open'.
-    elim (clear_or_covered rest buffered p) [
+    let Goal : Type 0 = IsClear (IsObstacle (first ∷ rest) buffered) at ⊎ IsCovered (IsObstacle (first ∷ rest) buffered) at in
+    let by_rest : ¬ (Stops buffered first.kind × IsInside first at) → Goal = λ open'.
+    elim (clear_or_covered rest buffered at) [
       | inr covered ↦ inr (record {
         block = covered.block;
         counts = record { listed = Contains-append_right (first ∷ []) rest covered.block covered.counts.listed; stops = covered.counts.stops };
@@ -59,7 +59,7 @@ clear_or_covered (first ∷ rest) buffered p =
       ])
     ]
     in
-    elim (inside_or_not first (half_of p)) [
+    elim (inside_or_not first at) [
       | inr outside ↦ by_rest (λ both. outside both.1)
       | inl inside ↦ by_stops buffered first.kind Goal
           (λ stops. inr (record { block = first; counts = record { listed = here; stops = stops }; inside = inside }))
