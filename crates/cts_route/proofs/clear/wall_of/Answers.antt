@@ -10,7 +10,7 @@ returns-in-Buffer-clause-none c = buffers_stop_nothing c.args.block.now c.in-Buf
 pub returns-then-block-clause-none : goal.returns-then-block-clause-none
 returns-then-block-clause-none c =
     elim c.then-block.branch [
-        then-block-via-then-block w ↦ narrow_stops_nothing c.args.block.now (omega (arith, ints))
+      | then-block-via-then-block w ↦ narrow_stops_nothing c.args.block.now (omega (arith, ints))
       | then-block-via-else-block+then-block-2 w ↦ low_stops_nothing c.args.block.now (omega (arith, ints))
     ]
 

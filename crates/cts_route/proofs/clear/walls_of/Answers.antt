@@ -9,7 +9,7 @@ loop-block-init c = walls_none c.new-walls.result.items c.new-walls.ensures.item
 pub loop-block-preserved : goal.loop-block-preserved
 loop-block-preserved c =
     elim c.match-wall_of.branch [
-        in-Some+in_ok-push w ↦
+      | in-Some+in_ok-push w ↦
           walls_more c.args.blocks.now c.loop-block.block-index _ c.loop-block.walls.items w.in-Some.wall c.match-wall_of.walls.items
           c.loop-block-test.true c.loop-block.invariant w.in-Some.ensures.wall
           (let pushed = w.in_ok-push.ensures.items in cc)

@@ -16,5 +16,5 @@ pub returns-in-All : goal.returns-in-All
 returns-in-All c =
     on_ok_weaker c.insert_edges.result
     (λ adds. adds_these c.args.lines.now.items c.insert_edges.new.lines.items _ _ (sym (ap (λ (kind : Kind). edges_of kind c.args.block.now.x1 c.args.block.now.x2) c.in-All.is))
-      (same_edges c.args.lines.now.items c.insert_edges.new.lines.items _ _ _ _ adds (omega (arith, ints)) (omega (arith, ints))))
+    (same_edges c.args.lines.now.items c.insert_edges.new.lines.items _ _ _ _ adds (omega (arith, ints)) (omega (arith, ints))))
     c.insert_edges.ensures
