@@ -1,14 +1,11 @@
 -- Each step of a grid leads straight ahead.
-use Rattle.std.proofs.Common.{◌≡◌, ℕ, zero, suc, ◌+◌, ◌*◌, ◌%◌, ◌<◌, ◌≤◌, ℤ, ◌<ℤ◌, List, length, slice_index, refl, sym, ap, ◌∙◌, subst, arith}
-use Rattle.cts_geom.specs.declared.points.Half.{Half}
-use Rattle.cts_geom.specs.Points.{manhattan_of}
+use Rattle.std.proofs.Common.{◌≡◌, ℕ, ◌+◌, ◌*◌, ◌%◌, ◌<◌, ℤ, List, length, slice_index, sym, subst, arith}
 use Rattle.cts_route.specs.declared.direction.Direction.{Direction}
 use Rattle.cts_route.specs.declared.direction.Direction.TheVariants.{East, West, North, South}
 use Rattle.cts_route.specs.declared.graph.Graph.{Graph}
 use Rattle.cts_route.specs.declared.wall.Wall.{Wall}
 use Rattle.cts_route.specs.Grid.{IsAhead}
 use Rattle.cts_route.specs.Search.{IsStep}
-use Rattle.cts_route.specs.Walls.{MissesWalls}
 use Rattle.cts_route.specs.Walks.{LeadsAhead}
 use Rattle.cts_route.specs.Windows.{point_at, IsStepLength, IsEastLength, IsNorthLength, IsGraphOf, AreShortLines}
 use Rattle.cts_route.proofs.Steps.{inside_or_past, IsEastOf, IsNorthOf, east_of, north_of}

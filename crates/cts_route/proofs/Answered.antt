@@ -1,5 +1,5 @@
 -- What the calls on a grid answer.
-use Rattle.std.proofs.Common.{◌≡◌, ℕ, ◌-◌, ◌/◌, ◌^◌, ◌<◌, ◌≤◌, Result, Ok, Err, ℤ, List, ◌∷◌, length, slice_index, refl, sym, ap, ◌∙◌, subst, arith}
+use Rattle.std.proofs.Common.{◌≡◌, ℕ, ◌-◌, ◌/◌, ◌^◌, ◌≤◌, Result, Ok, Err, ℤ, List, slice_index, refl, sym, ◌∙◌, subst}
 use Rattle.std.specs.List.{Contains}
 use Rattle.std.specs.Result.{IfOk, IsErr}
 use Rattle.cts_geom.specs.declared.bounds.Die.{Die}
@@ -16,7 +16,7 @@ use Rattle.cts_route.specs.declared.wall.Wall.{Wall}
 use Rattle.cts_route.specs.Grid.{lines_of}
 use Rattle.cts_route.specs.Grids.{IsGrid, IsGridOf, IsRouteOn, IsCutOn}
 use Rattle.cts_route.specs.Laws.{bend_of, RunsAlongXFirst}
-use Rattle.cts_route.specs.Routes.{IsRoute, IsCut}
+use Rattle.cts_route.specs.Routes.{IsCut}
 use Rattle.cts_route.specs.Search.{AreLabels, IsSettled}
 use Rattle.cts_route.specs.Walks.{IsWayDown}
 use Rattle.cts_route.specs.Walls.{MissesWalls}

@@ -1,12 +1,12 @@
 -- When a segment has a point strictly inside a wall.
-use Rattle.std.proofs.Common.{◌≡◌, ℕ, ◌<◌, ◌⊎◌, inl, inr, ℤ, pos, ◌+ℤ◌, ◌*ℤ◌, ◌≤ℤ◌, ◌<ℤ◌, List, length, refl, subst, arith}
-use Rattle.std.specs.Prelude.{◌↔◌, All, slice_index_or}
+use Rattle.std.proofs.Common.{◌≡◌, ℕ, ◌<◌, inl, inr, ℤ, pos, ◌+ℤ◌, ◌≤ℤ◌, ◌<ℤ◌, List, length, subst, arith}
+use Rattle.std.specs.Prelude.{slice_index_or}
 use Rattle.std.specs.Int.{int_min, int_max}
 use Rattle.std.proofs.lemmas.Int.{ints, clamps, by_lt_z}
 use Rattle.cts_geom.specs.declared.points.Half.{Half}
 use Rattle.cts_route.specs.declared.wall.Wall.{Wall}
 use Rattle.cts_route.specs.Grid.{IsWithin, IsOnSegment}
-use Rattle.cts_route.specs.Walls.{IsInWall, IsOutside, MissesWalls, Overlaps, Crosses, IsSpan}
+use Rattle.cts_route.specs.Walls.{IsInWall, MissesWalls, Overlaps, Crosses, IsSpan}
 
 -- a coordinate of the interval that lies strictly between the edges
 common : (p q low high from to : ℤ) → low ≡ int_min p q → high ≡ int_max p q → (from +ℤ pos 1) <ℤ to → Overlaps low high from to

@@ -1,14 +1,14 @@
 -- Labels of paths that no step makes shorter: from each point but the goal the label falls by the whole of a step.
-use Rattle.std.proofs.Common.{◌≡◌, ◌≢◌, ℕ, zero, suc, ◌+◌, ◌-◌, ◌*◌, ◌^◌, ◌<◌, ◌≤◌, ◌⊎◌, inl, inr, List, [], ◌∷◌, length, slice_index, get_or, set, replicate, refl, sym, ap, ◌∙◌, subst, arith}
+use Rattle.std.proofs.Common.{◌≡◌, ◌≢◌, ℕ, ◌+◌, ◌-◌, ◌^◌, ◌<◌, ◌≤◌, inl, inr, List, length, slice_index, get_or, set, replicate, sym, ap, ◌∙◌, arith}
 use Rattle.std.proofs.lemmas.List.{length-set, get_or-set_same, get_or-set_other, length-replicate, get_or-replicate}
 use Rattle.std.proofs.lemmas.List.Sums.{sum_by-le}
 use Rattle.cts_route.specs.declared.direction.Direction.{Direction}
 use Rattle.cts_route.specs.declared.direction.Direction.TheVariants.{East, West, North, South}
 use Rattle.cts_route.specs.declared.graph.Graph.{Graph}
 use Rattle.cts_route.specs.Grid.{rank}
-use Rattle.cts_route.specs.Search.{IsStep, HasNoStep, IsGraph, no_path, unreached, IsSupported, AreLabels, IsSettled, IsFall, HasNoFall, IsFirstFall}
+use Rattle.cts_route.specs.Search.{IsStep, HasNoStep, no_path, unreached, AreLabels, IsSettled, IsFall, HasNoFall, IsFirstFall}
 use Rattle.cts_route.proofs.Unique.{by_order}
-use Rattle.cts_route.proofs.Labels.{opposite, step_back, step_one, no_path-reached, no_path-none, label_read}
+use Rattle.cts_route.proofs.Labels.{opposite, step_back, step_one, no_path-reached, no_path-none}
 
 -- a step to a reached point: the label is at most that of the point and the step's length
 pub at_most_by_step : (graph : Graph) (labels : List ℕ) (d : Direction) (c n len : ℕ) → IsSettled graph labels → n < length labels

@@ -1,5 +1,5 @@
 -- What a search over a whole grid found: the way down from a point is the route, and a point without a label is cut off.
-use Rattle.std.proofs.Common.{◌≡◌, ℕ, zero, suc, ◌+◌, ◌-◌, ◌*◌, ◌/◌, ◌%◌, ◌^◌, ◌<◌, ◌≤◌, Bool, true, false, cond, ℤ, pos, neg_ℤ, ◌+ℤ◌, ◌-ℤ◌, ◌*ℤ◌, ◌≤ℤ◌, ◌<ℤ◌, List, [], ◌∷◌, map, length, slice_index, refl, sym, ap, ◌∙◌, subst, arith}
+use Rattle.std.proofs.Common.{◌≡◌, ℕ, zero, suc, ◌+◌, ◌-◌, ◌*◌, ◌/◌, ◌%◌, ◌^◌, ◌<◌, ◌≤◌, Bool, cond, ℤ, pos, ◌+ℤ◌, ◌-ℤ◌, ◌*ℤ◌, List, [], ◌∷◌, map, length, slice_index, refl, sym, ap, ◌∙◌, subst, arith}
 use Rattle.std.specs.Prelude.{int_lt}
 use Rattle.std.proofs.lemmas.Int.{ints, by_lt_z}
 use Rattle.cts_geom.specs.declared.bounds.Die.{Die}
@@ -9,15 +9,15 @@ use Rattle.cts_geom.specs.Coordinate.{int_abs_diff}
 use Rattle.cts_geom.specs.Points.{manhattan_of, point_of}
 use Rattle.cts_block.specs.declared.blocks.Block.{Block}
 use Rattle.cts_tree.specs.declared.route.Route.{Route}
-use Rattle.cts_tree.specs.Path.{path_length, turns_of, Follows}
+use Rattle.cts_tree.specs.Path.{path_length, turns_of}
 use Rattle.cts_route.specs.declared.direction.Direction.{Direction}
 use Rattle.cts_route.specs.declared.graph.Graph.{Graph}
 use Rattle.cts_route.specs.declared.wall.Wall.{Wall}
-use Rattle.cts_route.specs.Grid.{rank, Lines, lines_of, IsGridPoint, IsJoined}
+use Rattle.cts_route.specs.Grid.{Lines, lines_of, IsJoined}
 use Rattle.cts_route.specs.LineLists.{line_at, IsAscending}
-use Rattle.cts_route.specs.Routes.{IsPath, IsShortest, TakesFirstSteps, IsRoute, IsCut}
-use Rattle.cts_route.specs.Search.{IsStep, IsGraph, AreLabels, IsSettled, HasNoFall, IsFirstFall}
-use Rattle.cts_route.specs.Walks.{FallsTo, GoesDown}
+use Rattle.cts_route.specs.Routes.{IsPath, IsShortest, IsRoute, IsCut}
+use Rattle.cts_route.specs.Search.{IsStep, IsFirstFall}
+use Rattle.cts_route.specs.Walks.{GoesDown}
 use Rattle.cts_route.specs.Windows.{point_at, Stands}
 use Rattle.cts_route.proofs.Cells.{cell_parts, column_inside, row_inside}
 use Rattle.cts_route.proofs.Falls.{at_most_by_step}
@@ -26,7 +26,6 @@ use Rattle.cts_route.proofs.Potential.{path_length-one, path_length-step, IsPote
 use Rattle.cts_route.proofs.Searches.{IsSearch, stands_on_grid, step_joined, joined_step}
 use Rattle.cts_route.proofs.Steps.{point_at-x, point_at-y, graph_is}
 use Rattle.cts_route.proofs.Turns.{int_lt-true, int_lt-false}
-use Rattle.cts_route.proofs.ClearWay.{start_on_grid, goal_on_grid}
 
 -- ---- the number of a point, by its coordinates
 -- how many lines are below a coordinate

@@ -1,9 +1,9 @@
 -- The lines of a grid are few and near, and those of its window make a search.
-use Rattle.std.proofs.Common.{Vec, Global, ◌≡◌, ℕ, zero, suc, ◌+◌, ◌*◌, ◌/◌, ◌%◌, ◌^◌, ◌<◌, ◌≤◌, inl, inr, Bool, true, false, cond, ℤ, pos, neg_ℤ, ◌+ℤ◌, ◌-ℤ◌, ◌*ℤ◌, ◌≤ℤ◌, List, [], ◌∷◌, ◌++◌, length, slice_index_or, refl, sym, ap, ◌∙◌, subst, arith, length-append}
+use Rattle.std.proofs.Common.{Vec, Global, ◌≡◌, ℕ, ◌+◌, ◌*◌, ◌/◌, ◌%◌, ◌^◌, ◌≤◌, inl, inr, cond, ℤ, pos, neg_ℤ, ◌*ℤ◌, List, [], ◌∷◌, length, refl, ap, ◌∙◌, subst, arith, length-append}
 use Rattle.std.specs.Prelude.{All, count_by}
 use Rattle.std.specs.List.{Contains, flat_map}
 use Rattle.std.proofs.lemmas.Int.{ints}
-use Rattle.std.proofs.lemmas.List.Sums.{sum_by-cons}
+use Rattle.std.proofs.lemmas.List.Sums.{sum_by-cons, count_by-le-length}
 use Rattle.std.proofs.lemmas.List.Elements.{Contains-append_cases, All-head, All-tail}
 use Rattle.cts_geom.specs.declared.bounds.Die.{Die}
 use Rattle.cts_geom.specs.declared.points.Half.{Half}
@@ -21,7 +21,7 @@ use Rattle.cts_route.specs.declared.grid.Grid.{Grid}
 use Rattle.cts_route.specs.Grid.{edges_of, fixed_xs, fixed_ys, lines_of}
 use Rattle.cts_route.specs.Grids.{IsNear, IsGrid, IsGridOf}
 use Rattle.cts_route.specs.Limits.{IsDieInRange, IsBlockInRange, AreBlocksInRange, stops_wires}
-use Rattle.cts_route.specs.LineLists.{line_at, IsAscending, AreLinesOf, AreLinesBetween, IsNumberOf}
+use Rattle.cts_route.specs.LineLists.{line_at, AreLinesOf, AreLinesBetween, IsNumberOf}
 use Rattle.cts_route.specs.Search.{AreLabels, IsSettled}
 use Rattle.cts_route.specs.Windows.{point_at, Stands, IsGraphOf, AreShortLines}
 use Rattle.cts_route.proofs.Cells.{cell_is}
@@ -198,3 +198,6 @@ second_between a b fixed lines are near = are.complete b (Contains-later a (b �
 
 pub few_more : (a b : ℤ) (lines : List ℤ) → length lines ≤ 130 → length (a ∷ b ∷ lines) ≤ 132
 few_more a b lines le = omega arith
+
+pub few_blocks : (blocks : List Block) → length blocks ≤ 64 → All IsBlockInRange blocks → AreBlocksInRange blocks
+few_blocks blocks few each = record { each = each; count = let le = count_by-le-length (λ (block : Block). stops_wires block.kind) blocks in omega (arith, le, few) }

@@ -1,7 +1,7 @@
 -- A line that is added to lines in ascending order.
-use Rattle.std.proofs.Common.{◌≡◌, ◌≢◌, ℕ, zero, suc, ◌+◌, ◌-◌, ◌<◌, ◌≤◌, ◌⊎◌, inl, inr, ℤ, pos, ◌≤ℤ◌, ◌<ℤ◌, List, [], ◌∷◌, ◌++◌, length, get_or, slice_index_or, refl, sym, ◌∙◌, subst, arith}
+use Rattle.std.proofs.Common.{◌≡◌, ℕ, zero, suc, ◌+◌, ◌<◌, ◌≤◌, ◌⊎◌, inl, inr, ℤ, pos, ◌<ℤ◌, List, [], ◌∷◌, length, slice_index_or, refl, sym, ◌∙◌, subst, arith}
 use Rattle.std.specs.List.{Contains, insert}
-use Rattle.std.proofs.lemmas.Int.{ints, by_lt_z}
+use Rattle.std.proofs.lemmas.Int.{ints}
 use Rattle.std.proofs.lemmas.List.Edits.{length-insert, get_or-insert_below, get_or-insert_at, get_or-insert_above}
 use Rattle.std.proofs.lemmas.List.Elements.{Contains-get_or}
 use Rattle.cts_route.specs.LineLists.{line_at, IsAscending, IsRoom, IsInserted}

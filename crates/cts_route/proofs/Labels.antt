@@ -1,13 +1,12 @@
 -- One label that becomes less.
-use Rattle.std.proofs.Common.{◌≡◌, ◌≢◌, ℕ, ◌+◌, ◌-◌, ◌*◌, ◌^◌, ◌<◌, ◌≤◌, ◌⊎◌, inl, inr, List, length, slice_index, get_or, set, refl, sym, ap, ◌∙◌, subst, arith, get_or-set_same, get_or-set_other}
-use Rattle.std.specs.List.{sum_by}
+use Rattle.std.proofs.Common.{◌≡◌, ◌≢◌, ℕ, ◌+◌, ◌-◌, ◌*◌, ◌^◌, ◌<◌, ◌≤◌, inl, inr, List, length, slice_index, get_or, set, refl, sym, ap, ◌∙◌, subst, arith, get_or-set_same, get_or-set_other}
 use Rattle.std.proofs.lemmas.Bool.Decides.{nat_tests}
 use Rattle.std.proofs.lemmas.List.Sums.{sum_by-set}
 use Rattle.std.proofs.lemmas.List.{length-set, get_or_default}
 use Rattle.cts_route.specs.declared.direction.Direction.{Direction}
 use Rattle.cts_route.specs.declared.direction.Direction.TheVariants.{East, West, North, South}
 use Rattle.cts_route.specs.declared.graph.Graph.{Graph}
-use Rattle.cts_route.specs.Search.{IsNextCell, step_length, IsStep, HasNoStep, IsGraph, no_path, unreached, total, IsSupported, AreLabels, IsSettledAt}
+use Rattle.cts_route.specs.Search.{IsNextCell, step_length, IsStep, HasNoStep, IsGraph, no_path, unreached, total, AreLabels, IsSettledAt}
 use Rattle.cts_route.proofs.Unique.{by_order}
 
 -- ---- steps

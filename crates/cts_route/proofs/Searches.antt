@@ -1,8 +1,7 @@
 -- The labels of a search over a whole grid tell its route, or that its ends are cut.
-use Rattle.std.proofs.Common.{◌≡◌, ◌≢◌, ℕ, zero, suc, ◌+◌, ◌-◌, ◌*◌, ◌/◌, ◌%◌, ◌^◌, ◌<◌, ◌≤◌, ◌⊎◌, inl, inr, Bool, true, false, cond, ℤ, pos, neg_ℤ, ◌+ℤ◌, ◌-ℤ◌, ◌*ℤ◌, ◌≤ℤ◌, ◌<ℤ◌, List, [], ◌∷◌, map, length, slice_index, refl, sym, ap, ◌∙◌, subst, arith}
-use Rattle.std.specs.Prelude.{All, if◌then◌else◌, int_lt}
+use Rattle.std.proofs.Common.{◌≡◌, ℕ, ◌+◌, ◌*◌, ◌/◌, ◌%◌, ◌<◌, ◌≤◌, inl, inr, ℤ, ◌<ℤ◌, List, length, slice_index, refl, sym, ap, ◌∙◌, subst, arith}
 use Rattle.std.specs.List.{Contains}
-use Rattle.std.proofs.lemmas.Int.{ints, by_lt_z}
+use Rattle.std.proofs.lemmas.Int.{ints}
 use Rattle.std.proofs.Math.Nat.{mul-le-mul_left}
 use Rattle.cts_geom.specs.declared.points.Half.{Half}
 use Rattle.cts_geom.specs.Coordinate.{int_abs_diff}
@@ -13,18 +12,15 @@ use Rattle.cts_route.specs.declared.direction.Direction.{Direction}
 use Rattle.cts_route.specs.declared.direction.Direction.TheVariants.{East, West, North, South}
 use Rattle.cts_route.specs.declared.graph.Graph.{Graph}
 use Rattle.cts_route.specs.declared.wall.Wall.{Wall}
-use Rattle.cts_route.specs.Grid.{rank, IsAhead, Lines, IsGridPoint, IsWithin, IsOnSegment, IsClear, IsJoined}
+use Rattle.cts_route.specs.Grid.{IsAhead, Lines, IsGridPoint, IsWithin, IsClear, IsJoined}
 use Rattle.cts_route.specs.LineLists.{line_at, IsAscending}
-use Rattle.cts_route.specs.Search.{IsStep, IsGraph, AreLabels, IsSettled, HasNoFall, IsFirstFall}
-use Rattle.cts_route.specs.Walls.{IsInWall, IsOutside, MissesWalls, AreWallsOf}
-use Rattle.cts_route.specs.Walks.{FallsTo, GoesDown}
-use Rattle.cts_route.specs.Windows.{point_at, Stands, IsStepLength, IsEastLength, IsNorthLength, IsGraphOf, AreShortLines}
-use Rattle.cts_route.proofs.Ahead.{IsEastStep, IsNorthStep, east_step, north_step, step_ahead}
+use Rattle.cts_route.specs.Search.{IsStep, AreLabels, IsSettled}
+use Rattle.cts_route.specs.Walls.{MissesWalls, AreWallsOf}
+use Rattle.cts_route.specs.Windows.{point_at, Stands, IsStepLength, IsGraphOf, AreShortLines}
+use Rattle.cts_route.proofs.Ahead.{IsEastStep, IsNorthStep, east_step, north_step}
 use Rattle.cts_route.proofs.Cells.{cell_is, cell_parts, column_inside, row_inside}
-use Rattle.cts_route.proofs.Falls.{at_most_by_step}
 use Rattle.cts_route.proofs.Insertions.{contains_at, number_of}
 use Rattle.cts_route.proofs.Labels.{opposite, step_back}
-use Rattle.cts_route.proofs.Potential.{IsPotential, IsFall, Falls}
 use Rattle.cts_route.proofs.Steps.{point_at-x, point_at-y, east_parts, north_parts, north_inside, IsEastOf, IsNorthOf, east_of, north_of}
 use Rattle.cts_route.proofs.Unique.{by_order, ahead-apart}
 

@@ -1,5 +1,5 @@
 -- Where the steps of a grid lead, and that they stay inside and are short.
-use Rattle.std.proofs.Common.{◌≡◌, ℕ, zero, suc, ◌+◌, ◌-◌, ◌*◌, ◌/◌, ◌%◌, ◌^◌, ◌<◌, ◌≤◌, ◌⊎◌, inl, inr, ℤ, pos, neg_ℤ, ◌+ℤ◌, ◌-ℤ◌, ◌≤ℤ◌, ◌<ℤ◌, List, [], ◌∷◌, ◌++◌, length, slice_index, refl, sym, ap, ◌∙◌, subst, below_more, length-append, arith}
+use Rattle.std.proofs.Common.{◌≡◌, ℕ, zero, suc, ◌+◌, ◌*◌, ◌/◌, ◌%◌, ◌^◌, ◌<◌, ◌≤◌, ℤ, pos, neg_ℤ, ◌-ℤ◌, ◌≤ℤ◌, ◌<ℤ◌, List, [], ◌∷◌, ◌++◌, length, slice_index, refl, sym, ap, ◌∙◌, subst, below_more, length-append, arith}
 use Rattle.std.proofs.lemmas.Int.{ints}
 use Rattle.std.proofs.Math.Nat.{mul-le-mul_left}
 use Rattle.cts_geom.specs.declared.points.Half.{Half}
@@ -8,12 +8,12 @@ use Rattle.std.proofs.lemmas.List.{get_or_append_left}
 use Rattle.cts_geom.specs.Coordinate.{int_abs_diff}
 use Rattle.cts_geom.specs.Points.{manhattan_of}
 use Rattle.cts_route.specs.declared.wall.Wall.{Wall}
-use Rattle.cts_route.specs.LineLists.{line_at, IsAscending}
+use Rattle.cts_route.specs.LineLists.{line_at}
 use Rattle.cts_route.specs.Windows.{point_at, AreOrdered, IsStepLength, IsEastLength, IsNorthLength, IsGraphOf, AreShortLines}
 use Rattle.cts_route.specs.declared.graph.Graph.{Graph}
 use Rattle.cts_route.specs.Search.{IsGraph}
 use Rattle.cts_route.proofs.Unique.{by_order}
-use Rattle.cts_route.proofs.Cells.{cell_is, cell_parts, column_inside, row_inside}
+use Rattle.cts_route.proofs.Cells.{cell_is, cell_parts, column_inside}
 
 pub point_at-x : (xs ys : List ℤ) (c : ℕ) → (point_at xs ys c).x ≡ line_at xs (c / length ys)
 unfolding point_at

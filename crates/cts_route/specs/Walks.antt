@@ -1,5 +1,5 @@
 -- The way down along labels, by the numbers of its points.
-use Rattle.std.specs.Prelude.{◌≡◌, ◌≢◌, ℕ, ℤ, pos, ◌+ℤ◌, ◌-ℤ◌, Option, Some, None, List, [], ◌∷◌, map}
+use Rattle.std.specs.Prelude.{◌≡◌, ◌≢◌, ℕ, ℤ, Option, Some, None, List, [], ◌∷◌, map}
 use Rattle.cts_geom.specs.declared.points.Half.{Half}
 use Rattle.cts_tree.specs.Path.{turns_of}
 use Rattle.cts_route.specs.declared.direction.Direction.{Direction}

@@ -1,3 +1,5 @@
+ghost use Rattle.cts_route.specs.Limits.{IsBlockInRange};
+
 use super::{Grid, route};
 use crate::end::RouteEnd;
 use cts_block::{Block, Kind};
@@ -11,13 +13,16 @@ const DIE: Die = Die {
     y2: 20_000,
 };
 
-fn wall(x1: i64, y1: i64, x2: i64, y2: i64) -> Block {
+/// A wall, in um.
+fn wall(x1: u8, y1: u8, x2: u8, y2: u8) -> Block
+    ensures { IsBlockInRange result }
+{
     Block {
         kind: Kind::All,
-        x1,
-        y1,
-        x2,
-        y2,
+        x1: i64::from(x1) * 1_000,
+        y1: i64::from(y1) * 1_000,
+        x2: i64::from(x2) * 1_000,
+        y2: i64::from(y2) * 1_000,
     }
 }
 
@@ -31,14 +36,11 @@ fn goes_round_a_block(rt: HostRuntime) -> Result<(), Fail> {
     // block below, whose edge y = 2 is free.
     let (from, to) = (spot_of(0, 5_000), spot_of(10_000, 5_000));
     let corners = [half(8_000, 10_000), half(8_000, 4_000), half(20_000, 4_000)];
-    let one = [wall(4_000, 2_000, 6_000, 9_000)];
+    let one = [wall(4, 2, 6, 9)];
     let found = route(rt.alloc(), &one, &DIE, from, to)?;
     assert_eq!(rt; found.length, 16_000);
     assert_eq!(rt; found.corners.items(), corners.as_slice());
-    let two = [
-        wall(4_000, 2_000, 6_000, 9_000),
-        wall(4_000, 0, 6_000, 2_000),
-    ];
+    let two = [wall(4, 2, 6, 9), wall(4, 0, 6, 2)];
     let found = route(rt.alloc(), &two, &DIE, from, to)?;
     assert_eq!(rt; found.length, 16_000);
     assert_eq!(rt; found.corners.items(), corners.as_slice());
@@ -48,10 +50,10 @@ fn goes_round_a_block(rt: HostRuntime) -> Result<(), Fail> {
 #[test]
 fn finds_no_way_into_a_pocket(rt: HostRuntime) -> Result<(), Fail> {
     let blocks = [
-        wall(7_000, 7_000, 9_000, 13_000),
-        wall(11_000, 7_000, 13_000, 13_000),
-        wall(7_000, 7_000, 13_000, 9_000),
-        wall(7_000, 11_000, 13_000, 13_000),
+        wall(7, 7, 9, 13),
+        wall(11, 7, 13, 13),
+        wall(7, 7, 13, 9),
+        wall(7, 11, 13, 13),
     ];
     let grid = Grid::of(rt.alloc(), &blocks, &DIE)?;
     let end = grid

@@ -1,4 +1,4 @@
-use Rattle.std.proofs.Common.{◌≡◌, ◌<◌, length, slice_index_or, refl, below_more, arith}
+use Rattle.std.proofs.Common.{slice_index_or, refl, below_more, arith}
 use Rattle.std.proofs.lemmas.List.Elements.{at_read}
 use Rattle.cts_route.specs.declared.wall.Wall.{Wall}
 use Rattle.cts_route.specs.Walls.{Crosses}

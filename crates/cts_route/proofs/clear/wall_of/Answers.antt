@@ -1,4 +1,4 @@
-use Rattle.std.proofs.Common.{◌≡◌, ℤ, ◌≤ℤ◌, arith}
+use Rattle.std.proofs.Common.{arith}
 use Rattle.std.proofs.lemmas.Int.{ints}
 use Rattle.cts_route.proofs.WallLists.{buffers_stop_nothing, narrow_stops_nothing, low_stops_nothing, wall_is}
 use Rattle.cts_route.proofs.clear.wall_of.Goals as goal

@@ -1,4 +1,3 @@
-use Rattle.std.proofs.Common.{◌≡◌, [], ◌∷◌, ◌++◌}
 use Rattle.cts_route.proofs.WallLists.{walls_none, walls_more, walls_same}
 use Rattle.cts_route.proofs.clear.walls_of.Goals as goal
 use Rattle.cts_route.proofs.clear.walls_of.Goals.{in-Some+in_ok-push, in_default}

@@ -1,4 +1,4 @@
-use Rattle.std.proofs.Common.{ℤ, w64, FitsSigned, rules}
+use Rattle.std.proofs.Common.{w64, FitsSigned, rules}
 use Rattle.std.proofs.lemmas.Int.{to_z-of_z}
 use Rattle.cts_route.specs.LineLists.{IsNumberOf}
 use Rattle.cts_route.proofs.GridLines.{stands_at}

@@ -1,9 +1,8 @@
-use Rattle.std.proofs.Common.{◌≡◌, ℤ, List, [], ◌∷◌, sym, ap, subst, arith}
+use Rattle.std.proofs.Common.{[], sym, ap, arith}
 use Rattle.std.proofs.lemmas.Int.{ints}
 use Rattle.std.proofs.lemmas.Result.{on_ok_weaker}
 use Rattle.cts_block.specs.declared.blocks.Kind.{Kind}
 use Rattle.cts_route.specs.Grid.{edges_of}
-use Rattle.cts_route.specs.LineLists.{Adds}
 use Rattle.cts_route.proofs.FixedLines.{nothing_added, same_edges, adds_these}
 use Rattle.cts_route.proofs.lines.insert_ys.Goals as goal
 

@@ -1,4 +1,4 @@
-use Rattle.std.proofs.Common.{◌≡◌, ◌<◌, length, refl, arith}
+use Rattle.std.proofs.Common.{refl, arith}
 use Rattle.cts_route.proofs.WaysDown.{not_walked, walked_straight, walked_turned, walked_down}
 use Rattle.cts_route.proofs.walk.corners_down.Goals as goal
 

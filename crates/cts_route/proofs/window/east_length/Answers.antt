@@ -1,4 +1,4 @@
-use Rattle.std.proofs.Common.{◌≡◌, ◌+◌, length, sym, subst, arith}
+use Rattle.std.proofs.Common.{◌+◌, length, sym, subst, arith}
 use Rattle.cts_geom.specs.declared.points.Half.{Half}
 use Rattle.cts_route.specs.Windows.{point_at, AreOrdered, IsStepLength}
 use Rattle.cts_route.proofs.Steps.{east_of, ordered_east, no_east, an_east}

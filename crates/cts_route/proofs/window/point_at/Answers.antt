@@ -1,4 +1,4 @@
-use Rattle.std.proofs.Common.{ℤ, arith, rules}
+use Rattle.std.proofs.Common.{arith}
 use Rattle.std.proofs.lemmas.Int.{ints}
 use Rattle.cts_geom.proofs.PointLemmas.{half_same}
 use Rattle.cts_route.specs.Windows.{point_at}

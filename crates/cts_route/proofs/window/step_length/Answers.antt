@@ -1,7 +1,6 @@
-use Rattle.std.proofs.Common.{◌≡◌, ℤ, ◌-ℤ◌, w64, FitsSigned, rules, ◌∙◌}
+use Rattle.std.proofs.Common.{◌≡◌, ◌-ℤ◌, w64, FitsSigned, rules, ◌∙◌}
 use Rattle.std.specs.Prelude.{unsigned_abs}
 use Rattle.std.proofs.lemmas.Int.{to_z-of_z}
-use Rattle.cts_geom.specs.Coordinate.{int_abs_diff}
 use Rattle.cts_route.proofs.Steps.{abs_back, sum_is}
 use Rattle.cts_route.proofs.window.step_length.Goals as goal
 

@@ -1,6 +1,5 @@
-use Rattle.std.proofs.Common.{◌≡◌, ℤ, w64, FitsSigned, refl, sym, ap, ◌∙◌, rules}
+use Rattle.std.proofs.Common.{w64, FitsSigned, ◌∙◌, rules}
 use Rattle.std.proofs.lemmas.Int.{to_z-of_z}
-use Rattle.cts_geom.specs.declared.points.Half.{Half}
 use Rattle.cts_geom.specs.Points.{point_of}
 use Rattle.cts_geom.proofs.PointLemmas.{half_same}
 use Rattle.cts_route.specs.Grids.{IsRouteOn}

@@ -1,4 +1,4 @@
-use Rattle.std.proofs.Common.{◌≡◌, ℕ, ◌-◌, ◌*◌, ◌/◌, ◌^◌, ◌<◌, ◌≤◌, length, slice_index, refl, sym, ap, ◌∙◌, arith}
+use Rattle.std.proofs.Common.{◌≡◌, ℕ, ◌-◌, ◌/◌, ◌^◌, ◌<◌, ◌≤◌, length, slice_index, refl, sym, ap, arith}
 use Rattle.cts_geom.specs.Points.{point_of}
 use Rattle.cts_route.proofs.Answered.{IsDone, has_line, same_stands, same_way, done_cut, done_route}
 use Rattle.cts_route.proofs.GridLines.{first_between, second_between, near_point-x, near_point-y}

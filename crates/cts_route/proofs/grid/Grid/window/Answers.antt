@@ -1,4 +1,4 @@
-use Rattle.std.proofs.Common.{◌≡◌, ◌+◌, ◌≤◌, ℤ, pos, neg_ℤ, ◌^◌, List, ◌∷◌, length, w64, FitsSigned, refl, sym, ap, ◌∙◌, subst, rules, arith}
+use Rattle.std.proofs.Common.{ℤ, pos, neg_ℤ, ◌^◌, List, ◌∷◌, w64, FitsSigned, refl, sym, ◌∙◌, subst, rules}
 use Rattle.std.proofs.lemmas.Int.{to_z-of_z}
 use Rattle.cts_geom.specs.Points.{point_of}
 use Rattle.cts_route.specs.declared.wall.Wall.{Wall}

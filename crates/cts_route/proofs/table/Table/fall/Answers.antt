@@ -1,4 +1,4 @@
-use Rattle.std.proofs.Common.{◌≡◌, ◌+◌, ◌-◌, ◌*◌, ◌^◌, ◌<◌, ◌≤◌, length, slice_index, sym, ◌∙◌, arith}
+use Rattle.std.proofs.Common.{◌≡◌, ◌<◌, length, slice_index, sym, ◌∙◌, arith}
 use Rattle.cts_route.proofs.Labels.{sum_short, label_read}
 use Rattle.cts_route.proofs.Falls.{no_fall_no_step, no_fall_unreached, no_fall_less}
 use Rattle.cts_route.proofs.table.Table.fall.Goals as goal

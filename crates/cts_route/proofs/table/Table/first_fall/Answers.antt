@@ -1,10 +1,6 @@
-use Rattle.std.proofs.Common.{◌≡◌, Option, Some, None}
-use Rattle.std.specs.Option.{IfSome, IfNone}
-use Rattle.cts_route.specs.declared.direction.Direction.{Direction}
-use Rattle.cts_route.specs.declared.direction.Direction.TheVariants.{East, West, North, South}
-use Rattle.cts_route.specs.declared.table.Fall.{Fall}
-use Rattle.cts_route.specs.Search.{IsFall, HasNoFall, IsFirstFall}
-use Rattle.cts_route.proofs.Falls.{first_from, before_east, before_west, before_north, before_south, no_fall_at_goal, all_directions}
+use Rattle.cts_route.specs.declared.direction.Direction.TheVariants.{East}
+use Rattle.cts_route.specs.Search.{HasNoFall}
+use Rattle.cts_route.proofs.Falls.{first_from, before_east}
 use Rattle.cts_route.proofs.table.Table.first_fall.Goals as goal
 
 pub returns-in-Some-clause-some : goal.returns-in-Some-clause-some

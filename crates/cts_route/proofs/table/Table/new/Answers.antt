@@ -1,5 +1,4 @@
 use Rattle.std.proofs.Common.{◌≡◌, ◌-◌, ◌^◌, length, set, replicate, rules, arith, ap}
-use Rattle.std.specs.List.{AllClonesOf}
 use Rattle.cts_route.proofs.Falls.{first_labels}
 use Rattle.cts_route.proofs.table.Table.new.Goals as goal
 

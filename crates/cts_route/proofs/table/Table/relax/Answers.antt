@@ -1,4 +1,4 @@
-use Rattle.std.proofs.Common.{◌≡◌, ◌+◌, ◌*◌, ◌^◌, ◌<◌, ◌≤◌, length, slice_index, arith}
+use Rattle.std.proofs.Common.{◌≡◌, ◌<◌, length, slice_index, arith}
 use Rattle.cts_route.proofs.Labels.{relaxed_by, sum_short, label_read, settled_no_step}
 use Rattle.cts_route.proofs.table.Table.relax.Goals as goal
 

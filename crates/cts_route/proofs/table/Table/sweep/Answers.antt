@@ -1,4 +1,4 @@
-use Rattle.std.proofs.Common.{◌<◌, length, arith}
+use Rattle.std.proofs.Common.{arith}
 use Rattle.cts_route.proofs.Sweeps.{on_false, on_true, from_false, from_true, not_swept, swept_shorter, swept_kept}
 use Rattle.cts_route.proofs.table.Table.sweep.Goals as goal
 use Rattle.cts_route.proofs.table.Table.sweep.Goals.{then-relax_all, else-relax_all}
