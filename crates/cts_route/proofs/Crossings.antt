@@ -1,12 +1,12 @@
 -- When a segment has a point strictly inside a wall.
-use Rattle.std.proofs.Common.{◌≡◌, ℕ, ◌<◌, ◌⊎◌, inl, inr, ℤ, pos, ◌+ℤ◌, ◌*ℤ◌, ◌≤ℤ◌, ◌<ℤ◌, List, length, refl, subst, arith}
-use Rattle.std.specs.Prelude.{◌↔◌, All, slice_index_or}
+use Rattle.std.proofs.Common.{◌≡◌, ℕ, ◌<◌, inl, inr, ℤ, pos, ◌+ℤ◌, ◌≤ℤ◌, ◌<ℤ◌, List, length, subst, arith}
+use Rattle.std.specs.Prelude.{slice_index_or}
 use Rattle.std.specs.Int.{int_min, int_max}
 use Rattle.std.proofs.lemmas.Int.{ints, clamps, by_lt_z}
 use Rattle.cts_geom.specs.declared.points.Half.{Half}
 use Rattle.cts_route.specs.declared.wall.Wall.{Wall}
 use Rattle.cts_route.specs.Grid.{IsWithin, IsOnSegment}
-use Rattle.cts_route.specs.Walls.{IsInWall, IsOutside, MissesWalls, Overlaps, Crosses, IsSpan}
+use Rattle.cts_route.specs.Walls.{IsInWall, MissesWalls, Overlaps, Crosses, IsSpan}
 
 -- a coordinate of the interval that lies strictly between the edges
 common : (p q low high from to : ℤ) → low ≡ int_min p q → high ≡ int_max p q → (from +ℤ pos 1) <ℤ to → Overlaps low high from to
@@ -22,6 +22,7 @@ common p q low high from to e f wide both =
         by_lt_z {P = IsWithin p q c} p q
         (λ lt. inl (omega (arith, ints, clamps), omega (arith, ints, clamps)))
         (λ ge. inr (omega (arith, ints, clamps), omega (arith, ints, clamps)))
+
     within_low : (p q low : ℤ) → low ≡ int_min p q → IsWithin p q low
     within_low p q low e =
         by_lt_z {P = IsWithin p q low} p q
@@ -46,9 +47,9 @@ pub point_from_crosses : (wall : Wall) (p q low high : Half) → IsSpan p q low 
     → (r : Half) × (IsOnSegment p q r × IsInWall wall r)
 point_from_crosses wall p q low high span both =
     let x : (c : ℤ) × (IsWithin p.x q.x c × ((wall.x1 <ℤ c) × (c <ℤ wall.x2))) =
-      common p.x q.x low.x high.x wall.x1 wall.x2 span.x1 span.x2 wall.wide both.x in
+    common p.x q.x low.x high.x wall.x1 wall.x2 span.x1 span.x2 wall.wide both.x in
     let y : (c : ℤ) × (IsWithin p.y q.y c × ((wall.y1 <ℤ c) × (c <ℤ wall.y2))) =
-      common p.y q.y low.y high.y wall.y1 wall.y2 span.y1 span.y2 wall.tall both.y in
+    common p.y q.y low.y high.y wall.y1 wall.y2 span.y1 span.y2 wall.tall both.y in
     (record { x = x.0; y = y.0 }, (record { x = x.1.0; y = y.1.0 }, record { left = x.1.1.0; right = x.1.1.1; below = y.1.1.0; above = y.1.1.1 }))
 
 -- a wall of the list is crossed

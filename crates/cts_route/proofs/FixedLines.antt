@@ -1,5 +1,5 @@
 -- The lines of a die and its blocks, and those of a window, as they are gathered.
-use Rattle.std.proofs.Common.{◌≡◌, ℕ, zero, suc, ◌+◌, ◌<◌, ◌≤◌, ◌⊎◌, inl, inr, ℤ, pos, ◌*ℤ◌, ◌≤ℤ◌, ◌<ℤ◌, List, [], ◌∷◌, ◌++◌, length, take, slice_index_or, refl, sym, ap, ◌∙◌, subst, append_assoc, length-append, arith}
+use Rattle.std.proofs.Common.{◌≡◌, ℕ, ◌+◌, ◌<◌, ◌≤◌, ◌⊎◌, inl, inr, ℤ, pos, ◌*ℤ◌, ◌≤ℤ◌, ◌<ℤ◌, List, [], ◌∷◌, ◌++◌, length, take, slice_index_or, refl, sym, ap, ◌∙◌, subst, length-append, arith}
 use Rattle.std.specs.List.{Contains, flat_map}
 use Rattle.std.proofs.lemmas.Int.{ints}
 use Rattle.std.proofs.lemmas.List.{take_more, take_all, append-nil}
@@ -33,16 +33,20 @@ edges_added before middle after low high a b first e second f =
     record {
       ascending = q.ascending;
       there = λ c there. elim (Contains-cases low (high ∷ []) c there) [
-          inl same ↦ subst (λ (x : ℤ). Contains after x) same (q.kept low p.there)
+        | inl same ↦ subst (λ (x : ℤ). Contains after x) same (q.kept low p.there)
         | inr rest ↦ elim (Contains-cases high [] c rest) [
-              inl same ↦ subst (λ (x : ℤ). Contains after x) same q.there
-            | inr none ↦ none_there c (Contains after c) none ] ];
+          | inl same ↦ subst (λ (x : ℤ). Contains after x) same q.there
+          | inr none ↦ none_there c (Contains after c) none
+        ]
+      ];
       kept = λ c there. q.kept c (p.kept c there);
       only = λ c there. elim (q.only c there) [
-          inl same ↦ inr (subst (λ (x : ℤ). Contains more x) same (Contains-later low (high ∷ []) high (Contains-first high [])))
+        | inl same ↦ inr (subst (λ (x : ℤ). Contains more x) same (Contains-later low (high ∷ []) high (Contains-first high [])))
         | inr old ↦ elim (p.only c old) [
-              inl same ↦ inr (subst (λ (x : ℤ). Contains more x) same (Contains-first low (high ∷ [])))
-            | inr older ↦ inl older ] ];
+          | inl same ↦ inr (subst (λ (x : ℤ). Contains more x) same (Contains-first low (high ∷ [])))
+          | inr older ↦ inl older
+        ]
+      ];
       count = let n = p.count in let m = q.count in omega arith;
     }
 
@@ -64,11 +68,13 @@ more_lines wanted before after more are adds =
     record {
       ascending = adds.ascending;
       sound = λ c there. elim (adds.only c there) [
-          inl old ↦ Contains-append_left wanted more c (are.sound c old)
-        | inr new ↦ Contains-append_right wanted more c new ];
+        | inl old ↦ Contains-append_left wanted more c (are.sound c old)
+        | inr new ↦ Contains-append_right wanted more c new
+      ];
       complete = λ c there. elim (Contains-append_cases wanted more c there) [
-          inl old ↦ adds.kept c (are.complete c old)
-        | inr new ↦ adds.there c new ];
+        | inl old ↦ adds.kept c (are.complete c old)
+        | inr new ↦ adds.there c new
+      ];
       count = let n = are.count in let m = adds.count in let len = length-append wanted more in omega (arith, len);
     }
 
@@ -90,7 +96,7 @@ pub gathered_more : (edges : Block → List ℤ) (x1 x2 : ℤ) (blocks : List Bl
 gathered_more edges x1 x2 blocks i d before after lt are adds =
     let head : List ℤ → List ℤ = λ ls. (pos 2 *ℤ x1) ∷ (pos 2 *ℤ x2) ∷ ls in
     let same : gathered edges x1 x2 (take (i + 1) blocks) ≡ gathered edges x1 x2 (take i blocks) ++ edges (slice_index_or blocks i d) =
-      ap head (edges_of_more edges blocks i d lt) in
+    ap head (edges_of_more edges blocks i d lt) in
     subst (λ (w : List ℤ). AreLinesOf w after) (sym same)
     (more_lines (gathered edges x1 x2 (take i blocks)) before after (edges (slice_index_or blocks i d)) are adds)
 
@@ -117,14 +123,17 @@ one_more_between wanted low high before after line a are is' e lo hi =
     record {
       ascending = is.ascending;
       sound = λ c there. elim (is.only c there) [
-          inl same ↦ subst (λ (x : ℤ). Contains (wanted ++ line ∷ []) x × ((low ≤ℤ x) × (x ≤ℤ high))) same
+        | inl same ↦ subst (λ (x : ℤ). Contains (wanted ++ line ∷ []) x × ((low ≤ℤ x) × (x ≤ℤ high))) same
             (Contains-append_right wanted (line ∷ []) line (Contains-first line []), (lo, hi))
-        | inr old ↦ (let o = are.sound c old in (Contains-append_left wanted (line ∷ []) c o.0, o.1)) ];
+        | inr old ↦ (let o = are.sound c old in (Contains-append_left wanted (line ∷ []) c o.0, o.1))
+      ];
       complete = λ c there l h. elim (Contains-append_cases wanted (line ∷ []) c there) [
-          inl old ↦ is.kept c (are.complete c old l h)
+        | inl old ↦ is.kept c (are.complete c old l h)
         | inr new ↦ elim (Contains-cases line [] c new) [
-              inl same ↦ subst (λ (x : ℤ). Contains after x) same is.there
-            | inr none ↦ none_there c (Contains after c) none ] ];
+          | inl same ↦ subst (λ (x : ℤ). Contains after x) same is.there
+          | inr none ↦ none_there c (Contains after c) none
+        ]
+      ];
       count = let n = are.count in let m = is.count in let len = length-append wanted (line ∷ []) in omega (arith, len);
     }
 
@@ -136,10 +145,12 @@ one_past wanted low high before after line are e past =
       ascending = are.ascending;
       sound = λ c there. (let o = are.sound c there in (Contains-append_left wanted (line ∷ []) c o.0, o.1));
       complete = λ c there l h. elim (Contains-append_cases wanted (line ∷ []) c there) [
-          inl old ↦ are.complete c old l h
+        | inl old ↦ are.complete c old l h
         | inr new ↦ elim (Contains-cases line [] c new) [
-              inl same ↦ elim past [ inl below ↦ absurd (omega (arith, ints)) | inr above ↦ absurd (omega (arith, ints)) ]
-            | inr none ↦ none_there c (Contains before c) none ] ];
+          | inl same ↦ elim past [ inl below ↦ absurd (omega (arith, ints)) | inr above ↦ absurd (omega (arith, ints)) ]
+          | inr none ↦ none_there c (Contains before c) none
+        ]
+      ];
       count = let n = are.count in let len = length-append wanted (line ∷ []) in omega (arith, len);
     })
 
@@ -148,7 +159,7 @@ pub next_between : (a b : ℤ) (fixed : List ℤ) (i : ℕ) (line low high : ℤ
     → AreLinesBetween ((a ∷ b ∷ take i fixed) ++ line ∷ []) low high after → AreLinesBetween (a ∷ b ∷ take (i + 1) fixed) low high after
 next_between a b fixed i line low high after lt e are =
     let same : (a ∷ b ∷ take i fixed) ++ line ∷ [] ≡ a ∷ b ∷ take (i + 1) fixed =
-      ap (λ (l : ℤ). a ∷ b ∷ (take i fixed ++ l ∷ [])) e ∙ sym (ap (λ (ls : List ℤ). a ∷ b ∷ ls) (take_more fixed i (pos 0) lt)) in
+    ap (λ (l : ℤ). a ∷ b ∷ (take i fixed ++ l ∷ [])) e ∙ sym (ap (λ (ls : List ℤ). a ∷ b ∷ ls) (take_more fixed i (pos 0) lt)) in
     subst (λ (w : List ℤ). AreLinesBetween w low high after) same are
 
 pub all_between : (a b : ℤ) (fixed : List ℤ) (i : ℕ) (low high : ℤ) (after : List ℤ) → length fixed ≤ i

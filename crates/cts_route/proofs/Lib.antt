@@ -6,6 +6,17 @@ pub mod Segments
 pub mod AlongX
 pub mod ClearWay
 pub mod Crossings
+pub mod Labels
+pub mod Searches
+pub mod Found
+pub mod GridLines
+pub mod Answered
+pub mod Ahead
+pub mod WaysDown
+pub mod Steps
+pub mod Cells
+pub mod Falls
+pub mod Sweeps
 pub mod Insertions
 pub mod FixedLines
 pub mod WallLists

@@ -9,13 +9,13 @@ use Rattle.cts_route.specs.declared.direction.Direction.{Direction}
 use Rattle.cts_route.specs.declared.direction.Direction.TheVariants.{East, West, North, South}
 use Rattle.cts_route.specs.Grid.{IsAhead}
 
-int_lt-true : (a b : ℤ) → a <ℤ b → int_lt a b ≡ true
+pub int_lt-true : (a b : ℤ) → a <ℤ b → int_lt a b ≡ true
 int_lt-true a b h = grind (arith, ints)
 
-int_lt-false : (a b : ℤ) → b ≤ℤ a → int_lt a b ≡ false
+pub int_lt-false : (a b : ℤ) → b ≤ℤ a → int_lt a b ≡ false
 int_lt-false a b h = grind (arith, ints)
 
-keeps_on-is : (a b c : ℤ) (ab ba bc cb : Bool) → int_lt a b ≡ ab → int_lt b a ≡ ba → int_lt b c ≡ bc → int_lt c b ≡ cb
+pub keeps_on-is : (a b c : ℤ) (ab ba bc cb : Bool) → int_lt a b ≡ ab → int_lt b a ≡ ba → int_lt b c ≡ bc → int_lt c b ≡ cb
     → keeps_on a b c ≡ (beq ab bc && beq ba cb)
 unfolding keeps_on
 keeps_on-is a b c ab ba bc cb e f g h = cc
@@ -56,7 +56,7 @@ falls_then_rises : (a b c : ℤ) → b <ℤ a → b <ℤ c → keeps_on a b c �
 falls_then_rises a b c h k =
     keeps_on-is a b c false true true false (int_lt-false a b (omega (arith, ints))) (int_lt-true b a h) (int_lt-true b c k) (int_lt-false c b (omega (arith, ints)))
 
-goes_on-is : (p q r : Half) (x y : Bool) → keeps_on p.x q.x r.x ≡ x → keeps_on p.y q.y r.y ≡ y → goes_on p q r ≡ (x && y)
+pub goes_on-is : (p q r : Half) (x y : Bool) → keeps_on p.x q.x r.x ≡ x → keeps_on p.y q.y r.y ≡ y → goes_on p q r ≡ (x && y)
 unfolding goes_on
 goes_on-is p q r x y e f = cc
 

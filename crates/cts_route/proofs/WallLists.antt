@@ -1,15 +1,12 @@
 -- The walls of a list of blocks, block by block.
-use Rattle.std.proofs.Common.{◌≡◌, ℕ, ◌+◌, ◌<◌, ℤ, pos, ◌+ℤ◌, ◌*ℤ◌, ◌≤ℤ◌, ◌<ℤ◌, Some, List, [], ◌∷◌, ◌++◌, length, take, slice_index_or, refl, sym, subst, arith}
+use Rattle.std.proofs.Common.{◌≡◌, ℕ, ◌+◌, ◌<◌, pos, ◌*ℤ◌, ◌≤ℤ◌, ◌<ℤ◌, Some, List, [], ◌∷◌, ◌++◌, length, take, slice_index_or, refl, sym, subst, arith}
 use Rattle.std.specs.Prelude.{All}
-use Rattle.std.specs.Option.{option_to_list}
 use Rattle.std.proofs.lemmas.Int.{ints}
 use Rattle.std.proofs.lemmas.List.{take_more}
 use Rattle.std.proofs.lemmas.List.Elements.{All-push, All-pop, All-nil}
-use Rattle.cts_geom.specs.declared.points.Half.{Half}
 use Rattle.cts_block.specs.declared.blocks.Block.{Block}
-use Rattle.cts_block.specs.declared.blocks.Kind.{Kind}
 use Rattle.cts_block.specs.declared.blocks.Kind.TheVariants.{Buffer, All as KindAll}
-use Rattle.cts_block.specs.FreePoints.{StopsWires, IsInside, IsOpenToWires}
+use Rattle.cts_block.specs.FreePoints.{StopsWires, IsOpenToWires}
 use Rattle.cts_route.specs.declared.wall.Wall.{Wall}
 use Rattle.cts_route.specs.Walls.{IsInWall, IsOutside, IsWallOf, IsNoWall, AreWallsOf}
 
@@ -31,11 +28,11 @@ walls_more blocks i block walls wall after lt before is e =
     let b : Block = slice_index_or blocks i block in
     let more : AreWallsOf (take i blocks ++ b ∷ []) (walls ++ wall ∷ []) = record {
       outside = λ r all.
-        let parts : All (IsOpenToWires r) (take i blocks) × IsOpenToWires r b = all_of_more (IsOpenToWires r) (take i blocks) b all in
-        All-push (λ (w : Wall). IsInWall w r → ⊥) walls wall (before.outside r parts.0) (is.outside r parts.1);
+          let parts : All (IsOpenToWires r) (take i blocks) × IsOpenToWires r b = all_of_more (IsOpenToWires r) (take i blocks) b all in
+          All-push (λ (w : Wall). IsInWall w r → ⊥) walls wall (before.outside r parts.0) (is.outside r parts.1);
       open_there = λ r out.
-        let parts : IsOutside walls r × (IsInWall wall r → ⊥) = all_of_more (λ (w : Wall). IsInWall w r → ⊥) walls wall out in
-        All-push (IsOpenToWires r) (take i blocks) b (before.open_there r parts.0) (is.open_there r parts.1);
+          let parts : IsOutside walls r × (IsInWall wall r → ⊥) = all_of_more (λ (w : Wall). IsInWall w r → ⊥) walls wall out in
+          All-push (IsOpenToWires r) (take i blocks) b (before.open_there r parts.0) (is.open_there r parts.1);
     } in
     subst (λ (bs : List Block). AreWallsOf bs after) (sym (take_more blocks i block lt))
     (subst (λ (ws : List Wall). AreWallsOf (take i blocks ++ b ∷ []) ws) (sym e) more)
@@ -47,8 +44,8 @@ walls_same blocks i block walls after lt before none e =
     let b : Block = slice_index_or blocks i block in
     let more : AreWallsOf (take i blocks ++ b ∷ []) walls = record {
       outside = λ r all.
-        let parts : All (IsOpenToWires r) (take i blocks) × IsOpenToWires r b = all_of_more (IsOpenToWires r) (take i blocks) b all in
-        before.outside r parts.0;
+          let parts : All (IsOpenToWires r) (take i blocks) × IsOpenToWires r b = all_of_more (IsOpenToWires r) (take i blocks) b all in
+          before.outside r parts.0;
       open_there = λ r out. All-push (IsOpenToWires r) (take i blocks) b (before.open_there r out) (none.open_there r);
     } in
     subst (λ (bs : List Block). AreWallsOf bs after) (sym (take_more blocks i block lt))
@@ -60,17 +57,21 @@ buffers_stop_nothing block e = record { open_there = λ r stops inside. subst St
 
 pub narrow_stops_nothing : (block : Block) → block.x2 ≤ℤ block.x1 → IsNoWall block
 narrow_stops_nothing block narrow =
-    record { open_there = λ r stops inside.
-      let left : (pos 2 *ℤ block.x1) <ℤ r.x = inside.x.above in
-      let right : r.x <ℤ (pos 2 *ℤ block.x2) = inside.x.below in
-      absurd (omega (arith, ints)) }
+    record {
+      open_there = λ r stops inside.
+          let left : (pos 2 *ℤ block.x1) <ℤ r.x = inside.x.above in
+          let right : r.x <ℤ (pos 2 *ℤ block.x2) = inside.x.below in
+          absurd (omega (arith, ints));
+    }
 
 pub low_stops_nothing : (block : Block) → block.y2 ≤ℤ block.y1 → IsNoWall block
 low_stops_nothing block low =
-    record { open_there = λ r stops inside.
-      let below : (pos 2 *ℤ block.y1) <ℤ r.y = inside.y.above in
-      let above : r.y <ℤ (pos 2 *ℤ block.y2) = inside.y.below in
-      absurd (omega (arith, ints)) }
+    record {
+      open_there = λ r stops inside.
+          let below : (pos 2 *ℤ block.y1) <ℤ r.y = inside.y.above in
+          let above : r.y <ℤ (pos 2 *ℤ block.y2) = inside.y.below in
+          absurd (omega (arith, ints));
+    }
 
 -- the doubled edges of a block that stops wires
 pub wall_is : (block : Block) (wall : Wall) → block.kind ≡ KindAll → wall.x1 ≡ pos 2 *ℤ block.x1 → wall.y1 ≡ pos 2 *ℤ block.y1

@@ -1,5 +1,5 @@
 -- What the calls take: coordinates of at most 2^40 nm in size, and 64 blocks that stop wires.
-use Rattle.std.specs.Prelude.{ℕ, ◌≤◌, ◌≤ℤ◌, Bool, true, false, List, All, count_by}
+use Rattle.std.specs.Prelude.{◌≤◌, ◌≤ℤ◌, Bool, true, false, List, All, count_by}
 use Rattle.cts_geom.specs.Coordinate.{IsCoordinate}
 use Rattle.cts_geom.specs.declared.bounds.Die.{Die}
 use Rattle.cts_block.specs.declared.blocks.Block.{Block}

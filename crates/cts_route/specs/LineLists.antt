@@ -1,5 +1,5 @@
 -- Lists of lines in ascending order.
-use Rattle.std.specs.Prelude.{◌≡◌, ℕ, ◌+◌, ◌<◌, ◌≤◌, ◌⊎◌, ℤ, pos, ◌*ℤ◌, ◌≤ℤ◌, ◌<ℤ◌, List, [], ◌∷◌, ◌++◌, length, slice_index_or, Contains}
+use Rattle.std.specs.Prelude.{◌≡◌, ℕ, ◌+◌, ◌<◌, ◌≤◌, ◌⊎◌, ℤ, pos, ◌≤ℤ◌, ◌<ℤ◌, List, length, slice_index_or, Contains}
 
 -- the line with this number
 abbrev pub line_at : List ℤ → ℕ → ℤ
@@ -44,3 +44,8 @@ pub record AreLinesBetween (wanted : List ℤ) (low high : ℤ) (lines : List �
   pub sound : (c : ℤ) → Contains lines c → Contains wanted c × ((low ≤ℤ c) × (c ≤ℤ high))
   pub complete : (c : ℤ) → Contains wanted c → low ≤ℤ c → c ≤ℤ high → Contains lines c
   pub count : length lines ≤ length wanted
+
+-- the line has this number
+pub record IsNumberOf (lines : List ℤ) (line : ℤ) (number : ℕ) : Type 0 where
+  pub inside : number < length lines
+  pub at : line_at lines number ≡ line

@@ -50,6 +50,10 @@ no_path label = if nat_lt label (2 ^ 64 - 1) then 0 else 1
 abbrev pub unreached : List ℕ → ℕ
 unreached labels = sum_by no_path labels
 
+-- the sum of the labels
+abbrev pub total : List ℕ → ℕ
+total labels = sum_by (λ label. label) labels
+
 -- a step leads on from c to a cell whose label is less by the length of the step, or by more
 pub record IsSupported (graph : Graph) (labels : List ℕ) (c : ℕ) : Type 0 where
   pub direction : Direction
@@ -72,13 +76,25 @@ pub record IsSettledAt (graph : Graph) (labels : List ℕ) (direction : Directio
   pub no_shorter : (n len : ℕ) → IsStep graph direction c n len → slice_index labels c < 2 ^ 64 - 1
       → slice_index labels n ≤ slice_index labels c + len
 
+-- no step from c does
+pub record IsSettledFrom (graph : Graph) (labels : List ℕ) (c : ℕ) : Type 0 where
+  pub at : (direction : Direction) → IsSettledAt graph labels direction c
+
 -- no step does
 pub record IsSettled (graph : Graph) (labels : List ℕ) : Type 0 where
-  pub at : (direction : Direction) (c : ℕ) → c < length labels → IsSettledAt graph labels direction c
+  pub from : (c : ℕ) → c < length labels → IsSettledFrom graph labels c
 
--- the label falls by the whole of the step from c to n, and by less in each earlier direction
-pub record IsFirstFall (graph : Graph) (labels : List ℕ) (direction : Direction) (c n len : ℕ) : Type 0 where
+-- the label falls by the whole of the step from c to n
+pub record IsFall (graph : Graph) (labels : List ℕ) (direction : Direction) (c n len : ℕ) : Type 0 where
   pub step : IsStep graph direction c n len
   pub whole : slice_index labels c ≡ slice_index labels n + len
-  pub first : (other : Direction) (m l : ℕ) → rank other < rank direction → IsStep graph other c m l
-      → slice_index labels m < 2 ^ 64 - 1 → slice_index labels c < slice_index labels m + l
+
+-- the label falls by less than the step from c in a direction
+pub record HasNoFall (graph : Graph) (labels : List ℕ) (direction : Direction) (c : ℕ) : Type 0 where
+  pub less : (n len : ℕ) → IsStep graph direction c n len → slice_index labels n < 2 ^ 64 - 1
+      → slice_index labels c < slice_index labels n + len
+
+-- the label falls by the whole of the step, and by less in each earlier direction
+pub record IsFirstFall (graph : Graph) (labels : List ℕ) (direction : Direction) (c n len : ℕ) : Type 0 where
+  pub fall : IsFall graph labels direction c n len
+  pub first : (other : Direction) → rank other < rank direction → HasNoFall graph labels other c

@@ -1,6 +1,5 @@
-use Rattle.std.proofs.Common.{◌≡◌, ℤ, List, [], ◌∷◌, arith}
+use Rattle.std.proofs.Common.{[], arith}
 use Rattle.std.proofs.lemmas.Int.{ints}
-use Rattle.cts_block.specs.declared.blocks.Block.{Block}
 use Rattle.cts_route.specs.Grid.{edges_of}
 use Rattle.cts_route.proofs.FixedLines.{no_lines, more_lines, same_edges, gathered_more, gathered_all}
 use Rattle.cts_route.proofs.lines.fixed_ys.Goals as goal

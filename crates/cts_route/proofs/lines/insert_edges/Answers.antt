@@ -1,4 +1,4 @@
-use Rattle.std.proofs.Common.{ℤ, pos, ◌*ℤ◌, arith}
+use Rattle.std.proofs.Common.{pos, ◌*ℤ◌, arith}
 use Rattle.std.proofs.lemmas.Int.{ints}
 use Rattle.cts_route.proofs.FixedLines.{edges_added}
 use Rattle.cts_route.proofs.lines.insert_edges.Goals as goal

@@ -9,8 +9,8 @@ pub returns-in_ok-insert : goal.returns-in_ok-insert
 returns-in_ok-insert c =
     let fits : FitsSigned w64 c.args.line = c.ranges.line in
     let room : IsRoom c.args.lines.now.items c.args.line c.in-Some.place =
-      subst (λ (xs : List ℤ). IsRoom xs c.args.line c.in-Some.place) c.as_slice.ensures.value
-      (simp to_z-of_z at c.in-Some.ensures.room) in
+    subst (λ (xs : List ℤ). IsRoom xs c.args.line c.in-Some.place) c.as_slice.ensures.value
+    (simp to_z-of_z at c.in-Some.ensures.room) in
     let items : c.insert.new.self.items ≡ insert c.args.lines.now.items c.in-Some.place c.args.line =
-      simp to_z-of_z at c.in_ok-insert.ensures.items in
+    simp to_z-of_z at c.in_ok-insert.ensures.items in
     inserted c.args.lines.now.items c.args.line c.in-Some.place c.insert.new.self.items c.requires room items
