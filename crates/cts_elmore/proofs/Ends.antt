@@ -1,12 +1,12 @@
 -- What the pass upward and the root say of the first node that is over the limits.
-use Rattle.std.proofs.Common.{◌≡◌, ℕ, ◌+◌, ◌-◌, ◌<◌, List, map, length, Option, Some, None, subst, arith}
+use Rattle.std.proofs.Common.{◌≡◌, ℕ, ◌-◌, ◌<◌, List, map, length, Some, None, subst, arith}
 use Rattle.std.specs.Prelude.{IfSome}
 use Rattle.std.specs.List.{All, AllZip}
 use Rattle.cts_postorder.specs.BinaryTree.{BinaryTree}
 use Rattle.cts_postorder.specs.PostOrder.{IsPostOrder, trees_of, root_of}
 use Rattle.cts_postorder.specs.Pass.{IsLeastFailure}
 use Rattle.cts_postorder.proofs.Failures.{failed_before_root, failed_at_root, none_failed_at_root}
-use Rattle.cts_postorder.proofs.Lists.{Whole, whole_of, length_pos}
+use Rattle.cts_postorder.proofs.Lists.{whole_of, length_pos}
 use Rattle.cts_postorder.proofs.Zips.{all_zip-at}
 use Rattle.cts_tree.specs.declared.nodes.TreeNode.{TreeNode}
 use Rattle.cts_tree.specs.Nodes.{tree_children}

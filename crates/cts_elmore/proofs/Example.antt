@@ -3,16 +3,14 @@
 -- buffer 3 zF, 1 µΩ and an intrinsic delay of 4.
 use Rattle.std.proofs.Common.{◌≡◌, ℕ, pos, [], ◌∷◌, map, Some, None, refl}
 use Rattle.cts_units.specs.declared.params.Sink.{Sink}
-use Rattle.cts_units.specs.declared.params.Buffer.{Buffer}
 use Rattle.cts_units.specs.Delay.{wire_delay_of, buffer_delay_of}
-use Rattle.cts_geom.specs.declared.points.Spot.{Spot}
 use Rattle.cts_postorder.specs.BinaryTree.{BinaryTree, tip, fork, label}
 use Rattle.cts_postorder.specs.Occurrence.{occurrences, tips}
 use Rattle.cts_tree.specs.declared.nodes.NodeKind.{NodeKind}
 use Rattle.cts_tree.specs.declared.nodes.NodeKind.TheVariants.{Leaf, Pair}
 use Rattle.cts_tree.specs.declared.nodes.TreeNode.{TreeNode}
 use Rattle.cts_instance.specs.declared.parts.Parts.{Parts}
-use Rattle.cts_elmore.specs.Loads.{load_below, load_seen, reached, source_load}
+use Rattle.cts_elmore.specs.Loads.{load_below, reached, source_load}
 use Rattle.cts_elmore.specs.Delays.{delay_at, stage_at}
 use Rattle.cts_elmore.specs.Skew.{greatest_of, least_of, greatest_below, residue, skew, bound}
 

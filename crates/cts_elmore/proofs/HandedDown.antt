@@ -10,13 +10,13 @@ use Rattle.std.proofs.lemmas.Slice.Zip.{AllZip-long}
 use Rattle.cts_units.specs.declared.params.Params.{Params}
 use Rattle.cts_units.specs.Delay.{slew_of}
 use Rattle.cts_units.specs.Limits.{max_length, max_load, max_delay}
-use Rattle.cts_postorder.specs.BinaryTree.{BinaryTree, tip, fork, label, size, is_tip, subtrees}
+use Rattle.cts_postorder.specs.BinaryTree.{BinaryTree, tip, fork, label, size, is_tip}
 use Rattle.cts_postorder.specs.PostOrder.{IsPostOrder, trees_of, root_of}
-use Rattle.cts_postorder.specs.Occurrence.{Occurrence, occurrence, occurrences, occurrences_of}
+use Rattle.cts_postorder.specs.Occurrence.{Occurrence, occurrence, occurrences_of}
 use Rattle.cts_postorder.proofs.Growth.{length-trees_of, label-tree}
 use Rattle.cts_postorder.proofs.Failures.{size-tree}
 use Rattle.cts_postorder.proofs.Upward.{leaf_here}
-use Rattle.cts_postorder.proofs.Lists.{Whole, whole_of, length_pos, length-occurrences_of, trees_of-here, IsPair, is_pair}
+use Rattle.cts_postorder.proofs.Lists.{Whole, whole_of, length-occurrences_of, trees_of-here, IsPair, is_pair}
 use Rattle.cts_postorder.proofs.Downward.{IsSettled, settled_at_start, settled_here, settled_at_leaf, settled_at_pair, settled_all}
 use Rattle.cts_postorder.proofs.Zips.{all_zip-at, all_zip-all, all_zip-weaker}
 use Rattle.cts_tree.specs.declared.nodes.NodeKind.{NodeKind}
@@ -33,7 +33,7 @@ use Rattle.cts_elmore.specs.declared.descent.Descent.{Descent}
 use Rattle.cts_elmore.specs.Fits.{FitsInstance, NamesBuffer}
 use Rattle.cts_elmore.specs.Loads.{buffer_at, is_buffered, load_below, source_load}
 use Rattle.cts_elmore.specs.Delays.{stage_at}
-use Rattle.cts_elmore.specs.Limits.{IsOverAtPair, long_left, long_right, great_load, IsPairOver, great_leaf_delay}
+use Rattle.cts_elmore.specs.Limits.{IsOverAtPair, long_left, long_right, great_load, great_leaf_delay}
 use Rattle.cts_elmore.specs.Figures.{IsNodeFigure, IsFigureInRange}
 use Rattle.cts_elmore.specs.Outputs.{IsOutput, IsPartFigure, LoadIsMet, SlewIsMet, IsDescent}
 use Rattle.cts_elmore.specs.Subtrees.{IsSubtree, IsSubtreeInRange, IsDrive}

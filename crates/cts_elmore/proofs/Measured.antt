@@ -1,11 +1,11 @@
 -- The figures of the whole tree, from the root's and from what the passes come to.
-use Rattle.std.proofs.Common.{◌≡◌, ℕ, ◌+◌, ◌-◌, ◌^◌, ◌<◌, ◌≤◌, inl, inr, List, [], map, length, get_or, slice_get, Option, Some, None, sym, ap, subst, ◌∙◌, arith}
+use Rattle.std.proofs.Common.{◌≡◌, ℕ, ◌+◌, ◌-◌, ◌^◌, ◌<◌, ◌≤◌, inl, inr, List, [], map, length, get_or, slice_get, Some, None, sym, ap, subst, ◌∙◌, arith}
 use Rattle.std.specs.Prelude.{IfSome}
 use Rattle.std.specs.List.{All, AllZip}
 use Rattle.std.proofs.lemmas.Slice.Zip.{AllZip-long}
 use Rattle.std.proofs.lemmas.Option.{get_or_from_slice_get, slice_get_within}
 use Rattle.cts_units.specs.Limits.{max_length, max_delay}
-use Rattle.cts_postorder.specs.BinaryTree.{BinaryTree, label, size}
+use Rattle.cts_postorder.specs.BinaryTree.{BinaryTree, label}
 use Rattle.cts_postorder.specs.PostOrder.{IsPostOrder, trees_of, root_of}
 use Rattle.cts_postorder.specs.Occurrence.{occurrences}
 use Rattle.cts_postorder.specs.Pass.{IsLeastFailure}

@@ -7,7 +7,7 @@ use Rattle.std.specs.List.{AllZip}
 use Rattle.cts_units.specs.declared.params.Params.{Params}
 use Rattle.cts_units.specs.declared.params.Sink.{Sink}
 use Rattle.cts_units.specs.Limits.{max_length}
-use Rattle.cts_postorder.specs.BinaryTree.{BinaryTree, tip, fork, label, size}
+use Rattle.cts_postorder.specs.BinaryTree.{fork, label}
 use Rattle.cts_postorder.specs.PostOrder.{IsPostOrder, trees_of}
 use Rattle.cts_postorder.specs.Pass.{IsLeastFailure}
 use Rattle.cts_postorder.proofs.Upward.{UpAtPair, up_at_leaf, up_at_pair, up_long, least_failure}
@@ -21,7 +21,7 @@ use Rattle.cts_elmore.specs.declared.subtree.Branch.{Branch}
 use Rattle.cts_elmore.specs.Fits.{FitsInstance, NamesSink}
 use Rattle.cts_elmore.specs.Loads.{sink_load}
 use Rattle.cts_elmore.specs.Limits.{IsOverAtPair, long_left, long_right, IsPairOver}
-use Rattle.cts_elmore.specs.Subtrees.{IsSubtree, IsSubtreeInRange, IsBranch, IsPair, PairOrOver}
+use Rattle.cts_elmore.specs.Subtrees.{IsSubtree, IsSubtreeInRange, IsBranch, PairOrOver}
 use Rattle.cts_elmore.proofs.Rising.{subtree_in_range, leaf_is, pair_is, pair_over}
 
 pub if_none : {A : Type 0} {P : Type 0} (o : Option A) → P → IfNone o P

@@ -1,14 +1,14 @@
 -- Loads, delays and stages one step down: what a pair adds to its parts' loads, and to the sums along their paths.
-use Rattle.std.proofs.Common.{◌≡◌, ℕ, ◌+◌, Bool, true, false, not, List, [], ◌∷◌, ◌++◌, Option, Some, None, refl, sym, ap, ◌∙◌, arith}
+use Rattle.std.proofs.Common.{◌≡◌, ℕ, ◌+◌, Bool, true, false, not, List, [], ◌∷◌, Option, Some, None, ap, ◌∙◌, arith}
 use Rattle.std.specs.Option.{is_some, option_map_or}
 use Rattle.std.specs.Prelude.{if◌then◌else◌, sum_by, find, take_while}
 use Rattle.std.proofs.lemmas.List.Sums.{sum_by-append, sum_by-cons, take_while-cons}
 use Rattle.cts_units.specs.declared.params.Buffer.{Buffer}
-use Rattle.cts_postorder.specs.BinaryTree.{BinaryTree, tip, fork, label}
+use Rattle.cts_postorder.specs.BinaryTree.{BinaryTree, tip, fork}
 use Rattle.cts_postorder.specs.Occurrence.{occurrence}
 use Rattle.cts_tree.specs.declared.nodes.TreeNode.{TreeNode}
 use Rattle.cts_instance.specs.declared.parts.Parts.{Parts}
-use Rattle.cts_elmore.specs.Loads.{buffer_at, is_buffered, pin_load, wire_load, reached, load_below, load_seen, source_load}
+use Rattle.cts_elmore.specs.Loads.{buffer_at, is_buffered, pin_load, wire_load, reached, load_below, load_seen}
 use Rattle.cts_elmore.specs.Delays.{wire_delay, buffer_delay, output_delay, source_delay, delay_at, stage_at}
 
 -- a buffer's input stands for all that is reached through it

@@ -1,5 +1,5 @@
 -- The root of a tree, at its last number, and what the source drives there.
-use Rattle.std.proofs.Common.{◌≡◌, ℕ, ◌+◌, ◌-◌, ◌*◌, ◌<◌, ◌≤◌, ◌⊎◌, inl, inr, List, map, length, get_or, slice_get, Option, Some, None, sym, ap, ap₂, subst, ◌∙◌, arith}
+use Rattle.std.proofs.Common.{◌≡◌, ℕ, ◌+◌, ◌-◌, ◌*◌, ◌<◌, ◌≤◌, inl, inr, List, map, length, get_or, Option, Some, None, sym, ap, ap₂, subst, ◌∙◌, arith}
 use Rattle.std.specs.Prelude.{IfSome, MatchOption}
 use Rattle.std.specs.List.{AllZip}
 use Rattle.std.proofs.lemmas.Option.{get_or_from_slice_get}
@@ -17,7 +17,7 @@ use Rattle.cts_tree.specs.Nodes.{tree_children}
 use Rattle.cts_instance.specs.declared.parts.Parts.{Parts}
 use Rattle.cts_elmore.specs.declared.subtree.Subtree.{Subtree}
 use Rattle.cts_elmore.specs.declared.drive.Drive.{Drive}
-use Rattle.cts_elmore.specs.Loads.{load_seen, wire_load, source_load}
+use Rattle.cts_elmore.specs.Loads.{source_load}
 use Rattle.cts_elmore.specs.Delays.{wire_delay, source_delay}
 use Rattle.cts_elmore.specs.Limits.{IsRootOver, long_root, great_source_load, great_leaf_delay}
 use Rattle.cts_elmore.specs.Subtrees.{IsSubtree, IsDriveThrough, IsDriveOver, DriveOrOver}

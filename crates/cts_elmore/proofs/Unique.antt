@@ -1,16 +1,13 @@
 -- A tree has one set of figures.
 use Rattle.std.proofs.Common.{◌≡◌, ◌↔◌, ℕ, Bool, true, false, List, [], IsTrue, refl, sym, ap, subst, ◌∙◌}
-use Rattle.std.specs.List.{AllZip}
 use Rattle.cts_postorder.specs.BinaryTree.{BinaryTree}
-use Rattle.cts_postorder.specs.PostOrder.{root_of}
 use Rattle.cts_postorder.specs.Occurrence.{Occurrence, occurrences}
 use Rattle.cts_postorder.proofs.Zips.{all_zip-one}
 use Rattle.cts_tree.specs.declared.nodes.TreeNode.{TreeNode}
-use Rattle.cts_tree.specs.Nodes.{tree_children}
 use Rattle.cts_instance.specs.declared.parts.Parts.{Parts}
 use Rattle.cts_elmore.specs.declared.figures.NodeFigure.{NodeFigure}
 use Rattle.cts_elmore.specs.declared.figures.Figures.{Figures}
-use Rattle.cts_elmore.specs.Figures.{IsNodeFigure, AreFiguresOf, AreFigures}
+use Rattle.cts_elmore.specs.Figures.{IsNodeFigure, AreFiguresOf}
 use Rattle.cts_elmore.specs.Laws.{FiguresAreOne}
 
 -- two answers to one question

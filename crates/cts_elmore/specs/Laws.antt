@@ -1,5 +1,5 @@
 -- What holds of the figures of every tree.
-use Rattle.std.specs.Prelude.{◌≡◌, ℕ, ◌+◌, ◌≤◌, max, List, [], ◌∷◌, if◌then◌else◌}
+use Rattle.std.specs.Prelude.{◌≡◌, ◌+◌, ◌≤◌, max, List, [], ◌∷◌, if◌then◌else◌}
 use Rattle.cts_postorder.specs.BinaryTree.{BinaryTree, fork}
 use Rattle.cts_postorder.specs.Occurrence.{occurrence}
 use Rattle.cts_tree.specs.declared.nodes.TreeNode.{TreeNode}

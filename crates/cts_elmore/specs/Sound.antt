@@ -1,5 +1,5 @@
 -- What is asked of every clock tree of an instance, whoever made it.
-use Rattle.std.specs.Prelude.{◌≡◌, ℕ, ◌*◌, ◌==◌, ◌≤◌, ◌⊎◌, pos, ◌*ℤ◌, List, [], ◌∷◌, filter_map, count_by, All, Contains, Option, Some, None, MatchOption}
+use Rattle.std.specs.Prelude.{◌≡◌, ℕ, ◌*◌, ◌==◌, ◌≤◌, ◌⊎◌, pos, ◌*ℤ◌, List, [], ◌∷◌, filter_map, count_by, All, Contains, MatchOption}
 use Rattle.cts_geom.specs.declared.bounds.Die.{Die}
 use Rattle.cts_geom.specs.declared.points.Half.{Half}
 use Rattle.cts_geom.specs.Points.{point_of, spot_at}

@@ -1,8 +1,4 @@
-use Rattle.std.proofs.Common.{◌≡◌, ℕ, ◌-◌, List, length, get_or, Option, sym, ap, subst, arith}
-use Rattle.std.specs.Prelude.{MatchOption}
-use Rattle.cts_units.specs.declared.params.Params.{Params}
-use Rattle.cts_instance.specs.declared.parts.Parts.{Parts}
-use Rattle.cts_elmore.specs.Subtrees.{DriveOrOver, IsDriveOver, IsDriveThrough}
+use Rattle.std.proofs.Common.{ap, arith}
 use Rattle.cts_elmore.proofs.Rising.{subtree_in_range}
 use Rattle.cts_elmore.proofs.Root.{AtRoot, at_root, if_root, drive_from}
 use Rattle.cts_elmore.proofs.drive.drive_root.Goals as goal

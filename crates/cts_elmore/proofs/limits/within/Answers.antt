@@ -5,7 +5,6 @@ use Rattle.cts_postorder.specs.Pass.{IsLeastFailure}
 use Rattle.cts_postorder.proofs.Lists.{length_pos}
 use Rattle.cts_tree.specs.declared.nodes.TreeNode.{TreeNode}
 use Rattle.cts_tree.specs.Nodes.{tree_children}
-use Rattle.cts_elmore.specs.declared.subtree.Subtree.{Subtree}
 use Rattle.cts_elmore.specs.Limits.{IsOver, IsWithinLimits}
 use Rattle.cts_elmore.specs.Subtrees.{IsSubtree, IsGathered}
 use Rattle.cts_elmore.proofs.Ends.{first_pair_over, root_over, none_over}

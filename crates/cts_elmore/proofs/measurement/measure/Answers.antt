@@ -1,15 +1,12 @@
 use Rattle.std.proofs.Common.{List, map, length, sym, subst, ap, ◌∙◌, arith}
 use Rattle.std.specs.List.{AllZip}
 use Rattle.cts_postorder.specs.PostOrder.{IsPostOrder, trees_of}
-use Rattle.cts_postorder.proofs.Lists.{length_pos}
 use Rattle.cts_tree.specs.declared.nodes.TreeNode.{TreeNode}
 use Rattle.cts_tree.specs.Nodes.{tree_children}
-use Rattle.cts_elmore.specs.declared.figures.NodeFigure.{NodeFigure}
 use Rattle.cts_elmore.specs.Fits.{FitsInstance}
 use Rattle.cts_elmore.specs.Limits.{IsWithinLimits}
-use Rattle.cts_elmore.specs.Figures.{AreFigures}
 use Rattle.cts_elmore.specs.Subtrees.{IsSubtree, IsGathered}
-use Rattle.cts_elmore.proofs.Measured.{no_pair_over, some_node, root_ready, driven, wires_small, greatest_small, least_small, figures_are, figures_in_range, one_each}
+use Rattle.cts_elmore.proofs.Measured.{some_node, root_ready, driven, wires_small, greatest_small, least_small, figures_are, figures_in_range, one_each}
 use Rattle.cts_elmore.proofs.measurement.measure.Goals as goal
 
 pub unreachable-requires-in_default : goal.unreachable-requires-in_default
