@@ -7,7 +7,9 @@ use Rattle.cts_geom.specs.Coordinate.{int_abs_diff}
 use Rattle.cts_geom.specs.Points.{manhattan_of}
 use Rattle.cts_block.specs.declared.blocks.Block.{Block}
 use Rattle.cts_tree.specs.Path.{turns_of}
-use Rattle.cts_route.specs.Grid.{Direction, east, west, north, south, rank, IsAhead, Lines, IsGridPoint, IsClear, IsJoined}
+use Rattle.cts_route.specs.declared.direction.Direction.{Direction}
+use Rattle.cts_route.specs.declared.direction.Direction.TheVariants.{East, West, North, South}
+use Rattle.cts_route.specs.Grid.{rank, IsAhead, Lines, IsGridPoint, IsClear, IsJoined}
 use Rattle.cts_route.proofs.NextLine.{IsNextPoint, next_point}
 use Rattle.cts_route.proofs.Potential.{IsPotential, IsFall, Falls}
 use Rattle.cts_route.proofs.Segments.{clear_front, clear_back, on_segment}
@@ -67,65 +69,65 @@ away_potential blocks lines q =
 
 -- the end t of a leg in this direction lies where the goal is, seen along the leg; the leg along y ends at the goal
 unfoldable pub Toward : Direction → Half → Half → Type 0
-Toward east t q = t.x ≡ q.x
-Toward west t q = t.x ≡ q.x
-Toward north t q = (t.x ≡ q.x) × (t.y ≡ q.y)
-Toward south t q = (t.x ≡ q.x) × (t.y ≡ q.y)
+Toward East t q = t.x ≡ q.x
+Toward West t q = t.x ≡ q.x
+Toward North t q = (t.x ≡ q.x) × (t.y ≡ q.y)
+Toward South t q = (t.x ≡ q.x) × (t.y ≡ q.y)
 
 -- a step along the leg falls by its whole length
 whole_along : (d : Direction) (p n t q : Half) → IsAhead d p n → (n.x ≡ t.x) × (n.y ≡ t.y) ⊎ IsAhead d n t → Toward d t q
     → manhattan_of p q ≡ manhattan_of p n + manhattan_of n q
 unfolding Toward
-whole_along east p n t q ahead (inl on) to =
+whole_along East p n t q ahead (inl on) to =
     sum_same _ _ _ _ _ _ (abs_between p.x n.x q.x (omega (arith, ints)) (let e : n.x ≡ t.x = on.0 in omega (arith, ints))) (abs_same p.y n.y q.y ahead.1)
-whole_along east p n t q ahead (inr on) to =
+whole_along East p n t q ahead (inr on) to =
     sum_same _ _ _ _ _ _ (abs_between p.x n.x q.x (omega (arith, ints)) (omega (arith, ints))) (abs_same p.y n.y q.y ahead.1)
-whole_along west p n t q ahead (inl on) to =
+whole_along West p n t q ahead (inl on) to =
     sum_same _ _ _ _ _ _ (abs_between_down p.x n.x q.x (omega (arith, ints)) (let e : n.x ≡ t.x = on.0 in omega (arith, ints))) (abs_same p.y n.y q.y ahead.1)
-whole_along west p n t q ahead (inr on) to =
+whole_along West p n t q ahead (inr on) to =
     sum_same _ _ _ _ _ _ (abs_between_down p.x n.x q.x (omega (arith, ints)) (omega (arith, ints))) (abs_same p.y n.y q.y ahead.1)
-whole_along north p n t q ahead (inl on) to =
+whole_along North p n t q ahead (inl on) to =
     sum_same _ _ _ _ _ _ (abs_same p.x n.x q.x ahead.0) (abs_between p.y n.y q.y (omega (arith, ints)) (let e : n.y ≡ t.y = on.1 in omega (arith, ints)))
-whole_along north p n t q ahead (inr on) to =
+whole_along North p n t q ahead (inr on) to =
     sum_same _ _ _ _ _ _ (abs_same p.x n.x q.x ahead.0) (abs_between p.y n.y q.y (omega (arith, ints)) (omega (arith, ints)))
-whole_along south p n t q ahead (inl on) to =
+whole_along South p n t q ahead (inl on) to =
     sum_same _ _ _ _ _ _ (abs_same p.x n.x q.x ahead.0) (abs_between_down p.y n.y q.y (omega (arith, ints)) (let e : n.y ≡ t.y = on.1 in omega (arith, ints)))
-whole_along south p n t q ahead (inr on) to =
+whole_along South p n t q ahead (inr on) to =
     sum_same _ _ _ _ _ _ (abs_same p.x n.x q.x ahead.0) (abs_between_down p.y n.y q.y (omega (arith, ints)) (omega (arith, ints)))
 
 whole_along_self : (d : Direction) (p n t : Half) → IsAhead d p n → IsAhead d n t → manhattan_of p t ≡ manhattan_of p n + manhattan_of n t
 unfolding Toward
-whole_along_self east p n t ahead on = whole_along east p n t t ahead (inr on) refl
-whole_along_self west p n t ahead on = whole_along west p n t t ahead (inr on) refl
-whole_along_self north p n t ahead on = whole_along north p n t t ahead (inr on) (refl, refl)
-whole_along_self south p n t ahead on = whole_along south p n t t ahead (inr on) (refl, refl)
+whole_along_self East p n t ahead on = whole_along East p n t t ahead (inr on) refl
+whole_along_self West p n t ahead on = whole_along West p n t t ahead (inr on) refl
+whole_along_self North p n t ahead on = whole_along North p n t t ahead (inr on) (refl, refl)
+whole_along_self South p n t ahead on = whole_along South p n t t ahead (inr on) (refl, refl)
 
 -- each earlier direction leads off
 off_along : (d other : Direction) (p m t q : Half) → rank other < rank d → IsAhead d p t → Toward d t q → IsAhead other p m
     → manhattan_of p q < manhattan_of p m + manhattan_of m q
 unfolding Toward
-off_along west east p m t q before ahead to other =
+off_along West East p m t q before ahead to other =
     sum_below _ _ _ _ _ _ (abs_off_up p.x m.x q.x (omega (arith, ints)) other.0) (abs_triangle p.y m.y q.y)
-off_along north east p m t q before ahead to other =
+off_along North East p m t q before ahead to other =
     sum_below _ _ _ _ _ _ (abs_off_up p.x m.x q.x (omega (arith, ints)) other.0) (abs_triangle p.y m.y q.y)
-off_along north west p m t q before ahead to other =
+off_along North West p m t q before ahead to other =
     sum_below _ _ _ _ _ _ (abs_off_down p.x m.x q.x (omega (arith, ints)) other.0) (abs_triangle p.y m.y q.y)
-off_along south east p m t q before ahead to other =
+off_along South East p m t q before ahead to other =
     sum_below _ _ _ _ _ _ (abs_off_up p.x m.x q.x (omega (arith, ints)) other.0) (abs_triangle p.y m.y q.y)
-off_along south west p m t q before ahead to other =
+off_along South West p m t q before ahead to other =
     sum_below _ _ _ _ _ _ (abs_off_down p.x m.x q.x (omega (arith, ints)) other.0) (abs_triangle p.y m.y q.y)
-off_along south north p m t q before ahead to other =
+off_along South North p m t q before ahead to other =
     sum_below_y _ _ _ _ _ _ (abs_triangle p.x m.x q.x) (abs_off_up p.y m.y q.y (omega (arith, ints)) other.1)
-off_along east east p m t q before ahead to other = absurd (omega arith)
-off_along east west p m t q before ahead to other = absurd (omega arith)
-off_along east north p m t q before ahead to other = absurd (omega arith)
-off_along east south p m t q before ahead to other = absurd (omega arith)
-off_along west west p m t q before ahead to other = absurd (omega arith)
-off_along west north p m t q before ahead to other = absurd (omega arith)
-off_along west south p m t q before ahead to other = absurd (omega arith)
-off_along north north p m t q before ahead to other = absurd (omega arith)
-off_along north south p m t q before ahead to other = absurd (omega arith)
-off_along south south p m t q before ahead to other = absurd (omega arith)
+off_along East East p m t q before ahead to other = absurd (omega arith)
+off_along East West p m t q before ahead to other = absurd (omega arith)
+off_along East North p m t q before ahead to other = absurd (omega arith)
+off_along East South p m t q before ahead to other = absurd (omega arith)
+off_along West West p m t q before ahead to other = absurd (omega arith)
+off_along West North p m t q before ahead to other = absurd (omega arith)
+off_along West South p m t q before ahead to other = absurd (omega arith)
+off_along North North p m t q before ahead to other = absurd (omega arith)
+off_along North South p m t q before ahead to other = absurd (omega arith)
+off_along South South p m t q before ahead to other = absurd (omega arith)
 
 parts_of_same : (d : Direction) (n t : Half) → (n ≡ t) ⊎ IsAhead d n t → (n.x ≡ t.x) × (n.y ≡ t.y) ⊎ IsAhead d n t
 parts_of_same d n t (inl e) = inl (ap (λ (r : Half). r.x) e, ap (λ (r : Half). r.y) e)

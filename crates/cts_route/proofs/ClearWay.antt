@@ -12,7 +12,9 @@ use Rattle.cts_block.specs.declared.blocks.Kind.TheVariants.{Buffer}
 use Rattle.cts_block.specs.FreePoints.{StopsWires}
 use Rattle.cts_tree.specs.declared.route.Route.{Route}
 use Rattle.cts_tree.specs.Path.{path_length, turns_of}
-use Rattle.cts_route.specs.Grid.{Direction, east, west, north, south, IsAhead, fixed_xs, fixed_ys, Lines, lines_of, IsGridPoint, IsClear, IsJoined}
+use Rattle.cts_route.specs.declared.direction.Direction.{Direction}
+use Rattle.cts_route.specs.declared.direction.Direction.TheVariants.{East, West, North, South}
+use Rattle.cts_route.specs.Grid.{IsAhead, fixed_xs, fixed_ys, Lines, lines_of, IsGridPoint, IsClear, IsJoined}
 use Rattle.cts_route.specs.Routes.{IsShortest, TakesFirstSteps}
 use Rattle.cts_route.specs.Laws.{bend_of, RunsAlongXFirst, ClearWayIsRoute, RouteWithoutWalls}
 use Rattle.cts_route.proofs.NextLine.{Contains-first, Contains-later}
@@ -28,11 +30,11 @@ pub record IsWay (blocks : List Block) (lines : Lines) (p q : Half) (points : Li
   pub straight : (p.x ≡ q.x) ⊎ (p.y ≡ q.y) → turns_of (p ∷ points) ≡ []
 
 -- two points differ along an axis in one of its two directions, or not at all
-along_x : {P : Type 0} (p t : Half) → p.y ≡ t.y → (IsAhead east p t → P) → (IsAhead west p t → P) → (p.x ≡ t.x → P) → P
+along_x : {P : Type 0} (p t : Half) → p.y ≡ t.y → (IsAhead East p t → P) → (IsAhead West p t → P) → (p.x ≡ t.x → P) → P
 along_x p t level up down same =
     by_lt_z p.x t.x (λ lt. up (lt, level)) (λ le. by_lt_z t.x p.x (λ lt. down (lt, level)) (λ ge. same (omega (arith, ints))))
 
-along_y : {P : Type 0} (p t : Half) → p.x ≡ t.x → (IsAhead north p t → P) → (IsAhead south p t → P) → (p.y ≡ t.y → P) → P
+along_y : {P : Type 0} (p t : Half) → p.x ≡ t.x → (IsAhead North p t → P) → (IsAhead South p t → P) → (p.y ≡ t.y → P) → P
 along_y p t level up down same =
     by_lt_z p.y t.y (λ lt. up (level, lt)) (λ le. by_lt_z t.y p.y (λ lt. down (level, lt)) (λ ge. same (omega (arith, ints))))
 
@@ -97,24 +99,24 @@ way blocks lines p q start goal first second =
     let corner : IsGridPoint lines b = record { x = goal.x; y = start.y } in
     along_x {P = P} p b refl
     (λ over. along_y {P = P} b q refl
-    (λ up. bent_way blocks lines east p q (ne_of_lt p.x q.x over.0) (ne_of_lt p.y q.y up.1)
-    (first_leg blocks lines east north p b q start corner over refl first east_north (last_leg blocks lines north b q corner goal up (refl, refl) second)))
-    (λ up. bent_way blocks lines east p q (ne_of_lt p.x q.x over.0) (ne_of_gt p.y q.y up.1)
-    (first_leg blocks lines east south p b q start corner over refl first east_south (last_leg blocks lines south b q corner goal up (refl, refl) second)))
-    (λ level. straight_way blocks lines east p q (inr level)
-    (last_leg blocks lines east p q start goal (over.0, level) refl (clear_to blocks p b q (half_same b q refl level) first))))
+    (λ up. bent_way blocks lines East p q (ne_of_lt p.x q.x over.0) (ne_of_lt p.y q.y up.1)
+    (first_leg blocks lines East North p b q start corner over refl first east_north (last_leg blocks lines North b q corner goal up (refl, refl) second)))
+    (λ up. bent_way blocks lines East p q (ne_of_lt p.x q.x over.0) (ne_of_gt p.y q.y up.1)
+    (first_leg blocks lines East South p b q start corner over refl first east_south (last_leg blocks lines South b q corner goal up (refl, refl) second)))
+    (λ level. straight_way blocks lines East p q (inr level)
+    (last_leg blocks lines East p q start goal (over.0, level) refl (clear_to blocks p b q (half_same b q refl level) first))))
     (λ over. along_y {P = P} b q refl
-    (λ up. bent_way blocks lines west p q (ne_of_gt p.x q.x over.0) (ne_of_lt p.y q.y up.1)
-    (first_leg blocks lines west north p b q start corner over refl first west_north (last_leg blocks lines north b q corner goal up (refl, refl) second)))
-    (λ up. bent_way blocks lines west p q (ne_of_gt p.x q.x over.0) (ne_of_gt p.y q.y up.1)
-    (first_leg blocks lines west south p b q start corner over refl first west_south (last_leg blocks lines south b q corner goal up (refl, refl) second)))
-    (λ level. straight_way blocks lines west p q (inr level)
-    (last_leg blocks lines west p q start goal (over.0, level) refl (clear_to blocks p b q (half_same b q refl level) first))))
+    (λ up. bent_way blocks lines West p q (ne_of_gt p.x q.x over.0) (ne_of_lt p.y q.y up.1)
+    (first_leg blocks lines West North p b q start corner over refl first west_north (last_leg blocks lines North b q corner goal up (refl, refl) second)))
+    (λ up. bent_way blocks lines West p q (ne_of_gt p.x q.x over.0) (ne_of_gt p.y q.y up.1)
+    (first_leg blocks lines West South p b q start corner over refl first west_south (last_leg blocks lines South b q corner goal up (refl, refl) second)))
+    (λ level. straight_way blocks lines West p q (inr level)
+    (last_leg blocks lines West p q start goal (over.0, level) refl (clear_to blocks p b q (half_same b q refl level) first))))
     (λ above. along_y {P = P} p q above
-    (λ up. straight_way blocks lines north p q (inl above)
-    (last_leg blocks lines north p q start goal up (refl, refl) (clear_from blocks b p q (half_same b p (sym above) refl) second)))
-    (λ up. straight_way blocks lines south p q (inl above)
-    (last_leg blocks lines south p q start goal up (refl, refl) (clear_from blocks b p q (half_same b p (sym above) refl) second)))
+    (λ up. straight_way blocks lines North p q (inl above)
+    (last_leg blocks lines North p q start goal up (refl, refl) (clear_from blocks b p q (half_same b p (sym above) refl) second)))
+    (λ up. straight_way blocks lines South p q (inl above)
+    (last_leg blocks lines South p q start goal up (refl, refl) (clear_from blocks b p q (half_same b p (sym above) refl) second)))
     (λ level. no_way blocks lines p q (half_same p q above level)))
   where
     ne_of_lt : (a b : ℤ) → a <ℤ b → a ≢ b
@@ -123,16 +125,16 @@ way blocks lines p q start goal first second =
     ne_of_gt : (a b : ℤ) → b <ℤ a → a ≢ b
     ne_of_gt a b lt = λ e. absurd (omega (arith, ints))
 
-    east_north : east ≢ north
+    east_north : East ≢ North
     east_north = λ e. cc
 
-    east_south : east ≢ south
+    east_south : East ≢ South
     east_south = λ e. cc
 
-    west_north : west ≢ north
+    west_north : West ≢ North
     west_north = λ e. cc
 
-    west_south : west ≢ south
+    west_south : West ≢ South
     west_south = λ e. cc
 
     clear_to : (blocks : List Block) (p b q : Half) → b ≡ q → IsClear blocks p b → IsClear blocks p q

@@ -4,7 +4,9 @@ use Rattle.std.specs.List.{Contains}
 use Rattle.std.proofs.lemmas.Int.{ints, by_lt_z}
 use Rattle.cts_geom.specs.declared.points.Half.{Half}
 use Rattle.cts_geom.proofs.PointLemmas.{half_same}
-use Rattle.cts_route.specs.Grid.{Direction, east, west, north, south, IsAhead, Lines, IsGridPoint}
+use Rattle.cts_route.specs.declared.direction.Direction.{Direction}
+use Rattle.cts_route.specs.declared.direction.Direction.TheVariants.{East, West, North, South}
+use Rattle.cts_route.specs.Grid.{IsAhead, Lines, IsGridPoint}
 
 pub Contains-cases : {X : Type 0} (x : X) (xs : List X) (c : X) → Contains (x ∷ xs) c → (x ≡ c) ⊎ Contains xs c
 Contains-cases x xs c (zero, lt, at) = inl at
@@ -107,7 +109,7 @@ line_there lines b line there (inr h) = h
 
 pub next_point : (lines : Lines) (direction : Direction) (p t : Half) → IsGridPoint lines p → IsGridPoint lines t
     → IsAhead direction p t → (n : Half) × IsNextPoint lines direction p t n
-next_point lines east p t start goal ahead =
+next_point lines East p t start goal ahead =
     let line : (x : ℤ) × IsNextAbove lines.xs p.x t.x x = next_above lines.xs p.x t.x ahead.0 in
     let n : Half = record { x = line.0; y = p.y } in (
       n,
@@ -116,10 +118,10 @@ next_point lines east p t start goal ahead =
         ahead = (line.1.above, refl);
         nearest = λ r there after before. line.1.nearest r.x there.x after.0 before.0;
         up_to = let le : line.0 ≤ℤ t.x = line.1.up_to in
-            by_lt_z {P = (n ≡ t) ⊎ IsAhead east n t} line.0 t.x (λ lt. inr (lt, ahead.1)) (λ ge. inl (half_same n t (omega (arith, ints)) ahead.1));
+            by_lt_z {P = (n ≡ t) ⊎ IsAhead East n t} line.0 t.x (λ lt. inr (lt, ahead.1)) (λ ge. inl (half_same n t (omega (arith, ints)) ahead.1));
       },
     )
-next_point lines west p t start goal ahead =
+next_point lines West p t start goal ahead =
     let line : (x : ℤ) × IsNextBelow lines.xs p.x t.x x = next_below lines.xs p.x t.x ahead.0 in
     let n : Half = record { x = line.0; y = p.y } in (
       n,
@@ -128,10 +130,10 @@ next_point lines west p t start goal ahead =
         ahead = (line.1.below, refl);
         nearest = λ r there after before. line.1.nearest r.x there.x after.0 before.0;
         up_to = let le : t.x ≤ℤ line.0 = line.1.down_to in
-            by_lt_z {P = (n ≡ t) ⊎ IsAhead west n t} t.x line.0 (λ lt. inr (lt, ahead.1)) (λ ge. inl (half_same n t (omega (arith, ints)) ahead.1));
+            by_lt_z {P = (n ≡ t) ⊎ IsAhead West n t} t.x line.0 (λ lt. inr (lt, ahead.1)) (λ ge. inl (half_same n t (omega (arith, ints)) ahead.1));
       },
     )
-next_point lines north p t start goal ahead =
+next_point lines North p t start goal ahead =
     let line : (y : ℤ) × IsNextAbove lines.ys p.y t.y y = next_above lines.ys p.y t.y ahead.1 in
     let n : Half = record { x = p.x; y = line.0 } in (
       n,
@@ -140,10 +142,10 @@ next_point lines north p t start goal ahead =
         ahead = (refl, line.1.above);
         nearest = λ r there after before. line.1.nearest r.y there.y after.1 before.1;
         up_to = let le : line.0 ≤ℤ t.y = line.1.up_to in
-            by_lt_z {P = (n ≡ t) ⊎ IsAhead north n t} line.0 t.y (λ lt. inr (ahead.0, lt)) (λ ge. inl (half_same n t ahead.0 (omega (arith, ints))));
+            by_lt_z {P = (n ≡ t) ⊎ IsAhead North n t} line.0 t.y (λ lt. inr (ahead.0, lt)) (λ ge. inl (half_same n t ahead.0 (omega (arith, ints))));
       },
     )
-next_point lines south p t start goal ahead =
+next_point lines South p t start goal ahead =
     let line : (y : ℤ) × IsNextBelow lines.ys p.y t.y y = next_below lines.ys p.y t.y ahead.1 in
     let n : Half = record { x = p.x; y = line.0 } in (
       n,
@@ -152,6 +154,6 @@ next_point lines south p t start goal ahead =
         ahead = (refl, line.1.below);
         nearest = λ r there after before. line.1.nearest r.y there.y after.1 before.1;
         up_to = let le : t.y ≤ℤ line.0 = line.1.down_to in
-            by_lt_z {P = (n ≡ t) ⊎ IsAhead south n t} t.y line.0 (λ lt. inr (ahead.0, lt)) (λ ge. inl (half_same n t ahead.0 (omega (arith, ints))));
+            by_lt_z {P = (n ≡ t) ⊎ IsAhead South n t} t.y line.0 (λ lt. inr (ahead.0, lt)) (λ ge. inl (half_same n t ahead.0 (omega (arith, ints))));
       },
     )

@@ -3,7 +3,8 @@ use Rattle.std.proofs.Common.{◌≡◌, ℕ, ◌+◌, ◌<◌, ◌≤◌, List,
 use Rattle.cts_geom.specs.declared.points.Half.{Half}
 use Rattle.cts_geom.specs.Points.{manhattan_of}
 use Rattle.cts_tree.specs.Path.{path_length}
-use Rattle.cts_route.specs.Grid.{Direction, rank}
+use Rattle.cts_route.specs.declared.direction.Direction.{Direction}
+use Rattle.cts_route.specs.Grid.{rank}
 use Rattle.cts_route.specs.Routes.{IsPath, IsShortest, TakesFirstSteps}
 
 pub path_length-one : (p : Half) → path_length (p ∷ []) ≡ 0

@@ -3,7 +3,9 @@ use Rattle.std.proofs.Common.{◌≡◌, ◌⊎◌, inl, inr, ℤ, List, ap, ari
 use Rattle.std.proofs.lemmas.Int.{ints}
 use Rattle.cts_geom.specs.declared.points.Half.{Half}
 use Rattle.cts_block.specs.declared.blocks.Block.{Block}
-use Rattle.cts_route.specs.Grid.{Direction, east, west, north, south, IsAhead, IsWithin, IsOnSegment, IsClear}
+use Rattle.cts_route.specs.declared.direction.Direction.{Direction}
+use Rattle.cts_route.specs.declared.direction.Direction.TheVariants.{East, West, North, South}
+use Rattle.cts_route.specs.Grid.{IsAhead, IsWithin, IsOnSegment, IsClear}
 
 within_front : (a b c r : ℤ) → IsWithin a c b → IsWithin a b r → IsWithin a c r
 within_front a b c r (inl (lo, hi)) (inl (l, h)) = inl (omega (arith, ints), omega (arith, ints))
@@ -34,11 +36,11 @@ pub on_segment : (d : Direction) (p t n : Half) → IsAhead d p n → (n ≡ t) 
 on_segment d p t n ahead (inl same) = on_end d p t n ahead (ap (λ (r : Half). r.x) same) (ap (λ (r : Half). r.y) same)
   where
     on_end : (d : Direction) (p t n : Half) → IsAhead d p n → n.x ≡ t.x → n.y ≡ t.y → IsOnSegment p t n
-    on_end east p t n ahead x y = record { x = inl (omega (arith, ints), omega (arith, ints)); y = within_same p.y t.y n.y ahead.1 y }
-    on_end west p t n ahead x y = record { x = inr (omega (arith, ints), omega (arith, ints)); y = within_same p.y t.y n.y ahead.1 y }
-    on_end north p t n ahead x y = record { x = within_same p.x t.x n.x ahead.0 x; y = inl (omega (arith, ints), omega (arith, ints)) }
-    on_end south p t n ahead x y = record { x = within_same p.x t.x n.x ahead.0 x; y = inr (omega (arith, ints), omega (arith, ints)) }
-on_segment east p t n ahead (inr on) = record { x = inl (omega (arith, ints), omega (arith, ints)); y = within_same p.y t.y n.y ahead.1 on.1 }
-on_segment west p t n ahead (inr on) = record { x = inr (omega (arith, ints), omega (arith, ints)); y = within_same p.y t.y n.y ahead.1 on.1 }
-on_segment north p t n ahead (inr on) = record { x = within_same p.x t.x n.x ahead.0 on.0; y = inl (omega (arith, ints), omega (arith, ints)) }
-on_segment south p t n ahead (inr on) = record { x = within_same p.x t.x n.x ahead.0 on.0; y = inr (omega (arith, ints), omega (arith, ints)) }
+    on_end East p t n ahead x y = record { x = inl (omega (arith, ints), omega (arith, ints)); y = within_same p.y t.y n.y ahead.1 y }
+    on_end West p t n ahead x y = record { x = inr (omega (arith, ints), omega (arith, ints)); y = within_same p.y t.y n.y ahead.1 y }
+    on_end North p t n ahead x y = record { x = within_same p.x t.x n.x ahead.0 x; y = inl (omega (arith, ints), omega (arith, ints)) }
+    on_end South p t n ahead x y = record { x = within_same p.x t.x n.x ahead.0 x; y = inr (omega (arith, ints), omega (arith, ints)) }
+on_segment East p t n ahead (inr on) = record { x = inl (omega (arith, ints), omega (arith, ints)); y = within_same p.y t.y n.y ahead.1 on.1 }
+on_segment West p t n ahead (inr on) = record { x = inr (omega (arith, ints), omega (arith, ints)); y = within_same p.y t.y n.y ahead.1 on.1 }
+on_segment North p t n ahead (inr on) = record { x = within_same p.x t.x n.x ahead.0 on.0; y = inl (omega (arith, ints), omega (arith, ints)) }
+on_segment South p t n ahead (inr on) = record { x = within_same p.x t.x n.x ahead.0 on.0; y = inr (omega (arith, ints), omega (arith, ints)) }

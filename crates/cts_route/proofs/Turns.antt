@@ -5,15 +5,17 @@ use Rattle.std.specs.Prelude.{int_lt}
 use Rattle.std.proofs.lemmas.Int.{ints}
 use Rattle.cts_geom.specs.declared.points.Half.{Half}
 use Rattle.cts_tree.specs.Path.{keeps_on, goes_on, turns_of}
-use Rattle.cts_route.specs.Grid.{Direction, east, west, north, south, IsAhead}
+use Rattle.cts_route.specs.declared.direction.Direction.{Direction}
+use Rattle.cts_route.specs.declared.direction.Direction.TheVariants.{East, West, North, South}
+use Rattle.cts_route.specs.Grid.{IsAhead}
 
-int_lt-true : (a b : ℤ) → a <ℤ b → int_lt a b ≡ true
+pub int_lt-true : (a b : ℤ) → a <ℤ b → int_lt a b ≡ true
 int_lt-true a b h = grind (arith, ints)
 
-int_lt-false : (a b : ℤ) → b ≤ℤ a → int_lt a b ≡ false
+pub int_lt-false : (a b : ℤ) → b ≤ℤ a → int_lt a b ≡ false
 int_lt-false a b h = grind (arith, ints)
 
-keeps_on-is : (a b c : ℤ) (ab ba bc cb : Bool) → int_lt a b ≡ ab → int_lt b a ≡ ba → int_lt b c ≡ bc → int_lt c b ≡ cb
+pub keeps_on-is : (a b c : ℤ) (ab ba bc cb : Bool) → int_lt a b ≡ ab → int_lt b a ≡ ba → int_lt b c ≡ bc → int_lt c b ≡ cb
     → keeps_on a b c ≡ (beq ab bc && beq ba cb)
 unfolding keeps_on
 keeps_on-is a b c ab ba bc cb e f g h = cc
@@ -54,15 +56,15 @@ falls_then_rises : (a b c : ℤ) → b <ℤ a → b <ℤ c → keeps_on a b c �
 falls_then_rises a b c h k =
     keeps_on-is a b c false true true false (int_lt-false a b (omega (arith, ints))) (int_lt-true b a h) (int_lt-true b c k) (int_lt-false c b (omega (arith, ints)))
 
-goes_on-is : (p q r : Half) (x y : Bool) → keeps_on p.x q.x r.x ≡ x → keeps_on p.y q.y r.y ≡ y → goes_on p q r ≡ (x && y)
+pub goes_on-is : (p q r : Half) (x y : Bool) → keeps_on p.x q.x r.x ≡ x → keeps_on p.y q.y r.y ≡ y → goes_on p q r ≡ (x && y)
 unfolding goes_on
 goes_on-is p q r x y e f = cc
 
 pub goes_straight : (d : Direction) (p q r : Half) → IsAhead d p q → IsAhead d q r → goes_on p q r ≡ true
-goes_straight east p q r h k = goes_on-is p q r true true (rises p.x q.x r.x h.0 k.0) (stays p.y q.y r.y h.1 k.1)
-goes_straight west p q r h k = goes_on-is p q r true true (falls p.x q.x r.x h.0 k.0) (stays p.y q.y r.y h.1 k.1)
-goes_straight north p q r h k = goes_on-is p q r true true (stays p.x q.x r.x h.0 k.0) (rises p.y q.y r.y h.1 k.1)
-goes_straight south p q r h k = goes_on-is p q r true true (stays p.x q.x r.x h.0 k.0) (falls p.y q.y r.y h.1 k.1)
+goes_straight East p q r h k = goes_on-is p q r true true (rises p.x q.x r.x h.0 k.0) (stays p.y q.y r.y h.1 k.1)
+goes_straight West p q r h k = goes_on-is p q r true true (falls p.x q.x r.x h.0 k.0) (stays p.y q.y r.y h.1 k.1)
+goes_straight North p q r h k = goes_on-is p q r true true (stays p.x q.x r.x h.0 k.0) (rises p.y q.y r.y h.1 k.1)
+goes_straight South p q r h k = goes_on-is p q r true true (stays p.x q.x r.x h.0 k.0) (falls p.y q.y r.y h.1 k.1)
 
 turns_in_x : (p q r : Half) → keeps_on p.x q.x r.x ≡ false → goes_on p q r ≡ false
 turns_in_x p q r e = goes_on-is p q r false (keeps_on p.y q.y r.y) e refl
@@ -71,22 +73,22 @@ turns_in_y : (p q r : Half) → keeps_on p.x q.x r.x ≡ true → keeps_on p.y q
 turns_in_y p q r e f = goes_on-is p q r true false e f
 
 pub goes_round : (d e : Direction) (p q r : Half) → d ≢ e → IsAhead d p q → IsAhead e q r → goes_on p q r ≡ false
-goes_round east east p q r apart h k = absurd (apart refl)
-goes_round west west p q r apart h k = absurd (apart refl)
-goes_round north north p q r apart h k = absurd (apart refl)
-goes_round south south p q r apart h k = absurd (apart refl)
-goes_round east west p q r apart h k = turns_in_x p q r (rises_then_falls p.x q.x r.x h.0 k.0)
-goes_round west east p q r apart h k = turns_in_x p q r (falls_then_rises p.x q.x r.x h.0 k.0)
-goes_round east north p q r apart h k = turns_in_x p q r (stops_rising p.x q.x r.x h.0 k.0)
-goes_round east south p q r apart h k = turns_in_x p q r (stops_rising p.x q.x r.x h.0 k.0)
-goes_round west north p q r apart h k = turns_in_x p q r (stops_falling p.x q.x r.x h.0 k.0)
-goes_round west south p q r apart h k = turns_in_x p q r (stops_falling p.x q.x r.x h.0 k.0)
-goes_round north east p q r apart h k = turns_in_x p q r (starts_rising p.x q.x r.x h.0 k.0)
-goes_round north west p q r apart h k = turns_in_x p q r (starts_falling p.x q.x r.x h.0 k.0)
-goes_round south east p q r apart h k = turns_in_x p q r (starts_rising p.x q.x r.x h.0 k.0)
-goes_round south west p q r apart h k = turns_in_x p q r (starts_falling p.x q.x r.x h.0 k.0)
-goes_round north south p q r apart h k = turns_in_y p q r (stays p.x q.x r.x h.0 k.0) (rises_then_falls p.y q.y r.y h.1 k.1)
-goes_round south north p q r apart h k = turns_in_y p q r (stays p.x q.x r.x h.0 k.0) (falls_then_rises p.y q.y r.y h.1 k.1)
+goes_round East East p q r apart h k = absurd (apart refl)
+goes_round West West p q r apart h k = absurd (apart refl)
+goes_round North North p q r apart h k = absurd (apart refl)
+goes_round South South p q r apart h k = absurd (apart refl)
+goes_round East West p q r apart h k = turns_in_x p q r (rises_then_falls p.x q.x r.x h.0 k.0)
+goes_round West East p q r apart h k = turns_in_x p q r (falls_then_rises p.x q.x r.x h.0 k.0)
+goes_round East North p q r apart h k = turns_in_x p q r (stops_rising p.x q.x r.x h.0 k.0)
+goes_round East South p q r apart h k = turns_in_x p q r (stops_rising p.x q.x r.x h.0 k.0)
+goes_round West North p q r apart h k = turns_in_x p q r (stops_falling p.x q.x r.x h.0 k.0)
+goes_round West South p q r apart h k = turns_in_x p q r (stops_falling p.x q.x r.x h.0 k.0)
+goes_round North East p q r apart h k = turns_in_x p q r (starts_rising p.x q.x r.x h.0 k.0)
+goes_round North West p q r apart h k = turns_in_x p q r (starts_falling p.x q.x r.x h.0 k.0)
+goes_round South East p q r apart h k = turns_in_x p q r (starts_rising p.x q.x r.x h.0 k.0)
+goes_round South West p q r apart h k = turns_in_x p q r (starts_falling p.x q.x r.x h.0 k.0)
+goes_round North South p q r apart h k = turns_in_y p q r (stays p.x q.x r.x h.0 k.0) (rises_then_falls p.y q.y r.y h.1 k.1)
+goes_round South North p q r apart h k = turns_in_y p q r (stays p.x q.x r.x h.0 k.0) (falls_then_rises p.y q.y r.y h.1 k.1)
 
 pub turns_on : (p q r : Half) (points : List Half) → goes_on p q r ≡ true → turns_of (p ∷ q ∷ r ∷ points) ≡ turns_of (q ∷ r ∷ points)
 unfolding turns_of

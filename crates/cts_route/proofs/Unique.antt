@@ -7,7 +7,9 @@ use Rattle.cts_geom.proofs.PointLemmas.{half_same}
 use Rattle.cts_block.specs.declared.blocks.Block.{Block}
 use Rattle.cts_tree.specs.declared.route.Route.{Route}
 use Rattle.cts_tree.specs.Path.{path_length, Follows, turns_of}
-use Rattle.cts_route.specs.Grid.{Direction, east, west, north, south, rank, IsAhead, Lines, lines_of, IsJoined}
+use Rattle.cts_route.specs.declared.direction.Direction.{Direction}
+use Rattle.cts_route.specs.declared.direction.Direction.TheVariants.{East, West, North, South}
+use Rattle.cts_route.specs.Grid.{rank, IsAhead, Lines, lines_of, IsJoined}
 use Rattle.cts_route.specs.Routes.{IsPath, IsShortest, IsFirstStep, TakesFirstSteps}
 use Rattle.cts_route.specs.Laws.{RouteIsOne, RouteIsNotCut}
 use Rattle.cts_route.proofs.Potential.{path_length-one, path_length-step}
@@ -43,24 +45,24 @@ no_steps Joined simple p n points q same shortest =
     no_step _ _ _ (path_length-step p n points) least (simple.apart shortest.path.0.0 p n shortest.path.0.1)
 
 same_rank : (d e : Direction) → rank d ≡ rank e → d ≡ e
-same_rank east east h = refl
-same_rank west west h = refl
-same_rank north north h = refl
-same_rank south south h = refl
-same_rank east west h = absurd (omega arith)
-same_rank east north h = absurd (omega arith)
-same_rank east south h = absurd (omega arith)
-same_rank west east h = absurd (omega arith)
-same_rank west north h = absurd (omega arith)
-same_rank west south h = absurd (omega arith)
-same_rank north east h = absurd (omega arith)
-same_rank north west h = absurd (omega arith)
-same_rank north south h = absurd (omega arith)
-same_rank south east h = absurd (omega arith)
-same_rank south west h = absurd (omega arith)
-same_rank south north h = absurd (omega arith)
+same_rank East East h = refl
+same_rank West West h = refl
+same_rank North North h = refl
+same_rank South South h = refl
+same_rank East West h = absurd (omega arith)
+same_rank East North h = absurd (omega arith)
+same_rank East South h = absurd (omega arith)
+same_rank West East h = absurd (omega arith)
+same_rank West North h = absurd (omega arith)
+same_rank West South h = absurd (omega arith)
+same_rank North East h = absurd (omega arith)
+same_rank North West h = absurd (omega arith)
+same_rank North South h = absurd (omega arith)
+same_rank South East h = absurd (omega arith)
+same_rank South West h = absurd (omega arith)
+same_rank South North h = absurd (omega arith)
 
-by_order : {P : Type 0} (a b : ℕ) → (a < b → P) → (b < a → P) → (a ≡ b → P) → P
+pub by_order : {P : Type 0} (a b : ℕ) → (a < b → P) → (b < a → P) → (a ≡ b → P) → P
 by_order a b below above same =
     by_lt_z (pos a) (pos b) (λ lt. below (omega (arith, ints)))
     (λ le. by_lt_z (pos b) (pos a) (λ lt. above (omega (arith, ints))) (λ ge. same (omega (arith, ints))))
@@ -93,24 +95,24 @@ same_points Joined simple p (n ∷ points) (m ∷ others) q a first b other =
 -- ---- the grid
 -- of two points straight ahead in one direction one is ahead of the other, or they are equal
 pub by_place : {P : Type 0} (d : Direction) (p n m : Half) → IsAhead d p n → IsAhead d p m → (IsAhead d n m → P) → (IsAhead d m n → P) → (n ≡ m → P) → P
-by_place east p n m a b before after same =
+by_place East p n m a b before after same =
     let level : n.y ≡ m.y = sym a.1 ∙ b.1 in
     by_lt_z n.x m.x (λ lt. before (lt, level)) (λ le. by_lt_z m.x n.x (λ lt. after (lt, sym level)) (λ ge. same (half_same n m (omega (arith, ints)) level)))
-by_place west p n m a b before after same =
+by_place West p n m a b before after same =
     let level : n.y ≡ m.y = sym a.1 ∙ b.1 in
     by_lt_z m.x n.x (λ lt. before (lt, level)) (λ le. by_lt_z n.x m.x (λ lt. after (lt, sym level)) (λ ge. same (half_same n m (omega (arith, ints)) level)))
-by_place north p n m a b before after same =
+by_place North p n m a b before after same =
     let level : n.x ≡ m.x = sym a.0 ∙ b.0 in
     by_lt_z n.y m.y (λ lt. before (level, lt)) (λ le. by_lt_z m.y n.y (λ lt. after (sym level, lt)) (λ ge. same (half_same n m level (omega (arith, ints)))))
-by_place south p n m a b before after same =
+by_place South p n m a b before after same =
     let level : n.x ≡ m.x = sym a.0 ∙ b.0 in
     by_lt_z m.y n.y (λ lt. before (level, lt)) (λ le. by_lt_z n.y m.y (λ lt. after (sym level, lt)) (λ ge. same (half_same n m level (omega (arith, ints)))))
 
 pub ahead-apart : (d : Direction) (p n : Half) → IsAhead d p n → 0 < manhattan_of p n
-ahead-apart east p n ahead = omega (arith, ints)
-ahead-apart west p n ahead = omega (arith, ints)
-ahead-apart north p n ahead = omega (arith, ints)
-ahead-apart south p n ahead = omega (arith, ints)
+ahead-apart East p n ahead = omega (arith, ints)
+ahead-apart West p n ahead = omega (arith, ints)
+ahead-apart North p n ahead = omega (arith, ints)
+ahead-apart South p n ahead = omega (arith, ints)
 
 pub joined_simple : (blocks : List Block) (lines : Lines) → IsSimple (IsJoined blocks lines)
 joined_simple blocks lines =

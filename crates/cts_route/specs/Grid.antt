@@ -7,26 +7,22 @@ use Rattle.cts_block.specs.declared.blocks.Block.{Block}
 use Rattle.cts_block.specs.declared.blocks.Kind.{Kind}
 use Rattle.cts_block.specs.declared.blocks.Kind.TheVariants.{Buffer}
 use Rattle.cts_block.specs.FreePoints.{IsOpenToWires}
+use Rattle.cts_route.specs.declared.direction.Direction.{Direction}
+use Rattle.cts_route.specs.declared.direction.Direction.TheVariants.{East, West, North, South}
 
--- the four directions, in the order in which a route prefers them: +x, -x, +y, -y
-pub data Direction : Type 0 where
-  east : Direction
-  west : Direction
-  north : Direction
-  south : Direction
-
+-- the place of a direction in the order in which a route prefers them: +x, -x, +y, -y
 abbrev pub rank : Direction → ℕ
-rank east = 0
-rank west = 1
-rank north = 2
-rank south = 3
+rank East = 0
+rank West = 1
+rank North = 2
+rank South = 3
 
 -- q lies straight ahead of p
 abbrev pub IsAhead : Direction → Half → Half → Type 0
-IsAhead east p q = (p.x <ℤ q.x) × (p.y ≡ q.y)
-IsAhead west p q = (q.x <ℤ p.x) × (p.y ≡ q.y)
-IsAhead north p q = (p.x ≡ q.x) × (p.y <ℤ q.y)
-IsAhead south p q = (p.x ≡ q.x) × (q.y <ℤ p.y)
+IsAhead East p q = (p.x <ℤ q.x) × (p.y ≡ q.y)
+IsAhead West p q = (q.x <ℤ p.x) × (p.y ≡ q.y)
+IsAhead North p q = (p.x ≡ q.x) × (p.y <ℤ q.y)
+IsAhead South p q = (p.x ≡ q.x) × (q.y <ℤ p.y)
 
 -- the two edges of a block that stops wires, from its nm
 abbrev pub edges_of : Kind → ℤ → ℤ → List ℤ

@@ -1,4 +1,12 @@
 pub mod Grid
 pub mod Routes
 pub mod Laws
+pub mod Limits
+pub mod Walls
+pub mod Grids
+pub mod WindowOf
+pub mod Walks
+pub mod Windows
+pub mod Search
+pub mod LineLists
 pub use Rattle.cts_tree.specs.Path

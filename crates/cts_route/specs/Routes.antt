@@ -6,7 +6,8 @@ use Rattle.cts_geom.specs.declared.points.Half.{Half}
 use Rattle.cts_block.specs.declared.blocks.Block.{Block}
 use Rattle.cts_tree.specs.declared.route.Route.{Route}
 use Rattle.cts_tree.specs.Path.{path_length, Follows}
-use Rattle.cts_route.specs.Grid.{Direction, rank, lines_of, IsJoined}
+use Rattle.cts_route.specs.declared.direction.Direction.{Direction}
+use Rattle.cts_route.specs.Grid.{rank, lines_of, IsJoined}
 
 -- from p to q, each point is joined to the next
 unfoldable pub IsPath : (Direction → Half → Half → Type 0) → Half → List Half → Half → Type 0

@@ -1,4 +1,27 @@
 //! Routes of wires: shortest paths of a grid round the blocks that stop wires.
+//!
+//! A layer above calls [`route`], or makes one [`Grid`] for a die with its blocks and asks it for many
+//! routes. It cites `specs/Routes.antt` for what a route is and when two points are cut, and
+//! `specs/Grid.antt` for the grid; both range over lists of points and know no table, heap or window.
+//! `laws` says that there is one route at most, none between points that are cut, and that the way
+//! along x first and then along y is the route where it is clear.
+//!
+//! Below the calls stand the walls and the clear segments (`clear`), the lines (`lines`), the numbered
+//! points of a grid with the lengths of their steps (`window`, `graph`), the labels of a search
+//! (`table`) and the way down along them (`walk`).
 #![tactic(auto)]
 
+mod clear;
+mod direction;
+mod end;
+mod graph;
+mod grid;
 pub mod laws;
+mod lines;
+mod table;
+mod walk;
+mod wall;
+mod window;
+
+pub use end::RouteEnd;
+pub use grid::{Grid, route};

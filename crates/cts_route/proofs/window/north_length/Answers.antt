@@ -1,0 +1,20 @@
+use Rattle.std.proofs.Common.{◌≡◌, ◌+◌, length, sym, subst, arith}
+use Rattle.cts_geom.specs.declared.points.Half.{Half}
+use Rattle.cts_route.specs.Windows.{point_at, AreOrdered, IsStepLength}
+use Rattle.cts_route.proofs.Steps.{north_of, ordered_north, no_north, a_north}
+use Rattle.cts_route.proofs.window.north_length.Goals as goal
+
+pub step_length-requires : goal.step_length-requires
+step_length-requires c =
+    subst (λ (p : Half). AreOrdered p c.point_at-2.result) (sym c.point_at.ensures)
+    (subst (λ (q : Half). AreOrdered (point_at c.args.xs.now c.args.ys.now c.args.cell) q) (sym c.point_at-2.ensures)
+    (ordered_north _ _ (north_of c.args.xs.now c.args.ys.now c.args.cell c.requires.xs c.requires.ys (omega arith))))
+
+pub returns-then-cell-ys : goal.returns-then-cell-ys
+returns-then-cell-ys c = no_north c.args.walls.now c.args.xs.now c.args.ys.now c.args.cell (omega arith)
+
+pub returns : goal.returns
+returns c =
+    a_north c.args.walls.now c.args.xs.now c.args.ys.now c.args.cell c.step_length.result (omega arith)
+    (subst (λ (p : Half). IsStepLength c.args.walls.now p (point_at c.args.xs.now c.args.ys.now (c.args.cell + 1)) c.step_length.result) c.point_at.ensures
+    (subst (λ (q : Half). IsStepLength c.args.walls.now c.point_at.result q c.step_length.result) c.point_at-2.ensures c.step_length.ensures))

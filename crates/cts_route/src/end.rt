@@ -1,0 +1,34 @@
+//! Why there is no route.
+
+use std::alloc::{AllocError, AllocFailed};
+
+/// Why there is no route.
+#[derive(Clone, Copy, Debug, PartialEq, Eq)]
+pub enum RouteEnd {
+    /// No path of the grid joins the two points.
+    Cut,
+    /// Memory ran out.
+    NoMemory,
+}
+
+impl From<AllocError> for RouteEnd {
+    ghost use Rattle.std.specs.Prelude.{◌≡◌};
+    ghost use Rattle.cts_route.specs.declared.end.RouteEnd.TheVariants.{NoMemory};
+
+    ghost from_gives = { λ _ end. end ≡ NoMemory };
+
+    fn from(_error: AllocError) -> RouteEnd {
+        RouteEnd::NoMemory
+    }
+}
+
+impl<T: Drop> From<AllocFailed<T>> for RouteEnd {
+    ghost use Rattle.std.specs.Prelude.{◌≡◌};
+    ghost use Rattle.cts_route.specs.declared.end.RouteEnd.TheVariants.{NoMemory};
+
+    ghost from_gives = { λ _ end. end ≡ NoMemory };
+
+    fn from(_error: AllocFailed<T>) -> RouteEnd {
+        RouteEnd::NoMemory
+    }
+}

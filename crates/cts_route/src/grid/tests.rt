@@ -1,0 +1,82 @@
+use super::{Grid, route};
+use crate::end::RouteEnd;
+use cts_block::{Block, Kind};
+use cts_geom::{Die, Half, Spot, spot_of};
+use std::test::Fail;
+
+const DIE: Die = Die {
+    x1: 0,
+    y1: 0,
+    x2: 20_000,
+    y2: 20_000,
+};
+
+fn wall(x1: i64, y1: i64, x2: i64, y2: i64) -> Block {
+    Block {
+        kind: Kind::All,
+        x1,
+        y1,
+        x2,
+        y2,
+    }
+}
+
+fn half(x: i64, y: i64) -> Half {
+    Half { x, y }
+}
+
+#[test]
+fn goes_round_a_block(rt: HostRuntime) -> Result<(), Fail> {
+    // From (0, 5) to (10, 5) um by (4, 5), (4, 2) and (10, 2), 16 um in all. The second list has a
+    // block below, whose edge y = 2 is free.
+    let (from, to) = (spot_of(0, 5_000), spot_of(10_000, 5_000));
+    let corners = [half(8_000, 10_000), half(8_000, 4_000), half(20_000, 4_000)];
+    let one = [wall(4_000, 2_000, 6_000, 9_000)];
+    let found = route(rt.alloc(), &one, &DIE, from, to)?;
+    assert_eq!(rt; found.length, 16_000);
+    assert_eq!(rt; found.corners.items(), corners.as_slice());
+    let two = [
+        wall(4_000, 2_000, 6_000, 9_000),
+        wall(4_000, 0, 6_000, 2_000),
+    ];
+    let found = route(rt.alloc(), &two, &DIE, from, to)?;
+    assert_eq!(rt; found.length, 16_000);
+    assert_eq!(rt; found.corners.items(), corners.as_slice());
+    Ok(())
+}
+
+#[test]
+fn finds_no_way_into_a_pocket(rt: HostRuntime) -> Result<(), Fail> {
+    let blocks = [
+        wall(7_000, 7_000, 9_000, 13_000),
+        wall(11_000, 7_000, 13_000, 13_000),
+        wall(7_000, 7_000, 13_000, 9_000),
+        wall(7_000, 11_000, 13_000, 13_000),
+    ];
+    let grid = Grid::of(rt.alloc(), &blocks, &DIE)?;
+    let end = grid
+        .route(rt.alloc(), spot_of(0, 5_000), spot_of(10_000, 10_000))
+        .err();
+    assert_eq!(rt; end, Some(RouteEnd::Cut));
+    Ok(())
+}
+
+#[test]
+fn bends_once_where_it_is_clear(rt: HostRuntime) -> Result<(), Fail> {
+    let found = route(rt.alloc(), &[], &DIE, spot_of(0, 0), spot_of(3_000, 4_000))?;
+    assert_eq!(rt; found.length, 7_000);
+    assert_eq!(rt; found.corners.items(), [half(6_000, 0)].as_slice());
+    // Equal ends, and ends at half nm: (0.5, 1.5) and (2.5, 0.5).
+    let found = route(rt.alloc(), &[], &DIE, spot_of(5, 6), spot_of(5, 6))?;
+    assert_eq!(rt; (found.length, found.corners.items().len()), (0, 0));
+    let found = route(
+        rt.alloc(),
+        &[],
+        &DIE,
+        Spot { u: 2, v: -1 },
+        Spot { u: 3, v: 2 },
+    )?;
+    assert_eq!(rt; found.length, 3);
+    assert_eq!(rt; found.corners.items(), [half(5, 3)].as_slice());
+    Ok(())
+}
