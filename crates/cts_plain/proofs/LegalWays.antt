@@ -77,8 +77,10 @@ module _ (blocks : List Block) (die : Die) (open_ : All (λ block. block.kind �
     legal = subst (λ corners. ((from ≡ to) × (corners ≡ []))
         ⊎ (HasAxisSteps (points_along from corners to) × AllAlong (IsFreeForWire blocks die) (points_along from corners to)))
         (sym one)
-        (inr ((inl (x, refl), (inr (refl, y), tt)),
-        (free_on from (bend_of from to) from_in bend_in, (free_on (bend_of from to) to bend_in to_in, free_in_die blocks die to open_ to_in))));
+        (inr (
+          (inl (x, refl), (inr (refl, y), tt)),
+          (free_on from (bend_of from to) from_in bend_in, (free_on (bend_of from to) to bend_in to_in, free_in_die blocks die to open_ to_in)),
+        ));
     long = ap (λ corners. path_length (points_along from corners to)) one ∙ bent_length ∙ sym runs.length;
   }
     where

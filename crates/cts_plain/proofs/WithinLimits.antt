@@ -152,8 +152,7 @@ module _ (i : Parts) where
         let names : Some first ≡ Some balanced.within.root = sym first_is ∙ balanced.within.whole.whole in
         let same : first ≡ balanced.within.root = cc in
         let alike' : IsAlike (IsBalancedNode i) [] balanced.within.root root =
-        subst (λ t. IsAlike (IsBalancedNode i) [] t root) same alike in
-        (
+        subst (λ t. IsAlike (IsBalancedNode i) [] t root) same alike in (
           agrees [] balanced.within.root root balanced.within.balance alike' balanced.within.whole.balanced,
           (alike_label (IsBalancedNode i) [] balanced.within.root root alike').wire,
         )

@@ -107,8 +107,7 @@ module _ {N M : Type 0} (R : Occurrence N → M → Type 0) where
     alike_numbered offset up (fork l r n) (tip m) a numbered = absurd a
     alike_numbered offset up (fork l r n) (fork l' r' m) a numbered =
         let top : BinaryTree N = fork l r n in
-        let s : size l' ≡ size l = alike_size (top ∷ up) l l' (a.0) in
-        (
+        let s : size l' ≡ size l = alike_size (top ∷ up) l l' (a.0) in (
           alike_numbered offset (top ∷ up) l l' (a.0) (numbered.0),
           subst (λ i. IsNumbered kids' (offset + i) r') (sym s) (alike_numbered (offset + size l) (top ∷ up) r r' (a.1) (numbered.1)),
           same (occurrence up top) m (a.2) ∙ numbered.2
