@@ -20,3 +20,4 @@ pub mod Sweeps
 pub mod Insertions
 pub mod FixedLines
 pub mod WallLists
+pub mod Legal

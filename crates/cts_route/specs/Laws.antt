@@ -1,11 +1,13 @@
 -- What holds of every route.
-use Rattle.std.specs.Prelude.{◌≡◌, ◌≢◌, ◌*◌, ◌↔◌, ◌⊎◌, List, [], ◌∷◌, All}
+use Rattle.std.specs.Prelude.{◌≡◌, ◌≢◌, ◌*◌, ◌↔◌, ◌⊎◌, ◌≤ℤ◌, List, [], ◌∷◌, All}
 use Rattle.cts_geom.specs.declared.bounds.Die.{Die}
 use Rattle.cts_geom.specs.declared.points.Half.{Half}
 use Rattle.cts_geom.specs.Points.{manhattan_of}
 use Rattle.cts_block.specs.declared.blocks.Block.{Block}
 use Rattle.cts_block.specs.declared.blocks.Kind.TheVariants.{Buffer}
+use Rattle.cts_block.specs.FreePoints.{IsInDie, IsFreeForWire}
 use Rattle.cts_tree.specs.declared.route.Route.{Route}
+use Rattle.cts_tree.specs.Path.{points_along, path_length, HasAxisSteps, AllAlong}
 use Rattle.cts_route.specs.Grid.{IsClear}
 use Rattle.cts_route.specs.Routes.{IsRoute, IsCut}
 
@@ -44,3 +46,28 @@ RouteWithoutWalls =
     (blocks : List Block) (die : Die) (from to : Half) (route : Route)
     → All (λ block. block.kind ≡ Buffer) blocks
     → IsRoute blocks die from to route ↔ RunsAlongXFirst from to route
+
+-- both corners of a block lie in the die
+pub record HasCornersIn (die : Die) (block : Block) : Type 0 where
+  pub x1_low : die.x1 ≤ℤ block.x1
+  pub x1_high : block.x1 ≤ℤ die.x2
+  pub x2_low : die.x1 ≤ℤ block.x2
+  pub x2_high : block.x2 ≤ℤ die.x2
+  pub y1_low : die.y1 ≤ℤ block.y1
+  pub y1_high : block.y1 ≤ℤ die.y2
+  pub y2_low : die.y1 ≤ℤ block.y2
+  pub y2_high : block.y2 ≤ℤ die.y2
+
+-- The way of a route over its corners: its steps run along the axes and are longer than 0, and no point of it is outside
+-- the die or strictly inside a block that stops wires; between equal ends there is no step. It is as long as the route.
+pub record IsLegalWay (blocks : List Block) (die : Die) (from to : Half) (route : Route) : Type 0 where
+  pub legal : ((from ≡ to) × (route.corners ≡ []))
+      ⊎ (HasAxisSteps (points_along from route.corners to) × AllAlong (IsFreeForWire blocks die) (points_along from route.corners to))
+  pub long : path_length (points_along from route.corners to) ≡ 2 * route.length
+
+-- where the blocks and the two ends lie in the die every route is legal
+abbrev pub RoutesAreLegal : Type 0
+RoutesAreLegal =
+    (blocks : List Block) (die : Die) (from to : Half) (route : Route) → die.x1 ≤ℤ die.x2 → die.y1 ≤ℤ die.y2
+    → All (HasCornersIn die) blocks → IsInDie die from → IsInDie die to → IsRoute blocks die from to route
+    → IsLegalWay blocks die from to route

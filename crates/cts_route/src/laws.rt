@@ -5,6 +5,7 @@ ghost use Rattle.cts_route.specs.Laws.{
   RouteIsNotCut,
   ClearWayIsRoute,
   RouteWithoutWalls,
+  RoutesAreLegal,
 };
 
 /// There is one route at most.
@@ -25,4 +26,10 @@ pub fn clear_way_is_route()
 /// Where no block stops wires, the route runs along x first and then along y.
 pub fn route_without_walls()
     ensures { RouteWithoutWalls }
+{}
+
+/// Where the blocks and the two ends lie in the die, the way of a route is legal: its steps run along
+/// the axes, and no point of it is outside the die or inside a block that stops wires.
+pub fn routes_are_legal()
+    ensures { RoutesAreLegal }
 {}
