@@ -1,5 +1,5 @@
 -- Where the next node downward is cut, its number is the greatest.
-use Rattle.std.proofs.Common.{◌≡◌, ℕ, ◌+◌, ◌-◌, ◌<◌, ◌≤◌, List, [], map, drop, reverse, length, get_or, refl, sym, ap, subst, ◌∙◌, arith}
+use Rattle.std.proofs.Common.{◌≡◌, ℕ, ◌+◌, ◌-◌, ◌<◌, ◌≤◌, List, [], map, drop, reverse, length, get_or, sym, subst, arith}
 use Rattle.std.specs.List.{All, AllZip}
 use Rattle.std.proofs.lemmas.List.{get_or_default}
 use Rattle.cts_geom.specs.declared.points.Spot.{Spot}

@@ -1,10 +1,9 @@
 -- The definitions on worked pairs: the first place on a segment, and a balance over routes of 2 nm and 3 nm to two sinks of
 -- 5 zF each, with a wire of 1 µΩ and 1 zF per nm. Both wires get 3 nm, for 3·13 = 39 on both sides.
-use Rattle.std.proofs.Common.{◌≡◌, ℕ, ◌+◌, ◌*◌, ◌<◌, ◌≤◌, inl, inr, pos, neg_ℤ, List, [], ◌∷◌, None, refl, sym, ap, ◌∙◌, arith, mul-le-mul}
+use Rattle.std.proofs.Common.{◌≡◌, ℕ, ◌+◌, ◌*◌, ◌≤◌, inl, inr, pos, neg_ℤ, List, [], ◌∷◌, None, refl, ap, arith, mul-le-mul}
 use Rattle.std.specs.Int.{abs_diff}
 use Rattle.std.proofs.lemmas.Bool.{cases_lt}
 use Rattle.std.proofs.lemmas.Int.{ints}
-use Rattle.cts_geom.specs.declared.points.Spot.{Spot}
 use Rattle.cts_geom.specs.declared.regions.Region.{Region}
 use Rattle.cts_geom.specs.Coordinate.{interval_gap}
 use Rattle.cts_geom.specs.Points.{spot_at}

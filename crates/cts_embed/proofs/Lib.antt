@@ -8,7 +8,7 @@ pub mod HandedDown
 pub mod Assembled
 pub mod FreePlaces
 pub mod NodeKinds
-pub mod Ways
+pub mod Grounds
 pub mod Starts
 pub mod Stands
 pub mod PlacedFits

@@ -23,7 +23,7 @@ use Rattle.cts_up.specs.Sinks.{AreSinksInRange}
 use Rattle.cts_up.specs.Plan.{IsFinished, IsPlan}
 use Rattle.cts_up.proofs.Sides.{sides_merge}
 use Rattle.cts_tree.specs.declared.nodes.PlacedNode.{PlacedNode}
-use Rattle.cts_embed.specs.PlacedTree.{IsPlacedFrom}
+use Rattle.cts_embed.specs.PlacedTree.{IsCutFrom, IsPlacedFrom}
 use Rattle.cts_merge.specs.declared.side.Finished.{Finished}
 use Rattle.cts_tree.specs.declared.nodes.NodeKind.TheVariants as kinds
 use Rattle.cts_embed.specs.Naming.{NamesOneOf}
@@ -125,3 +125,8 @@ pub placed_read : (parts : Parts) (n : ShapeNode) (f g : Finished) (from start :
 placed_read parts n f g from start node same_node same_start placed =
     subst (λ (x : Finished). IsPlacedFrom parts n x start node) same_node
     (subst (λ (x : Spot). IsPlacedFrom parts n f x node) same_start placed)
+
+pub cut_read : (parts : Parts) (n : ShapeNode) (f g : Finished) (from start : Spot) → f ≡ g → from ≡ start
+    → IsCutFrom parts n f from → IsCutFrom parts n g start
+cut_read parts n f g from start same_node same_start cut =
+    subst (λ (x : Finished). IsCutFrom parts n x start) same_node (subst (λ (x : Spot). IsCutFrom parts n f x) same_start cut)

@@ -1,6 +1,5 @@
 pub mod Places
 pub mod PlacedTree
-pub mod Walls
 pub mod Prepared
 pub mod Naming
 pub mod Fitting

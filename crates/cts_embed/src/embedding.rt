@@ -8,12 +8,12 @@ ghost use Rattle.cts_up.specs.Plan.{IsPlan};
 ghost use Rattle.cts_embed.specs.Ends.{EmbedEnds};
 ghost use Rattle.cts_embed.specs.Fitting.{Fits};
 ghost use Rattle.cts_embed.specs.PlacedTree.{IsPlacedNode, IsPlacedTree};
-ghost use Rattle.cts_embed.specs.Walls.{StopNoWires};
 
 use crate::end::EmbedEnd;
-use crate::placing::{free_map, place_node, source_place};
+use crate::placing::{ground_of, place_node, source_place};
 use cts_instance::Instance;
 use cts_merge::Finished;
+use cts_route::RouteEnd;
 use cts_topo::{Shape, ShapeNode};
 use cts_tree::{Placed, PlacedNode};
 use std::alloc::Global;
@@ -27,23 +27,31 @@ fn place_nodes(
 ) -> Result<Vec<PlacedNode>, EmbedEnd>
     requires shape { IsShapeOver (length instance.now.sinks) nodes.now }
     requires plan { IsPlan instance.now.params instance.now.sinks nodes.now plan.now }
-    requires walls { StopNoWires instance.now.blocks }
     ensures placed { IfOk result (λ placed.
         AllZip (IsPlacedNode instance.now) (occurrences_of children nodes.now) (reverse placed.items)) }
     ensures fits { IfOk result (λ placed. Fits instance.now (reverse placed.items)) }
     ensures ends { IfErr result (EmbedEnds instance.now nodes.now) }
 {
-    let free = free_map(alloc, instance)?;
+    let ground = ground_of(alloc, instance)?;
     let mut starts = vec![in alloc; source_place(instance); nodes.len()]?;
     let mut placed = Vec::with_capacity(alloc, nodes.len())?;
     for number in (0..nodes.len()).rev() {
-        let node = place_node(
+        let node = match place_node(
+            alloc,
             instance,
-            &free,
+            &ground,
             nodes[number],
             &plan[number],
             starts[number],
-        );
+        ) {
+            Ok(node) => node,
+            Err(RouteEnd::Cut) => {
+                return Err(EmbedEnd::Cut {
+                    node: number as u32,
+                });
+            }
+            Err(RouteEnd::NoMemory) => return Err(EmbedEnd::NoMemory),
+        };
         let place = node.place;
         placed.push(node)?;
         if let ShapeNode::Pair { left, right } = nodes[number] {
@@ -67,7 +75,8 @@ fn reversed(mut nodes: Vec<PlacedNode>) -> Vec<PlacedNode>
 /// From the source down, the root and then each part of a pair takes the point of its region that is
 /// nearest to the place above it, the least (u, v) among equally near ones. A leaf stands at its sink.
 /// A pair whose place isn't free, for its buffer or for wires alone, moves to the nearest free point of
-/// whole nm. Routes run along x first. Answers `NoMemory` where an allocation fails.
+/// whole nm. Answers `Cut` with the greatest number of a node that no route reaches, and `NoMemory`
+/// where an allocation fails.
 pub fn embed(
     alloc: Global,
     instance: &Instance,
@@ -76,7 +85,6 @@ pub fn embed(
 ) -> Result<Placed, EmbedEnd>
     requires shape { IsShapeOver (length instance.now.sinks) shape.now }
     requires plan { IsPlan instance.now.params instance.now.sinks shape.now plan.now }
-    requires walls { StopNoWires instance.now.blocks }
     ensures placed { IfOk result (IsPlacedTree instance.now shape.now) }
     ensures fits { IfOk result (Fits instance.now) }
     ensures ends { IfErr result (EmbedEnds instance.now shape.now) }

@@ -11,6 +11,7 @@
 mod balancing;
 mod embedding;
 mod end;
+mod ground;
 pub mod laws;
 mod node;
 mod placing;

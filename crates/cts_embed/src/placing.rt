@@ -1,26 +1,25 @@
 //! The place of one node, and the route to it.
 
-ghost use Rattle.std.specs.Prelude.{◌≡◌, length, Some, IfOk};
-ghost use Rattle.cts_geom.specs.Points.{IsSpotInRange, point_of, spot_at};
+ghost use Rattle.std.specs.Prelude.{◌≡◌, length, Some, IfOk, Err};
+ghost use Rattle.cts_geom.specs.Points.{IsSpotInRange, spot_at};
 ghost use Rattle.cts_geom.specs.Coordinate.{IsCoordinate};
 ghost use Rattle.cts_geom.specs.Regions.{IsRegionInRange};
-ghost use Rattle.cts_route.specs.Laws.{RunsAlongXFirst};
 ghost use Rattle.cts_embed.specs.Naming.{NamesOneOf};
-ghost use Rattle.cts_embed.specs.PlacedTree.{IsPlacedFrom};
-ghost use Rattle.cts_route.specs.Routes.{IsRoute};
+ghost use Rattle.cts_embed.specs.PlacedTree.{IsCutFrom, IsPlacedFrom};
 ghost use Rattle.cts_instance.specs.declared.parts.Parts.{Parts};
-ghost use Rattle.cts_embed.specs.Prepared.{IsFreeMapOf};
+ghost use Rattle.cts_embed.specs.Prepared.{IsFreeMapOf, IsGroundOf};
 ghost use Rattle.cts_embed.specs.Places.{IsPairPlace, IsNodePlace, kind_of, source_of};
 ghost use Rattle.cts_instance.specs.Validity.{IsValid};
-ghost use Rattle.cts_embed.specs.Walls.{StopNoWires};
 
+use crate::ground::Ground;
 use cts_block::FreeMap;
-use cts_geom::{Half, Spot, distance, halves, nearest, spot_of};
+use cts_geom::{Spot, nearest, spot_of};
 use cts_instance::Instance;
 use cts_merge::Finished;
 use cts_num::NoMemory;
+use cts_route::{Grid, RouteEnd};
 use cts_topo::ShapeNode;
-use cts_tree::{Corners, NodeKind, PlacedNode, Route};
+use cts_tree::{NodeKind, PlacedNode};
 use cts_units::Sink;
 use std::alloc::Global;
 
@@ -32,11 +31,16 @@ pub(crate) fn source_place(instance: &Instance) -> Spot
     spot_of(instance.source_x(), instance.source_y())
 }
 
-/// The map of the free points of an instance.
-pub(crate) fn free_map(alloc: Global, instance: &Instance) -> Result<FreeMap, NoMemory>
-    ensures { IfOk result (IsFreeMapOf instance.now) }
+/// Prepares an instance.
+pub(crate) fn ground_of(alloc: Global, instance: &Instance) -> Result<Ground, NoMemory>
+    ensures { IfOk result (IsGroundOf instance.now) }
 {
-    FreeMap::of(alloc, instance.blocks(), &instance.die())
+    let blocks = instance.blocks();
+    let die = instance.die();
+    Ok(Ground {
+        free: FreeMap::of(alloc, blocks, &die)?,
+        grid: Grid::of(alloc, blocks, &die)?,
+    })
 }
 
 /// The final place of a pair, seen from a place above it.
@@ -47,38 +51,6 @@ fn pair_place(free: &FreeMap, pair: &Finished, from: Spot) -> Spot
 {
     let first = nearest(&pair.side.region, from);
     free.nearest_free(first, pair.buffer.is_some())
-}
-
-/// The way along x first and then along y.
-fn way_along_x(from: Spot, to: Spot) -> Route
-    requires from { IsSpotInRange from }
-    requires to { IsSpotInRange to }
-    ensures { RunsAlongXFirst (point_of from) (point_of to) result }
-{
-    let (start, end) = (halves(from), halves(to));
-    let corners = if start.x == end.x || start.y == end.y {
-        Corners::none()
-    } else {
-        Corners::one(Half {
-            x: end.x,
-            y: start.y,
-        })
-    };
-    Route {
-        corners,
-        length: distance(from, to),
-    }
-}
-
-/// The route between two points, where no block stops wires.
-#[tactic(auto, using(crate::proofs::Ways::way_is_route))]
-fn route_of(instance: &Instance, from: Spot, to: Spot) -> Route
-    requires walls { StopNoWires instance.now.blocks }
-    requires from { IsSpotInRange from }
-    requires to { IsSpotInRange to }
-    ensures { IsRoute instance.now.blocks instance.now.die (point_of from) (point_of to) result }
-{
-    way_along_x(from, to)
 }
 
 /// The place of a sink.
@@ -126,25 +98,23 @@ fn stand(
     }
 }
 
-/// A node of a shape, placed from the place where its route starts.
+/// A node of a shape, placed from the place where its route starts; or why there is no route.
 pub(crate) fn place_node(
+    alloc: Global,
     instance: &Instance,
-    free: &FreeMap,
+    ground: &Ground,
     node: ShapeNode,
     finished: &Finished,
     from: Spot,
-) -> PlacedNode
-    requires free { IsFreeMapOf instance.now free.now }
+) -> Result<PlacedNode, RouteEnd>
+    requires ground { IsGroundOf instance.now ground.now }
     requires names { NamesOneOf (length instance.now.sinks) node }
     requires region { IsRegionInRange finished.now.side.region }
     requires from { IsSpotInRange from }
-    requires walls { StopNoWires instance.now.blocks }
-    ensures { IsPlacedFrom instance.now node finished.now from result }
+    ensures placed { IfOk result (IsPlacedFrom instance.now node finished.now from) }
+    ensures cut { result ≡ Err RouteEnd.Cut → IsCutFrom instance.now node finished.now from }
 {
-    let (kind, place) = stand(instance, free, node, finished, from);
-    PlacedNode {
-        kind,
-        place,
-        route: route_of(instance, from, place),
-    }
+    let (kind, place) = stand(instance, &ground.free, node, finished, from);
+    let route = ground.grid.route(alloc, from, place)?;
+    Ok(PlacedNode { kind, place, route })
 }

@@ -3,7 +3,6 @@
 ghost use Rattle.std.specs.Prelude.{◌≡◌, ◌<◌, length, IfOk};
 ghost use Rattle.cts_up.specs.Plan.{IsPlan};
 ghost use Rattle.cts_topo.specs.Shape.{IsShapeOver};
-ghost use Rattle.cts_embed.specs.Walls.{StopNoWires};
 
 use crate::balancing::balance;
 use crate::embedding::embed;
@@ -45,9 +44,7 @@ fn counted<L: Ledger>(
 }
 
 /// The balanced tree over the topology of an instance, or why there is none.
-fn tree_of(alloc: Global, parts: Parts) -> Result<Result<Tree, BalanceEnd>, Fail>
-    requires walls { StopNoWires parts.blocks }
-{
+fn tree_of(alloc: Global, parts: Parts) -> Result<Result<Tree, BalanceEnd>, Fail> {
     let instance = check_instance(alloc, parts)?;
     let shape = topology(alloc, instance.sinks())?;
     let plan = counted::<Brand>(alloc, Blank::new(1), &instance, &shape)?;
@@ -64,9 +61,7 @@ fn parts_of(
     insert_at: u64,
     sinks: Vec<Sink>,
     blocks: Vec<Block>,
-) -> Parts
-    ensures { result.blocks ≡ blocks.items }
-{
+) -> Parts {
     Parts {
         die: Die {
             x1: 0,
@@ -117,9 +112,7 @@ fn bare_tree(alloc: Global, side: i64, unit: u64, sinks: Vec<Sink>) -> Result<Tr
 }
 
 /// The balanced tree of two sinks of 5 fF with a buffer of 3 fF and 1 ohm above a load of 15 fF.
-fn buffered_tree(alloc: Global, y: i64, blocks: Vec<Block>) -> Result<Tree, Fail>
-    requires { StopNoWires blocks.items }
-{
+fn buffered_tree(alloc: Global, y: i64, blocks: Vec<Block>) -> Result<Tree, Fail> {
     let buffer = Buffer {
         cin: 3_000_000,
         rout: 1_000_000,

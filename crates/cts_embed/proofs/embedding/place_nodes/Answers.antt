@@ -1,13 +1,21 @@
-use Rattle.std.proofs.Common.{◌-◌, length, drop, reverse, get_or, arith, sym, ap, subst, ◌∙◌}
+use Rattle.std.proofs.Common.{◌≡◌, List, Result, Ok, ◌-◌, Err, length, drop, reverse, get_or, arith, sym, ap, subst, ◌∙◌}
 use Rattle.std.specs.List.{AllZip}
 use Rattle.std.proofs.lemmas.List.{get_or-replicate}
 use Rattle.cts_geom.specs.Points.{IsSpotInRange}
 use Rattle.cts_postorder.specs.Occurrence.{occurrences_of}
+use Rattle.cts_topo.specs.declared.shape.ShapeNode.{ShapeNode}
 use Rattle.cts_topo.specs.declared.shape.ShapeNode.TheVariants.{Leaf}
 use Rattle.cts_topo.specs.Shape.{children}
+use Rattle.std.specs.Result.{IsErrAnd, IfErr}
+use Rattle.cts_instance.specs.declared.parts.Parts.{Parts}
+use Rattle.cts_embed.specs.declared.end.EmbedEnd.{EmbedEnd}
+use Rattle.cts_embed.specs.declared.end.EmbedEnd.TheVariants.{NoMemory}
+use Rattle.cts_embed.specs.Ends.{EmbedEnds}
 use Rattle.cts_embed.specs.PlacedTree.{IsPlacedNode}
 use Rattle.cts_embed.proofs.Starts.{starts_begin, number_in_starts, number_in_plan, from_in_range, placed_more, starts_at_leaf, starts_at_pair, left_within, right_within, all_placed, none_placed}
-use Rattle.cts_embed.proofs.Stands.{names_at, region_at, placed_read}
+use Rattle.cts_embed.proofs.Stands.{cut_read, names_at, region_at, placed_read}
+use Rattle.cts_topo.proofs.Counts.{length-shape}
+use Rattle.cts_embed.proofs.Cuts.{greatest_cut}
 use Rattle.cts_embed.proofs.PlacedFits.{placed_fits}
 use Rattle.cts_embed.proofs.embedding.place_nodes.Goals as goal
 
@@ -34,19 +42,19 @@ index-requires c =
           c.loop-number.starts.items c.loop-number-test.true c.loop-number.auto.number (c.loop-number.invariant.0),
     )
 
-pub place_node-node-requires-clause-names : goal.place_node-node-requires-clause-names
-place_node-node-requires-clause-names c =
+pub place_node-requires-clause-names : goal.place_node-requires-clause-names
+place_node-requires-clause-names c =
     names_at (length c.args.instance.now.sinks) c.args.nodes.now c.requires.shape (c.loop-number.number - 1) (Leaf 0)
     (omega (arith, c.loop-number-test.true, c.loop-number.auto.number))
 
-pub place_node-node-requires-clause-region : goal.place_node-node-requires-clause-region
-place_node-node-requires-clause-region c =
+pub place_node-requires-clause-region : goal.place_node-requires-clause-region
+place_node-requires-clause-region c =
     region_at c.args.instance.now c.args.nodes.now c.args.plan.now c.source_place.ensures.valid c.requires.plan (c.loop-number.number - 1)
     c.index-plan-number.result c.index-plan-number.result (omega (arith, c.loop-number-test.true, c.loop-number.auto.number))
     c.index-plan-number.is
 
-pub place_node-node-requires-clause-from : goal.place_node-node-requires-clause-from
-place_node-node-requires-clause-from c =
+pub place_node-requires-clause-from : goal.place_node-requires-clause-from
+place_node-requires-clause-from c =
     subst IsSpotInRange (sym c.index.ensures)
     (from_in_range c.args.instance.now c.args.nodes.now c.requires.shape.post_order c.args.plan.now c.requires.plan c.loop-number.number
     c.loop-number.starts.items c.loop-number-test.true c.loop-number.auto.number (c.loop-number.invariant.0)
@@ -76,16 +84,16 @@ pub loop-number-preserved-in-Pair : goal.loop-number-preserved-in-Pair
 loop-number-preserved-in-Pair c = (
   starts_at_pair c.args.instance.now c.args.nodes.now c.requires.shape.post_order c.args.plan.now c.requires.plan c.loop-number.number
       c.loop-number.starts.items c.loop-number-test.true c.loop-number.auto.number (c.loop-number.invariant.0)
-      (Leaf 0) c.index-plan-number.result c.index.result.now c.in-Pair.left c.in-Pair.right c.in-Pair.is c.place_node-node.result
+      (Leaf 0) c.index-plan-number.result c.index.result.now c.in-Pair.left c.in-Pair.right c.in-Pair.is c.in-Ok.node
       (placed_read c.args.instance.now (get_or c.args.nodes.now (c.loop-number.number - 1) (Leaf 0)) c.index-plan-number.result _
-      c.index.result.now _ c.place_node-node.result c.index-plan-number.is c.index.ensures c.place_node-node.ensures),
+      c.index.result.now _ c.in-Ok.node c.index-plan-number.is c.index.ensures c.in-Ok.ensures.placed),
   subst (λ items. AllZip (IsPlacedNode c.args.instance.now) (drop (c.loop-number.number - 1) (occurrences_of children c.args.nodes.now)) (reverse items))
       (sym c.in_ok-push.ensures.items)
       (placed_more c.args.instance.now c.args.nodes.now c.requires.shape.post_order c.args.plan.now c.requires.plan c.loop-number.number
       c.loop-number.starts.items c.loop-number-test.true c.loop-number.auto.number (c.loop-number.invariant.0) (Leaf 0)
-      c.index-plan-number.result c.index.result.now c.place_node-node.result c.loop-number.placed.items (c.loop-number.invariant.1)
+      c.index-plan-number.result c.index.result.now c.in-Ok.node c.loop-number.placed.items (c.loop-number.invariant.1)
       (placed_read c.args.instance.now (get_or c.args.nodes.now (c.loop-number.number - 1) (Leaf 0)) c.index-plan-number.result _
-      c.index.result.now _ c.place_node-node.result c.index-plan-number.is c.index.ensures c.place_node-node.ensures)),
+      c.index.result.now _ c.in-Ok.node c.index-plan-number.is c.index.ensures c.in-Ok.ensures.placed)),
 )
 
 pub loop-number-preserved : goal.loop-number-preserved
@@ -97,9 +105,9 @@ loop-number-preserved c = (
       (sym c.in_ok-push.ensures.items)
       (placed_more c.args.instance.now c.args.nodes.now c.requires.shape.post_order c.args.plan.now c.requires.plan c.loop-number.number
       c.loop-number.starts.items c.loop-number-test.true c.loop-number.auto.number (c.loop-number.invariant.0) (Leaf 0)
-      c.index-plan-number.result c.index.result.now c.place_node-node.result c.loop-number.placed.items (c.loop-number.invariant.1)
+      c.index-plan-number.result c.index.result.now c.in-Ok.node c.loop-number.placed.items (c.loop-number.invariant.1)
       (placed_read c.args.instance.now (get_or c.args.nodes.now (c.loop-number.number - 1) (Leaf 0)) c.index-plan-number.result _
-      c.index.result.now _ c.place_node-node.result c.index-plan-number.is c.index.ensures c.place_node-node.ensures)),
+      c.index.result.now _ c.in-Ok.node c.index-plan-number.is c.index.ensures c.in-Ok.ensures.placed)),
 )
 
 pub returns-clause-placed : goal.returns-clause-placed
@@ -112,3 +120,30 @@ returns-clause-fits c =
     placed_fits c.args.instance.now c.args.nodes.now (reverse c.loop-number.placed.items)
     (all_placed c.args.instance.now c.args.nodes.now c.loop-number.placed.items c.loop-number.number (omega (arith, c.loop-number-test.false))
     (c.loop-number.invariant.1)) c.source_place.ensures.valid c.requires.shape
+
+pub overflow_cast-result : goal.overflow_cast-result
+overflow_cast-result c =
+    omega (
+      arith,
+      length-shape (length c.args.instance.now.sinks) c.args.nodes.now c.requires.shape,
+      c.source_place.ensures.valid.sink_count,
+      c.loop-number.auto.number,
+    )
+
+pub returns-in-Err-Cut-clause-ends : goal.returns-in-Err-Cut-clause-ends
+returns-in-Err-Cut-clause-ends c =
+    greatest_cut c.args.instance.now c.args.nodes.now c.requires.shape.post_order c.args.plan.now c.requires.plan c.loop-number.number
+    c.loop-number.starts.items c.loop-number-test.true c.loop-number.auto.number (c.loop-number.invariant.0)
+    (Leaf 0) c.index-plan-number.result c.index.result.now c.loop-number.placed.items (c.loop-number.invariant.1)
+    (cut_read c.args.instance.now (get_or c.args.nodes.now (c.loop-number.number - 1) (Leaf 0)) c.index-plan-number.result _
+    c.index.result.now _ c.index-plan-number.is c.index.ensures (c.place_node.ensures.cut (c.in-Err-Cut.is ∙ ap Err c.in-Err-Cut.field-0-is)))
+
+-- want of memory has no other cause
+out_of_memory : {X : Type 0} (parts : Parts) (nodes : List ShapeNode) (r : Result X EmbedEnd) → IsErrAnd r (λ e. e ≡ NoMemory)
+    → IfErr r (EmbedEnds parts nodes)
+out_of_memory parts nodes (Ok x) is = tt
+out_of_memory parts nodes (Err e) is = subst (EmbedEnds parts nodes) (sym is) tt
+
+pub returns-in_err-push-clause-ends : goal.returns-in_err-push-clause-ends
+returns-in_err-push-clause-ends c =
+    out_of_memory c.args.instance.now c.args.nodes.now c.from_residual-in_err-push.result (c.from_residual-in_err-push.ensures.1)
