@@ -1,7 +1,6 @@
 pub mod WithinLimits
 pub mod SinksOnce
 pub mod Reached
-pub mod LegalWays
 pub mod Wires
 pub mod Fitted
 pub mod Unique

@@ -1,11 +1,10 @@
--- Where no block stops wires, the tree of a shape is sound.
+-- The tree of a shape is sound.
 use Rattle.std.proofs.Common.{◌≡◌, ℕ, suc, ◌<◌, inl, inr, List, [], ◌∷◌, ◌++◌, map, length, get_or, ℤ, ◌≤ℤ◌, refl, sym, ap, subst, ◌∙◌, arith}
 use Rattle.std.specs.List.{All, AllZip}
 use Rattle.std.proofs.lemmas.List.Elements.{All-map, All-weaker, All-cons, All-nil}
 use Rattle.std.proofs.lemmas.Int.{ints, by_lt_z}
 use Rattle.cts_geom.specs.declared.points.Half.{Half}
 use Rattle.cts_geom.specs.Points.{point_of}
-use Rattle.cts_block.specs.declared.blocks.Kind.TheVariants.{Buffer}
 use Rattle.cts_block.specs.FreePoints.{IsInDie, IsFreeForWire}
 use Rattle.cts_postorder.specs.BinaryTree.{label}
 use Rattle.cts_postorder.specs.PostOrder.{IsPostOrder}
@@ -66,7 +65,7 @@ module _ (i : Parts) where
       ]
 
   module _ (shape : List ShapeNode) (tree : List TreeNode) (valid : IsValid i) (over : IsShapeOver (length i.sinks) shape)
-      (open_ : All (λ block. block.kind ≡ Buffer) i.blocks) (is : IsTreeOf i shape tree) where
+      (is : IsTreeOf i shape tree) where
     placed_ok : IsPostOrder (map placed_children is.placed)
     placed_ok = placed_post_order i shape over is.placed is.is_placed
 
@@ -83,8 +82,8 @@ module _ (i : Parts) where
     pub sound : IsSound i tree
     sound = record {
       sinks = reaches i valid shape over is.placed placed_ok is.is_placed tree is.is_balanced;
-      wires = wires_are_legal i valid open_ shape over tree tree_ok nodes_made;
-      buffers = buffers_are_open i valid open_ shape over tree tree_ok nodes_made;
+      wires = wires_are_legal i valid shape over tree tree_ok nodes_made;
+      buffers = buffers_are_open i valid shape over tree tree_ok nodes_made;
       within = within_limits i is.placed placed_ok tree is.is_balanced;
     }
 
@@ -109,5 +108,5 @@ module _ (i : Parts) where
         (kept i is.placed placed_ok tree is.is_balanced)
 
 pub trees_sound : TreesAreSound
-trees_sound i shape tree valid over open_ is =
-    (sound i shape tree valid over open_ is, stands i shape tree valid over open_ is, fits i shape tree valid over open_ is)
+trees_sound i shape tree valid over is =
+    (sound i shape tree valid over is, stands i shape tree valid over is, fits i shape tree valid over is)

@@ -1,5 +1,5 @@
 -- The wires of the tree of a shape run along legal routes, and buffers stand in no block.
-use Rattle.std.proofs.Common.{◌≡◌, ℕ, ◌+◌, ◌*◌, ◌≤◌, inl, inr, List, [], ◌∷◌, ◌++◌, map, length, get_or, slice_get, Option, Some, None, MatchOption, refl, sym, ap, ap₂, subst, ◌∙◌, arith}
+use Rattle.std.proofs.Common.{◌≡◌, ℕ, ◌+◌, ◌*◌, ◌≤◌, ℤ, inl, inr, List, [], ◌∷◌, ◌++◌, map, length, get_or, slice_get, Option, Some, None, MatchOption, refl, sym, ap, ap₂, subst, ◌∙◌, arith}
 use Rattle.std.specs.List.{All, AllZip}
 use Rattle.std.specs.Option.{is_some}
 use Rattle.std.proofs.lemmas.List.Elements.{All-append, All-cons, All-nil}
@@ -7,7 +7,7 @@ use Rattle.std.proofs.lemmas.Int.{ints}
 use Rattle.cts_geom.specs.declared.points.Spot.{Spot}
 use Rattle.cts_geom.specs.declared.points.Half.{Half}
 use Rattle.cts_geom.specs.Points.{spot_at, point_of}
-use Rattle.cts_block.specs.declared.blocks.Kind.TheVariants.{Buffer}
+use Rattle.cts_block.specs.declared.blocks.Block.{Block}
 use Rattle.cts_block.specs.FreePoints.{IsInDie, IsOpenToBuffers}
 use Rattle.cts_block.specs.NearestFree.{IsFree}
 use Rattle.cts_postorder.specs.BinaryTree.{BinaryTree, tip, fork, label}
@@ -24,7 +24,7 @@ use Rattle.cts_tree.specs.declared.route.Route.{Route}
 use Rattle.cts_tree.specs.Nodes.{placed_children, tree_children, children_of, buffer_of}
 use Rattle.cts_tree.specs.Path.{points_along, path_length}
 use Rattle.cts_instance.specs.declared.parts.Parts.{Parts}
-use Rattle.cts_instance.specs.Validity.{IsValid}
+use Rattle.cts_instance.specs.Validity.{IsBlock, IsValid}
 use Rattle.cts_topo.specs.declared.shape.ShapeNode.{ShapeNode}
 use Rattle.cts_topo.specs.declared.shape.ShapeNode.TheVariants.{Leaf, Pair}
 use Rattle.cts_topo.specs.Shape.{children, IsShapeOver}
@@ -37,7 +37,8 @@ use Rattle.cts_embed.proofs.NodeKinds.{leaf_kind, pair_kind, same_kids}
 use Rattle.cts_embed.proofs.OnePlace.{start_one}
 use Rattle.cts_embed.proofs.Starts.{place_in_die, start_in_die}
 use Rattle.cts_elmore.specs.Sound.{IsLegalRoute, HasLegalWire, HasOpenBuffer, upper_end}
-use Rattle.cts_plain.proofs.LegalWays.{IsLegalWay, half_same, routes_are_legal}
+use Rattle.cts_route.specs.Laws.{HasCornersIn, IsLegalWay}
+use Rattle.cts_route.proofs.Legal.{routes_legal}
 use Rattle.cts_plain.proofs.Reached.{Keeps, IsMadeOf, made}
 
 module _ (i : Parts) where
@@ -64,7 +65,24 @@ module _ (i : Parts) where
       (sym keeps.place)
       (open_by (label o.here) is.finished is.from m.place n.kind (is.placed.kind ∙ ap Some (sym keeps.kind)) is.placed.place)
 
-  module _ (valid : IsValid i) (open_ : All (λ block. block.kind ≡ Buffer) i.blocks) where
+  module _ (valid : IsValid i) where
+    corners_in : (block : Block) → IsBlock i.die block → HasCornersIn i.die block
+    corners_in block is = record {
+      x1_low = is.from.west;
+      x1_high = is.from.east;
+      x2_low = is.to.west;
+      x2_high = is.to.east;
+      y1_low = is.from.south;
+      y1_high = is.from.north;
+      y2_low = is.to.south;
+      y2_high = is.to.north;
+    }
+
+    half_same : (p q : Half) → p.x ≡ q.x → p.y ≡ q.y → p ≡ q
+    half_same p q x y =
+        ap (λ (v : ℤ). let h : Half = record { x = v; y = p.y } in h) x
+        ∙ ap (λ (v : ℤ). let h : Half = record { x = q.x; y = v } in h) y
+
     -- one wire, that starts where the route of its node does
     one_wire : (o : Occurrence ShapeNode) (n : TreeNode) (from : Spot) → IsMadeOf i o n → IsRouteStart i o.above from
         → (above : List (BinaryTree TreeNode)) (here : BinaryTree TreeNode) → n ≡ label here → point_of from ≡ upper_end i above
@@ -72,9 +90,9 @@ module _ (i : Parts) where
     one_wire o n from (m, is, keeps) start above here node end_ =
         let same : is.from ≡ from = start_one i o.above is.from from is.start start in
         let way : IsLegalWay i.blocks i.die (point_of is.from) (point_of m.place) m.route =
-        routes_are_legal i.blocks i.die open_ (point_of is.from) (point_of m.place)
-        (start_in_die i o.above is.from valid is.start)
-        (place_in_die i (label o.here) is.finished is.from m.place valid is.placed.place) m.route is.placed.route in
+        routes_legal i.blocks i.die (point_of is.from) (point_of m.place) m.route valid.die.x_order valid.die.y_order
+        (λ k d h. corners_in (get_or i.blocks k d) (valid.blocks k d h)) (start_in_die i o.above is.from valid is.start)
+        (place_in_die i (label o.here) is.finished is.from m.place valid is.placed.place) is.placed.route in
         let start_is : point_of is.from ≡ upper_end i above = ap point_of same ∙ end_ in
         let place_is : m.place ≡ (label here).place = sym keeps.place ∙ ap (λ (x : TreeNode). x.place) node in
         let route_is : m.route ≡ (label here).route = sym keeps.route ∙ ap (λ (x : TreeNode). x.route) node in

@@ -1,6 +1,5 @@
 -- What holds of every synthesis.
 use Rattle.std.specs.Prelude.{◌≡◌, List, length, All}
-use Rattle.cts_block.specs.declared.blocks.Kind.TheVariants.{Buffer}
 use Rattle.cts_tree.specs.declared.nodes.TreeNode.{TreeNode}
 use Rattle.cts_instance.specs.declared.parts.Parts.{Parts}
 use Rattle.cts_instance.specs.Validity.{IsValid}
@@ -16,9 +15,9 @@ SynthesisIsOne =
     (i : Parts) (shape : List ShapeNode) (a b : Synthesis) → IsShapeOver (length i.sinks) shape
     → IsSynthesisOver i shape a → IsSynthesisOver i shape b → a ≡ b
 
--- where no block stops wires, the tree is sound, stands in the die, and is made of the instance's sinks and buffers
+-- the tree of a shape is sound, stands in the die, and is made of the instance's sinks and buffers
 abbrev pub TreesAreSound : Type 0
 TreesAreSound =
     (i : Parts) (shape : List ShapeNode) (tree : List TreeNode) → IsValid i → IsShapeOver (length i.sinks) shape
-    → All (λ block. block.kind ≡ Buffer) i.blocks → IsTreeOf i shape tree
+    → IsTreeOf i shape tree
     → IsSound i tree × All (StandsInDie i.die) tree × FitsInstance i tree

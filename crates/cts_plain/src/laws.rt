@@ -7,8 +7,7 @@ pub fn synthesis_is_one()
     ensures { SynthesisIsOne }
 {}
 
-/// Where no block stops wires, the tree of a shape is sound, stands in the die, and is made of the
-/// instance's sinks and buffers.
+/// The tree of a shape is sound, stands in the die, and is made of the instance's sinks and buffers.
 pub fn trees_are_sound()
     ensures { TreesAreSound }
 {}

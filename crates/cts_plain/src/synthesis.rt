@@ -1,7 +1,6 @@
 //! The passes of the synthesis, one after the other.
 
 ghost use Rattle.std.specs.Prelude.{◌≡◌, ◌+◌, ◌≤◌, length, All, IfOk, IfErr};
-ghost use Rattle.cts_block.specs.declared.blocks.Kind.TheVariants.{Buffer};
 ghost use Rattle.cts_topo.specs.Shape.{IsShapeOver};
 ghost use Rattle.cts_up.specs.Plan.{IsPlan};
 ghost use Rattle.cts_elmore.specs.Figures.{AreFigures, AreFiguresInRange};
@@ -33,7 +32,6 @@ pub fn finish(
 ) -> Result<(Tree, Figures), NoTree>
     requires shape { IsShapeOver (length instance.now.sinks) shape.now }
     requires plan { IsPlan instance.now.params instance.now.sinks shape.now plan.now }
-    requires walls { All (λ block. block.kind ≡ Buffer) instance.now.blocks }
     ensures tree { IfOk result (λ r. IsSynthesisOver instance.now shape.now (made r.0)) }
     ensures figures { IfOk result (λ r. AreFigures instance.now r.0 r.1) }
     ensures sound { IfOk result (λ r. IsSound instance.now r.0) }
@@ -61,7 +59,6 @@ pub fn synthesise<L: Ledger>(
     instance: &Instance,
     steps: &mut Steps<L>,
 ) -> Result<(Tree, Figures), NoTree>
-    requires walls { All (λ block. block.kind ≡ Buffer) instance.now.blocks }
     ensures tree { IfOk result (λ r. IsSynthesis instance.now (made r.0)) }
     ensures figures { IfOk result (λ r. AreFigures instance.now r.0 r.1) }
     ensures sound { IfOk result (λ r. IsSound instance.now r.0) }

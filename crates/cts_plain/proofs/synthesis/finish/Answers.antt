@@ -13,7 +13,7 @@ measure-requires-clause-fits c =
       is_placed = c.in_ok-placed.ensures.placed;
       is_balanced = c.in_ok-tree.ensures.tree;
     } in
-    (trees_sound c.args.instance.now c.args.shape.now c.in_ok-tree.tree c.die-die.ensures.valid c.requires.shape c.requires.walls tree).2
+    (trees_sound c.args.instance.now c.args.shape.now c.in_ok-tree.tree c.die-die.ensures.valid c.requires.shape tree).2
 
 pub measure-requires-clause-within : goal.measure-requires-clause-within
 measure-requires-clause-within c =
@@ -24,7 +24,7 @@ measure-requires-clause-within c =
       is_placed = c.in_ok-placed.ensures.placed;
       is_balanced = c.in_ok-tree.ensures.tree;
     } in
-    (trees_sound c.args.instance.now c.args.shape.now c.in_ok-tree.tree c.die-die.ensures.valid c.requires.shape c.requires.walls tree).0.within
+    (trees_sound c.args.instance.now c.args.shape.now c.in_ok-tree.tree c.die-die.ensures.valid c.requires.shape tree).0.within
 
 pub returns-clause-sound : goal.returns-clause-sound
 returns-clause-sound c =
@@ -35,7 +35,7 @@ returns-clause-sound c =
       is_placed = c.in_ok-placed.ensures.placed;
       is_balanced = c.in_ok-tree.ensures.tree;
     } in
-    (trees_sound c.args.instance.now c.args.shape.now c.in_ok-tree.tree c.die-die.ensures.valid c.requires.shape c.requires.walls tree).0
+    (trees_sound c.args.instance.now c.args.shape.now c.in_ok-tree.tree c.die-die.ensures.valid c.requires.shape tree).0
 
 pub returns-clause-in_die : goal.returns-clause-in_die
 returns-clause-in_die c =
@@ -46,4 +46,4 @@ returns-clause-in_die c =
       is_placed = c.in_ok-placed.ensures.placed;
       is_balanced = c.in_ok-tree.ensures.tree;
     } in
-    (trees_sound c.args.instance.now c.args.shape.now c.in_ok-tree.tree c.die-die.ensures.valid c.requires.shape c.requires.walls tree).1
+    (trees_sound c.args.instance.now c.args.shape.now c.in_ok-tree.tree c.die-die.ensures.valid c.requires.shape tree).1
