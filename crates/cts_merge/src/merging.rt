@@ -162,6 +162,3 @@ pub fn merge<L: Ledger>(
     steps.tick();
     pair_of(params, a, b)
 }
-
-#[cfg(test)]
-mod tests;

@@ -78,24 +78,3 @@ pub struct Params {
     /// The insertion threshold in zF, below 10^18: a pair whose load is above it takes a buffer.
     pub insert_at: u64,
 }
-
-#[cfg(test)]
-mod tests {
-    use super::{Buffer, Library};
-    use std::test::Fail;
-
-    #[test]
-    fn library_lends_its_buffers(rt: HostRuntime) -> Result<(), Fail> {
-        let mut buffers = Vec::new(rt.alloc());
-        buffers.push(Buffer {
-            cin: 35,
-            rout: 61,
-            intrinsic: 24,
-        })?;
-        let library = Library::of(buffers);
-        let lent = library.items();
-        assert_eq!(rt; lent.len(), 1);
-        assert_eq!(rt; lent[0].rout, 61);
-        Ok(())
-    }
-}

@@ -1,14 +1,17 @@
+//! Merges worked by hand.
+
 ghost use Rattle.std.specs.Prelude.{◌≡◌, ◌^◌, ◌<◌, ◌≤◌, pos, ◌≤ℤ◌, IfOk};
 ghost use Rattle.cts_geom.specs.Regions.{IsRegionInRange};
 ghost use Rattle.cts_units.specs.Limits.{IsParams};
 ghost use Rattle.cts_merge.specs.Side.{IsSideInRange};
 
-use super::*;
-use cts_units::{Buffer, Library};
+use cts_geom::Region;
+use cts_merge::{Beyond, Finished, Side, Steps, leaf, merge};
+use cts_units::{Buffer, Library, Params, Sink, Wire};
 use std::alloc::Global;
 use std::marker::Brand;
 use std::process::Abort;
-use std::sync::ledger::Blank;
+use std::sync::ledger::{Blank, Ledger};
 use std::test::Fail;
 
 /// A side of one point, in nm.
