@@ -33,6 +33,3 @@ pub fn choose(params: &Params, a: &Side, la: u64, b: &Side, lb: u64) -> Result<(
     let xa = stretched(params.wire, a, la, delay_b)?;
     Ok((xa, lb))
 }
-
-#[cfg(test)]
-mod tests;

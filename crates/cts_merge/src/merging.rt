@@ -150,6 +150,3 @@ pub fn merge<L: Ledger>(
     steps.tick();
     pair_of(params, a, b)
 }
-
-#[cfg(test)]
-mod tests;

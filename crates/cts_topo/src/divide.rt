@@ -111,6 +111,3 @@ fn sort_along(pins: &mut [Pin], wide: bool)
         pins.sort_unstable_by(|p, q| p.y.cmp(&q.y).then(p.x.cmp(&q.x)).then(p.id.cmp(&q.id)));
     }
 }
-
-#[cfg(test)]
-mod tests;

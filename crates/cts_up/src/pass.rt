@@ -82,6 +82,3 @@ pub fn up<L: Ledger>(
     }
     Ok(plan)
 }
-
-#[cfg(test)]
-mod tests;

@@ -1,4 +1,4 @@
-use Rattle.cts_merge.proofs.merging.tests.pair.Given as goal
+use Rattle.cts_rows.proofs.plans.plan_of.Given as goal
 
 abbrev pub ghosts-counted : goal.ghosts-counted
 ghosts-counted a = record { name = a.blank.name; parts = a.blank.parts }

@@ -1,7 +1,7 @@
 use Rattle.std.proofs.Common.{ℕ, ◌<◌, ◌≢◌, length, get_or}
 use Rattle.cts_units.specs.declared.params.Sink.{Sink}
 use Rattle.cts_topo.specs.Sinks.{IsPlaced}
-use Rattle.cts_topo.proofs.divide.tests.are_fit.Given as goal
+use Rattle.cts_rows.proofs.shapes.are_fit.Given as goal
 
 abbrev pub invariant-loop-i : goal.invariant-loop-i
 invariant-loop-i l = record {

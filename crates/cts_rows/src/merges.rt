@@ -1,15 +1,16 @@
-//! Worked merges.
+//! Merges worked by hand.
 
 ghost use Rattle.std.specs.Prelude.{◌≡◌, ◌^◌, ◌<◌, ◌≤◌, pos, ◌≤ℤ◌, IfOk};
 ghost use Rattle.cts_units.specs.Limits.{IsParams, max_delay, max_load};
 ghost use Rattle.cts_merge.specs.Side.{IsMergeable, IsSideInRange};
 
-use super::*;
-use cts_units::{Buffer, Library};
+use cts_geom::Region;
+use cts_merge::{Beyond, Finished, Side, Steps, leaf, merge};
+use cts_units::{Buffer, Library, Params, Sink, Wire};
 use std::alloc::Global;
 use std::marker::Brand;
 use std::process::Abort;
-use std::sync::ledger::Blank;
+use std::sync::ledger::{Blank, Ledger};
 use std::test::Fail;
 
 /// A side of one point, in nm.

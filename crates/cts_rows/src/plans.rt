@@ -1,4 +1,4 @@
-//! Worked plans.
+//! Plans of a few sinks.
 
 ghost use Rattle.std.specs.Prelude.{◌≡◌, ◌^◌, ◌<◌, ◌≤◌, length, IfOk};
 ghost use Rattle.cts_units.specs.Limits.{IsParams};
@@ -6,12 +6,14 @@ ghost use Rattle.cts_topo.specs.Sinks.{AreSinks};
 ghost use Rattle.cts_topo.specs.Shape.{IsShapeOver};
 ghost use Rattle.cts_up.specs.Sinks.{AreSinksInRange};
 
-use super::*;
-use cts_topo::topology;
-use cts_units::{Buffer, Library, Wire};
+use cts_merge::{Finished, Steps};
+use cts_topo::{Shape, topology};
+use cts_units::{Buffer, Library, Params, Sink, Wire};
+use cts_up::{UpEnd, up};
+use std::alloc::Global;
 use std::marker::Brand;
 use std::process::Abort;
-use std::sync::ledger::Blank;
+use std::sync::ledger::{Blank, Ledger};
 use std::test::Fail;
 
 /// A sink in nm and zF.

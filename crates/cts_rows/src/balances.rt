@@ -1,12 +1,12 @@
-//! Worked balances.
+//! Balances worked by hand.
 
 ghost use Rattle.std.specs.Prelude.{◌^◌, ◌≤◌};
 ghost use Rattle.cts_units.specs.Limits.{IsParams, max_delay, max_load};
 ghost use Rattle.cts_merge.specs.Side.{IsSideInRange};
 
-use super::*;
 use cts_geom::Region;
-use cts_units::{Library, Wire};
+use cts_merge::{Beyond, Side, choose};
+use cts_units::{Library, Params, Wire};
 use std::alloc::Global;
 
 /// A side whose region has no part in a balance.

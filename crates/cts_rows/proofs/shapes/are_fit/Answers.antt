@@ -4,7 +4,7 @@ use Rattle.std.proofs.lemmas.List.{get_or_default, take_rest}
 use Rattle.std.proofs.lemmas.Bool.{cases_lt}
 use Rattle.cts_units.specs.declared.params.Sink.{Sink}
 use Rattle.cts_topo.specs.Sinks.{IsPlaced}
-use Rattle.cts_topo.proofs.divide.tests.are_fit.Goals as goal
+use Rattle.cts_rows.proofs.shapes.are_fit.Goals as goal
 
 placed_more : (sinks : List Sink) (i : ℕ) (e : Sink) → ((k : ℕ) (d : Sink) → k < i → IsPlaced (get_or sinks k d))
     → i < length sinks → IsPlaced (get_or sinks i e) → (k : ℕ) (d : Sink) → k < i + 1 → IsPlaced (get_or sinks k d)

@@ -1,4 +1,4 @@
-use Rattle.cts_up.proofs.pass.tests.plan_of.Given as goal
+use Rattle.cts_rows.proofs.merges.pair.Given as goal
 
 abbrev pub ghosts-counted : goal.ghosts-counted
 ghosts-counted a = record { name = a.blank.name; parts = a.blank.parts }

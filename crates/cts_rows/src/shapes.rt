@@ -1,10 +1,9 @@
-//! Worked shapes.
+//! Shapes over a few sinks.
 
 ghost use Rattle.std.specs.Prelude.{◌≡◌, ◌≢◌, IsTrue, All};
 ghost use Rattle.cts_topo.specs.Sinks.{AreSinks, IsPlaced};
 
-use super::topology;
-use crate::shape::{Shape, ShapeNode};
+use cts_topo::{Shape, ShapeNode, topology};
 use cts_units::Sink;
 use std::test::Fail;
 
