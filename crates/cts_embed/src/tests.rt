@@ -6,7 +6,7 @@ ghost use Rattle.cts_topo.specs.Shape.{IsShapeOver};
 
 use crate::balancing::balance;
 use crate::embedding::embed;
-use crate::end::BalanceEnd;
+use crate::end::{BalanceEnd, EmbedEnd};
 use cts_block::{Block, Kind};
 use cts_geom::{Die, Half, Spot};
 use cts_instance::{Blocks, Instance, Parts, Sinks, check_instance};
@@ -50,6 +50,14 @@ fn tree_of(alloc: Global, parts: Parts) -> Result<Result<Tree, BalanceEnd>, Fail
     let plan = counted::<Brand>(alloc, Blank::new(1), &instance, &shape)?;
     let placed = embed(alloc, &instance, &shape, plan.as_slice())?;
     Ok(balance(alloc, &instance, placed))
+}
+
+/// Why the plan of an instance is not embedded, if it is not.
+fn cut_of(alloc: Global, parts: Parts) -> Result<Option<EmbedEnd>, Fail> {
+    let instance = check_instance(alloc, parts)?;
+    let shape = topology(alloc, instance.sinks())?;
+    let plan = counted::<Brand>(alloc, Blank::new(1), &instance, &shape)?;
+    Ok(embed(alloc, &instance, &shape, plan.as_slice()).err())
 }
 
 /// Sinks on a die whose sides are `side` nm, with the source at (0, 0), and with a wire of `unit` µΩ and
@@ -249,5 +257,54 @@ fn root_with_a_slow_source_is_beyond(rt: HostRuntime) -> Result<(), Fail> {
         tree_of(rt.alloc(), parts)?.err(),
         Some(BalanceEnd::Beyond { node: 0 })
     );
+    Ok(())
+}
+
+/// A block in nm that stops wires.
+fn wall(x1: i64, y1: i64, x2: i64, y2: i64) -> Block {
+    Block {
+        kind: Kind::All,
+        x1,
+        y1,
+        x2,
+        y2,
+    }
+}
+
+/// One sink of 5 fF at (10, y) um among blocks that stop wires, with the source at (0, 5).
+fn one_sink(alloc: Global, y: i64, blocks: Vec<Block>) -> Result<Parts, Fail> {
+    let library = Library::of(Vec::new(alloc));
+    let sinks = vec![in alloc; sink(1, 10_000, y, 5_000_000)]?;
+    let mut parts = parts_of(20_000, 1000, library, 0, sinks, blocks);
+    parts.source_y = 5000;
+    Ok(parts)
+}
+
+#[test]
+fn routes_among_blocks(rt: HostRuntime) -> Result<(), Fail> {
+    // Round the block by (4, 5), (4, 2) and (10, 2): 16 um where the distance is 10.
+    let parts = one_sink(
+        rt.alloc(),
+        5000,
+        vec![in rt.alloc(); wall(4000, 2000, 6000, 9000)]?,
+    )?;
+    let tree = tree_of(rt.alloc(), parts)??;
+    let nodes = tree.nodes();
+    assert_eq!(rt; nodes.len(), 1);
+    let corners = [
+        Half { x: 8000, y: 10_000 },
+        Half { x: 8000, y: 4000 },
+        Half { x: 20_000, y: 4000 },
+    ];
+    compare(&rt, &nodes[0], (15_000, 5000), 16_000, 16_000, &corners);
+    // A sink in a pocket of four blocks.
+    let pocket = vec![in rt.alloc();
+        wall(7000, 7000, 9000, 13_000),
+        wall(11_000, 7000, 13_000, 13_000),
+        wall(7000, 7000, 13_000, 9000),
+        wall(7000, 11_000, 13_000, 13_000),
+    ]?;
+    let parts = one_sink(rt.alloc(), 10_000, pocket)?;
+    assert_eq!(rt; cut_of(rt.alloc(), parts)?, Some(EmbedEnd::Cut { node: 0 }));
     Ok(())
 }
