@@ -1,17 +1,32 @@
--- Why a synthesis gives no tree.
-use Rattle.std.specs.Prelude.{List}
+-- Why a synthesis gives no tree, and how many merges it took to see so.
+use Rattle.std.specs.Prelude.{◌≡◌, ◌⊎◌, ℕ, ◌+◌, List, length}
 use Rattle.cts_instance.specs.declared.parts.Parts.{Parts}
 use Rattle.cts_topo.specs.declared.shape.ShapeNode.{ShapeNode}
 use Rattle.cts_topo.specs.Topology.{shape_of}
+use Rattle.cts_up.specs.Ends.{CountsPairs}
+use Rattle.cts_up.specs.Plan.{IsLeastBeyond as IsBeyondInPlan}
+use Rattle.cts_up.specs.declared.end.UpEnd.TheVariants as plan
 use Rattle.cts_plain.specs.declared.end.NoTree.{NoTree}
 use Rattle.cts_plain.specs.declared.end.NoTree.TheVariants.{Beyond, Cut, NoMemory}
-use Rattle.cts_plain.specs.Synthesis.{beyond, cut, IsSynthesisOver}
+use Rattle.cts_plain.specs.Synthesis.{beyond, cut, IsBeyondOf, IsCutOf, IsSynthesis}
 
--- over one shape: the synthesis comes to this node, or memory ran out
-abbrev pub EndsOver : Parts → List ShapeNode → NoTree → Type 0
-EndsOver i shape (Beyond node) = IsSynthesisOver i shape (beyond node)
-EndsOver i shape (Cut node) = IsSynthesisOver i shape (cut node)
-EndsOver i shape NoMemory = Unit {0}
+-- over one shape with a plan: a node is beyond in the balance, or cut, or memory ran out
+abbrev pub EndsWithPlan : Parts → List ShapeNode → NoTree → Type 0
+EndsWithPlan i shape (Beyond node) = IsBeyondOf i shape node
+EndsWithPlan i shape (Cut node) = IsCutOf i shape node
+EndsWithPlan i shape NoMemory = Unit {0}
 
+-- the synthesis of an instance comes to this node, or memory ran out
 abbrev pub Ends : Parts → NoTree → Type 0
-Ends i end_ = EndsOver i (shape_of i.sinks) end_
+Ends i (Beyond node) = IsSynthesis i (beyond node)
+Ends i (Cut node) = IsSynthesis i (cut node)
+Ends i NoMemory = Unit {0}
+
+-- Where there is no tree, the count of merges has grown by one for each pair up to the node that is beyond in the plan; or
+-- by one for each pair, where the plan has no such node.
+abbrev pub CountsMerges : Parts → ℕ → ℕ → NoTree → Type 0
+CountsMerges i before after (Beyond node) =
+    (IsBeyondInPlan i.params i.sinks (shape_of i.sinks) node × CountsPairs (shape_of i.sinks) before after (plan.Beyond node))
+    ⊎ (IsBeyondOf i (shape_of i.sinks) node × (after + 1 ≡ before + length i.sinks))
+CountsMerges i before after (Cut node) = after + 1 ≡ before + length i.sinks
+CountsMerges i before after NoMemory = Unit {0}

@@ -1,11 +1,11 @@
 //! The passes of the synthesis, one after the other.
 
-ghost use Rattle.std.specs.Prelude.{◌≡◌, ◌+◌, ◌≤◌, length, All, IfOk, IfErr};
+ghost use Rattle.std.specs.Prelude.{◌≡◌, ◌+◌, ◌≤◌, length, All, IfOk, IfErr, OnOk};
 ghost use Rattle.cts_topo.specs.Shape.{IsShapeOver};
 ghost use Rattle.cts_up.specs.Plan.{IsPlan};
 ghost use Rattle.cts_elmore.specs.Figures.{AreFigures, AreFiguresInRange};
 ghost use Rattle.cts_elmore.specs.Sound.{IsSound};
-ghost use Rattle.cts_plain.specs.Ends.{Ends, EndsOver};
+ghost use Rattle.cts_plain.specs.Ends.{CountsMerges, Ends, EndsWithPlan};
 ghost use Rattle.cts_plain.specs.Synthesis.{IsSynthesis, IsSynthesisOver, StandsInDie, made};
 
 use crate::end::NoTree;
@@ -38,7 +38,7 @@ pub fn finish(
     ensures one_each { IfOk result (λ r. length r.1.nodes ≡ length r.0) }
     ensures in_range { IfOk result (λ r. AreFiguresInRange r.1) }
     ensures in_die { IfOk result (λ r. All (StandsInDie instance.now.die) r.0) }
-    ensures ends { IfErr result (EndsOver instance.now shape.now) }
+    ensures ends { IfErr result (EndsWithPlan instance.now shape.now) }
 {
     // Each read call says that the instance is valid, which the limits of the passes rest on.
     let _die = instance.die();
@@ -66,7 +66,9 @@ pub fn synthesise<L: Ledger>(
     ensures in_range { IfOk result (λ r. AreFiguresInRange r.1) }
     ensures in_die { IfOk result (λ r. All (StandsInDie instance.now.die) r.0) }
     ensures ends { IfErr result (Ends instance.now) }
-    ensures merges { steps.new ≤ steps.old + length instance.now.sinks }
+    ensures merges { OnOk result (steps.new + 1 ≡ steps.old + length instance.now.sinks) }
+    ensures merges_until { IfErr result (CountsMerges instance.now steps.old steps.new) }
+    ensures merges_at_most { steps.new + 1 ≤ steps.old + length instance.now.sinks }
 {
     let sinks = instance.sinks();
     let shape = topology(alloc, sinks)?;
