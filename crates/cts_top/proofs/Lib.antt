@@ -1,5 +1,8 @@
-pub mod Chains
 pub mod Endings
 pub mod Inputs
 pub mod Lists
-pub mod OneSink
+pub mod Valid
+pub mod Printable
+pub mod Told
+pub mod Writing
+pub mod Serving

@@ -1,5 +1,5 @@
--- What an input spells: an instance and nothing after it, and whether it is served so far.
-use Rattle.std.specs.Prelude.{◌≡◌, ℕ, ◌≤◌, List, [], length, Result, Ok}
+-- What an input spells: an instance and nothing after it.
+use Rattle.std.specs.Prelude.{◌≡◌, ℕ, ◌≤◌, List, length, Result, Ok}
 use Rattle.cts_instance.specs.declared.parts.Parts.{Parts}
 use Rattle.cts_read.specs.Grammar.{◌>>=◌, Refusal}
 use Rattle.cts_read.specs.Whole.{instance_of, rest_of}
@@ -11,22 +11,15 @@ input_of bytes = do
   _ ← rest_of taken.1.lines
   Ok (taken.0.0)
 
--- one sink, and neither buffers nor blocks
-pub record IsServed (i : Parts) : Type 0 where
-  pub one_sink : length i.sinks ≡ 1
-  pub no_buffer : i.params.library ≡ []
-  pub no_block : i.blocks ≡ []
-
 -- the most bytes of an input that are accepted
 abbrev pub input_limit : ℕ
 input_limit = 67108864
 
--- The input is not too long, and spells this instance, which is served.
+-- The input is not too long, and spells this instance.
 pub record Spells (bytes : List ℕ) (i : Parts) : Type 0 where
   pub within : length bytes ≤ input_limit
   pub read : input_of bytes ≡ Ok i
-  pub served : IsServed i
 
--- the input spells no instance that is served
+-- the input spells no instance
 abbrev pub IsRefused : List ℕ → Type 0
 IsRefused bytes = (i : Parts) → Spells bytes i → ⊥

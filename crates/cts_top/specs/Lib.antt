@@ -1,7 +1,7 @@
-pub mod Elmore
 pub mod Input
 pub mod Notes
 pub mod Outcome
-pub mod Report
-pub mod Synthesis
+pub mod Text
 pub mod Words
+pub mod Written
+pub use Rattle.cts_plain.specs.Synthesis

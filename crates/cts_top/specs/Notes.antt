@@ -48,14 +48,10 @@ usage_note = codes "usage: cts synth W, check, edit, make SEED N, job SEED N W\n
 abbrev pub too_long_note : List ℕ
 too_long_note = codes "refused: input longer than 67108864 bytes\n"
 
-abbrev pub not_built_note : List ℕ
-not_built_note = codes "refused: not built\n"
-
 unfoldable pub stop_note : Stop → List ℕ
 stop_note stop.Words = usage_note
 stop_note stop.TooLong = too_long_note
 stop_note (stop.Refused line cause) = refusal_note line cause
-stop_note stop.NotBuilt = not_built_note
 stop_note stop.ReadFault = codes "read fault\n"
 stop_note stop.WriteFault = codes "write fault\n"
 stop_note stop.NoMemory = codes "no memory\n"

@@ -1,6 +1,6 @@
--- Statuses, and what a run did to its output.
-use Rattle.std.specs.Prelude.{◌≡◌, ◌≢◌, ℕ, ◌<◌, ◌≤◌, ◌⊎◌, List, [], length, take, codes, Option, None, Some, IfSome, Result, Ok, Err, IfOk, IfErr, IsErrOf}
-use Rattle.std.specs.Io.KnownBytes.{Appends, IsAtEnd}
+-- Statuses, and how a run ends.
+use Rattle.std.specs.Prelude.{◌≡◌, ◌≢◌, ℕ, ◌<◌, ◌≤◌, ◌⊎◌, List, [], length, codes, Option, None, Some, IfSome, Result, Ok, Err, IfOk, IfErr, IsErrOf}
+use Rattle.std.specs.Io.KnownBytes.{IsAtEnd}
 use Rattle.cts_io.specs.Faults.{Rose}
 use Rattle.cts_io.specs.declared.read.ReadEnd.{ReadEnd}
 use Rattle.cts_io.specs.declared.read.ReadEnd.TheVariants as reading
@@ -8,17 +8,17 @@ use Rattle.cts_read.specs.declared.stop.Cause.{Cause}
 use Rattle.cts_read.specs.declared.stop.ReadStop.{ReadStop}
 use Rattle.cts_read.specs.declared.stop.ReadStop.TheVariants as text
 use Rattle.cts_instance.specs.declared.parts.Parts.{Parts}
+use Rattle.cts_report.specs.Report.{report_text}
 use Rattle.cts_top.specs.declared.stop.Answer.{Answer}
 use Rattle.cts_top.specs.declared.stop.Answer.TheVariants as answer
 use Rattle.cts_top.specs.declared.stop.Stop.{Stop}
 use Rattle.cts_top.specs.declared.stop.Stop.TheVariants as stop
 use Rattle.cts_top.specs.declared.outcome.Status.{Status}
 use Rattle.cts_top.specs.declared.outcome.Status.TheVariants as status
-use Rattle.cts_top.specs.declared.tree.Tree.{Tree}
-use Rattle.cts_top.specs.Input.{IsServed, Spells, input_limit, input_of}
-use Rattle.cts_top.specs.Notes.{not_built_note, refusal_note, too_long_note, usage_note}
-use Rattle.cts_top.specs.Report.{tree_text}
-use Rattle.cts_top.specs.Synthesis.{synthesis_of}
+use Rattle.cts_top.specs.Input.{Spells, input_limit, input_of}
+use Rattle.cts_top.specs.Notes.{refusal_note, too_long_note, usage_note}
+use Rattle.cts_top.specs.Text.{TellsSynthesis}
+use Rattle.cts_top.specs.Written.{IsAnswered, IsAnsweredInPart}
 
 -- what a run stops at where reading its input ended so
 abbrev pub stop_of_read : ReadEnd → Stop
@@ -31,12 +31,11 @@ stop_of_text (text.Refused line cause) = stop.Refused line cause
 stop_of_text text.NoMemory = stop.NoMemory
 
 abbrev pub status_of : Result Answer Stop → Status
-status_of (Ok answer.Report) = status.Done
+status_of (Ok answer.Text) = status.Done
 status_of (Ok answer.NoTree) = status.NoTree
 status_of (Err stop.Words) = status.Words
 status_of (Err stop.TooLong) = status.Refused
 status_of (Err (stop.Refused line cause)) = status.Refused
-status_of (Err stop.NotBuilt) = status.Refused
 status_of (Err stop.ReadFault) = status.ReadFault
 status_of (Err stop.WriteFault) = status.WriteFault
 status_of (Err stop.NoMemory) = status.NoMemory
@@ -51,30 +50,15 @@ code_of status.ReadFault = 5
 code_of status.WriteFault = 6
 code_of status.NoMemory = 7
 
--- the text for an instance: the report of its tree, or one line where it has none
-unfoldable pub text_of : Option Tree → List ℕ
-text_of (Some tree) = tree_text tree
-text_of None = codes "no tree: beyond at node 0\n"
+-- the right text for an input: that of the synthesis of the instance that it spells, the tree told by its report
+abbrev pub IsRight : List ℕ → Answer → List ℕ → Type 0
+IsRight bytes kind text = (i : Parts) × Spells bytes i × TellsSynthesis report_text i kind text
 
--- which of the two it is
-abbrev pub answer_of : Option Tree → Answer
-answer_of (Some tree) = answer.Report
-answer_of None = answer.NoTree
-
--- The output grew by exactly the text for the instance that the bytes spell, and it is that kind of text.
-abbrev pub Answers : Answer → Option (List ℕ) → Option (List ℕ) → List ℕ → Type 0
-Answers kind old new bytes = (i : Parts) × Spells bytes i × (kind ≡ answer_of (synthesis_of i)) × Appends old new (text_of (synthesis_of i))
-
--- the output grew by a front of that text
-abbrev pub AnswersInPart : Option (List ℕ) → Option (List ℕ) → List ℕ → Type 0
-AnswersInPart old new bytes = (i : Parts) × (count : ℕ) × Spells bytes i × Appends old new (take count (text_of (synthesis_of i)))
-
--- What the bytes that were left must be where a run stops so: too long, refused at a line, or not served so far.
+-- What the bytes that were left must be where a run stops so: too long, or refused at a line.
 abbrev pub Explains : Stop → List ℕ → Type 0
 Explains stop.Words bytes = Unit
 Explains stop.TooLong bytes = input_limit < length bytes
 Explains (stop.Refused line cause) bytes = (length bytes ≤ input_limit) × (input_of bytes ≡ Err (line, cause))
-Explains stop.NotBuilt bytes = (length bytes ≤ input_limit) × (i : Parts) × (input_of bytes ≡ Ok i) × (IsServed i → ⊥)
 Explains stop.ReadFault bytes = Unit
 Explains stop.WriteFault bytes = Unit
 Explains stop.NoMemory bytes = Unit
@@ -83,9 +67,10 @@ Explains stop.NoMemory bytes = Unit
 -- was written whole, the input explains why, and the output is as it was but for a write fault.
 pub record Serves {S K : Type 0} (left : S → Option (List ℕ)) (reads : S → ℕ) (held : K → Option (List ℕ)) (writes : K → ℕ)
     (source source' : S) (sink sink' : K) (result : Result Answer Stop) : Type 0 where
-  pub done : IfOk result (λ answer. IsAtEnd (left source') × IfSome (left source) (Answers answer (held sink) (held sink')))
-  pub write_fault : IsErrOf result stop.WriteFault
-      → IsAtEnd (left source') × Rose (writes sink) (writes sink') × IfSome (left source) (AnswersInPart (held sink) (held sink'))
+  pub done : IfOk result (λ kind. IsAtEnd (left source')
+      × IfSome (left source) (λ bytes. IsAnswered (IsRight bytes) kind (held sink) (held sink')))
+  pub write_fault : IsErrOf result stop.WriteFault → IsAtEnd (left source') × Rose (writes sink) (writes sink')
+      × IfSome (left source) (λ bytes. IsAnsweredInPart (IsRight bytes) (held sink) (held sink'))
   pub read_fault : IsErrOf result stop.ReadFault → Rose (reads source) (reads source')
   pub explained : IfErr result (λ end. IfSome (left source) (Explains end))
   pub kept : IfErr result (λ end. end ≢ stop.WriteFault → sink' ≡ sink)
@@ -93,12 +78,11 @@ pub record Serves {S K : Type 0} (left : S → Option (List ℕ)) (reads : S →
   pub sink_counted : writes sink ≤ writes sink'
 
 -- The note of a refused input says that it is too long exactly where it is; else it names the first line that offends and
--- its first cause, or says that the instance is not served so far. Where the source tells no bytes it is one of the three.
+-- its first cause. Where the source tells no bytes it is one of the two.
 abbrev pub IsRefusalNote : Option (List ℕ) → List ℕ → Type 0
-IsRefusalNote None note = (note ≡ too_long_note) ⊎ (note ≡ not_built_note) ⊎ ((line : ℕ) × (cause : Cause) × (note ≡ refusal_note line cause))
+IsRefusalNote None note = (note ≡ too_long_note) ⊎ ((line : ℕ) × (cause : Cause) × (note ≡ refusal_note line cause))
 IsRefusalNote (Some bytes) note =
     ((input_limit < length bytes) × (note ≡ too_long_note))
-    ⊎ ((length bytes ≤ input_limit) × (i : Parts) × (input_of bytes ≡ Ok i) × (IsServed i → ⊥) × (note ≡ not_built_note))
     ⊎ ((length bytes ≤ input_limit) × (line : ℕ) × (cause : Cause) × (input_of bytes ≡ Err (line, cause)) × (note ≡ refusal_note line cause))
 
 -- what the notes get for a status, where these bytes were left before: one line, or nothing

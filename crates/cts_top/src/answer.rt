@@ -1,36 +1,88 @@
-//! The text for the tree of an instance.
+//! The synthesis of an instance, and the text for it.
 
-ghost use Rattle.std.specs.Prelude.{◌≡◌, IfSome, IfOk, IfErr, IsErr, IsErrOf, ℕ, take, ◌≤◌};
-ghost use Rattle.std.specs.Io.KnownBytes.{Appends};
-ghost use Rattle.cts_io.specs.Faults.{Rose};
-ghost use Rattle.cts_top.specs.Outcome.{answer_of, text_of};
-ghost use Rattle.cts_top.specs.Report.{FitsReport};
-ghost use Rattle.cts_top.specs.declared.stop.Stop.TheVariants.{WriteFault};
+ghost use Rattle.std.specs.Prelude.{◌≡◌, ◌<◌, IfOk, IfErr};
+ghost use Rattle.cts_io.specs.Text.{Writes};
+ghost use Rattle.cts_elmore.specs.Figures.{AreFigures};
+ghost use Rattle.cts_elmore.specs.Sound.{IsSound};
+ghost use Rattle.cts_report.specs.Report.{IsPrintable, report_text};
+ghost use Rattle.cts_plain.specs.Ends.{Ends};
+ghost use Rattle.cts_plain.specs.Synthesis.{IsSynthesis, made};
+ghost use Rattle.cts_top.specs.Text.{TellsSynthesis, no_tree_text};
+ghost use Rattle.cts_top.specs.Written.{Answers};
 
-use crate::report::write_report;
-use crate::stop::{Answer, Stop};
-use crate::tree::Tree;
-use cts_io::{ByteSink, write_all};
+use crate::notes::put_numbered;
+use crate::stop::{Answer, Stop, ended};
+use cts_elmore::Figures;
+use cts_instance::Instance;
+use cts_io::{ByteSink, SinkBuffer, WriteEnd};
+use cts_merge::Steps;
+use cts_plain::{NoTree, synthesise};
+use cts_report::write_report;
+use cts_tree::Tree;
+use std::alloc::Global;
+use std::marker::Brand;
+use std::sync::ledger::{Blank, Ledger};
 
-/// Writes the report of a tree, or the line that says that there is none. It takes no memory.
-#[tactic(auto, unfolding(crate::specs::Outcome::text_of))]
-pub fn write_answer<K: ByteSink>(sink: &mut K, tree: &Option<Tree>) -> Result<Answer, Stop>
-    requires { IfSome tree.now FitsReport }
-    ensures kind { IfOk result (λ answer. answer ≡ answer_of tree.now) }
-    ensures whole { IfOk result (λ answer. Appends (K.held sink.old) (K.held sink.new) (text_of tree.now)) }
-    ensures fault { IfErr result (λ stop. stop ≡ WriteFault) }
-    ensures cut { IsErr result → (count : ℕ) × Appends (K.held sink.old) (K.held sink.new) (take count (text_of tree.now)) }
-    ensures rose { IsErr result → Rose (K.faults sink.old) (K.faults sink.new) }
-    ensures counted { K.faults sink.old ≤ K.faults sink.new }
+/// The synthesis of an instance with a counter of its own.
+fn synthesise_counted<L: Ledger>(
+    alloc: Global,
+    blank: Blank,
+    instance: &Instance,
+) -> Result<(Tree, Figures), NoTree>
+    requires name { blank.name ≡ L.name }
+    requires parts { blank.parts ≡ L.parts }
+    requires some { 0 < L.parts }
+    ensures tree { IfOk result (λ r. IsSynthesis instance.now (made r.0)) }
+    ensures figures { IfOk result (λ r. AreFigures instance.now r.0 r.1) }
+    ensures sound { IfOk result (λ r. IsSound instance.now r.0) }
+    ensures printable { IfOk result (λ r. IsPrintable r.0 r.1) }
+    ensures ends { IfErr result (Ends instance.now) }
 {
-    match tree {
-        Some(tree) => {
-            write_report(sink, tree)?;
-            Ok(Answer::Report)
+    // A read call says that the instance is valid, which the limits of what is printed rest on.
+    let _die = instance.die();
+    let mut steps = Steps::<L>::open(blank);
+    synthesise(alloc, instance, &mut steps)
+}
+
+/// The synthesis of an instance, whose merges nobody counts.
+fn synthesise_alone(alloc: Global, instance: &Instance) -> Result<(Tree, Figures), NoTree>
+    ensures tree { IfOk result (λ r. IsSynthesis instance.now (made r.0)) }
+    ensures figures { IfOk result (λ r. AreFigures instance.now r.0 r.1) }
+    ensures sound { IfOk result (λ r. IsSound instance.now r.0) }
+    ensures printable { IfOk result (λ r. IsPrintable r.0 r.1) }
+    ensures ends { IfErr result (Ends instance.now) }
+{
+    synthesise_counted::<Brand>(alloc, Blank::new(1), instance)
+}
+
+/// The line that says at which node there is no tree.
+fn write_no_tree<K: ByteSink>(sink: &mut K, why: &[u8], node: u32) -> Result<(), WriteEnd>
+    ensures { Writes K.held K.faults sink.old sink.new (no_tree_text why.now node) result }
+{
+    let mut out = SinkBuffer::new();
+    out.put(sink, b"no tree: ");
+    out.put(sink, why);
+    put_numbered(&mut out, sink, b" at node ", node as u64);
+    out.put(sink, b"\n");
+    out.finish(sink)
+}
+
+/// Writes the text for the synthesis of an instance: the report of its tree, or the line that says why
+/// it has none.
+pub fn answer_instance<K: ByteSink>(
+    alloc: Global,
+    sink: &mut K,
+    instance: &Instance,
+) -> Result<Answer, Stop>
+    ensures { Answers (TellsSynthesis report_text instance.now) K.held K.faults sink.old sink.new result }
+{
+    let _die = instance.die();
+    match synthesise_alone(alloc, instance) {
+        Ok((tree, figures)) => ended(write_report(sink, instance, &tree, &figures), Answer::Text),
+        Err(NoTree::Beyond { node }) => {
+            ended(write_no_tree(sink, b"beyond", node), Answer::NoTree)
         }
-        None => {
-            write_all(sink, b"no tree: beyond at node 0\n")?;
-            Ok(Answer::NoTree)
-        }
+        Err(NoTree::Cut { node }) => ended(write_no_tree(sink, b"cut", node), Answer::NoTree),
+        Err(NoTree::NoMemory) => Err(Stop::NoMemory),
     }
 }

@@ -2,19 +2,16 @@
 //!
 //! The layer above, the program, may use [`run_alone`], [`end_without_memory`] where it can't even
 //! collect the words, and the statuses. What stands beside them is private: the words (`words`), the
-//! instance of an input (`input`), the synthesis of one sink (`tree`, `synthesis`), the writer of its
-//! report (`report`, `answer`) and the notes (`stop`, `notes`). The synthesis and the writer make way for crates of their own as those come.
+//! instance of an input (`input`), its synthesis and the text for it (`answer`), and the notes (`stop`,
+//! `notes`).
 #![tactic(auto)]
 
 mod answer;
 mod input;
 mod notes;
 mod outcome;
-mod report;
 mod run;
 mod stop;
-mod synthesis;
-mod tree;
 mod words;
 
 pub use outcome::{Outcome, Status};

@@ -40,7 +40,6 @@ fn put_stop<N: ByteSink>(out: &mut SinkBuffer, notes: &mut N, stop: &Stop)
         ),
         Stop::TooLong => out.put(notes, b"refused: input longer than 67108864 bytes\n"),
         Stop::Refused { line, cause } => put_refusal(out, notes, *line, cause),
-        Stop::NotBuilt => out.put(notes, b"refused: not built\n"),
         Stop::ReadFault => out.put(notes, b"read fault\n"),
         Stop::WriteFault => out.put(notes, b"write fault\n"),
         Stop::NoMemory => out.put(notes, b"no memory\n"),
@@ -104,8 +103,9 @@ fn put_fault<N: ByteSink>(out: &mut SinkBuffer, notes: &mut N, fault: &Fault)
     }
 }
 
+/// Puts some words and a number after them.
 #[tactic(auto, unfolding(crate::specs::Notes::numbered))]
-fn put_numbered<N: ByteSink>(out: &mut SinkBuffer, notes: &mut N, before: &[u8], number: u64)
+pub fn put_numbered<N: ByteSink>(out: &mut SinkBuffer, notes: &mut N, before: &[u8], number: u64)
     ensures { Puts N.held N.faults notes.old out.old notes.new out.new (numbered before.now number) }
 {
     out.put(notes, before);

@@ -5,16 +5,17 @@ ghost use Rattle.std.specs.Io.KnownBytes.{Appends, IsAtEnd};
 ghost use Rattle.cts_io.specs.Faults.{Rose};
 ghost use Rattle.cts_instance.specs.declared.parts.Parts.{Parts};
 ghost use Rattle.cts_top.specs.Input.{IsRefused, Spells};
-ghost use Rattle.cts_top.specs.Outcome.{Answers, AnswersInPart, IsNote, Serves, answer_of, status_of};
-ghost use Rattle.cts_top.specs.Synthesis.{synthesis_of};
+ghost use Rattle.cts_top.specs.Outcome.{IsNote, IsRight, Serves, status_of};
+ghost use Rattle.cts_top.specs.Written.{IsAnswered, IsAnsweredInPart};
+ghost use Rattle.cts_top.specs.Text.{answer_of};
+ghost use Rattle.cts_plain.specs.Synthesis.{Synthesis, IsSynthesis};
 ghost use Rattle.cts_top.specs.Words.{IsSynth};
 
-use crate::answer::write_answer;
+use crate::answer::answer_instance;
 use crate::input::read_input;
 use crate::notes::write_note;
 use crate::outcome::{Outcome, Status};
 use crate::stop::{Answer, Stop, status_of};
-use crate::synthesis::synthesise;
 use crate::words::is_synth;
 use cts_io::{ByteSink, ByteSource, read_all};
 use std::alloc::Global;
@@ -34,7 +35,7 @@ fn serve<S: ByteSource, K: ByteSink>(
 {
     let bytes = read_all(alloc, source, INPUT_LIMIT)?;
     let instance = read_input(alloc, &bytes)?;
-    write_answer(sink, &synthesise(&instance))
+    answer_instance(alloc, sink, &instance)
 }
 
 /// Does what the words ask for.
@@ -59,12 +60,12 @@ fn answer<S: ByteSource, K: ByteSink>(
 /// out whole where nothing did.
 ///
 /// - `Done`: the report of the instance that the input spells was written, and nothing else.
-/// - `NoTree`: the tree of the instance is beyond the limits; the line that says so was written, and
-///   nothing else.
+/// - `NoTree`: the instance has no tree, since a node is beyond the limits or no route reaches it; the
+///   line that says so was written, and nothing else.
 /// - `Words`: exactly where the words are not `synth` and the number 1; source and sink are as they
 ///   were.
-/// - `Refused`: exactly where the input spells no instance that is served so far, one that is longer
-///   than 64 MiB among them; the sink is as it was.
+/// - `Refused`: exactly where the input spells no instance, or is longer than 64 MiB; the sink is as it
+///   was.
 /// - `ReadFault`, `WriteFault`: only where the count of faults of source or sink rose in this call.
 ///   After a write fault the sink holds its old bytes and a front of the text.
 /// - `NoMemory`: after the words and before the first write; the sink is as it was.
@@ -80,10 +81,10 @@ pub fn run_alone<R: Threads + Sync, S: ByteSource, K: ByteSink, N: ByteSink>(
 ) -> Outcome
     // The report of the synthesis of the instance that was read to its end, and nothing else ..
     ensures done { result.status ≡ Status.Done → IsAtEnd (S.left source.new)
-        × IfSome (S.left source.old) (Answers Answer.Report (K.held sink.old) (K.held sink.new)) }
+        × IfSome (S.left source.old) (λ bytes. IsAnswered (IsRight bytes) Answer.Text (K.held sink.old) (K.held sink.new)) }
     // .. or that it has no tree.
     ensures no_tree { result.status ≡ Status.NoTree → IsAtEnd (S.left source.new)
-        × IfSome (S.left source.old) (Answers Answer.NoTree (K.held sink.old) (K.held sink.new)) }
+        × IfSome (S.left source.old) (λ bytes. IsAnswered (IsRight bytes) Answer.NoTree (K.held sink.old) (K.held sink.new)) }
 
     ensures words { (result.status ≡ Status.Words) ↔ (IsSynth words.now → ⊥) }
     ensures untouched { result.status ≡ Status.Words → source.new ≡ source.old }
@@ -92,7 +93,7 @@ pub fn run_alone<R: Threads + Sync, S: ByteSource, K: ByteSink, N: ByteSink>(
     ensures read_fault { result.status ≡ Status.ReadFault → Rose (S.faults source.old) (S.faults source.new) }
     ensures write_fault { result.status ≡ Status.WriteFault → Rose (K.faults sink.old) (K.faults sink.new) }
     ensures in_part { result.status ≡ Status.WriteFault → IsAtEnd (S.left source.new)
-        × IfSome (S.left source.old) (AnswersInPart (K.held sink.old) (K.held sink.new)) }
+        × IfSome (S.left source.old) (λ bytes. IsAnsweredInPart (IsRight bytes) (K.held sink.old) (K.held sink.new)) }
     ensures sink_kept { result.status ≢ Status.Done → result.status ≢ Status.NoTree → result.status ≢ Status.WriteFault
         → sink.new ≡ sink.old }
 
@@ -100,11 +101,11 @@ pub fn run_alone<R: Threads + Sync, S: ByteSource, K: ByteSink, N: ByteSink>(
     ensures sink_counted { K.faults sink.old ≤ K.faults sink.new }
     ensures notes_counted { N.faults notes.old ≤ N.faults notes.new }
 
-    // Where nothing failed, an instance that is served is answered by its synthesis, unless memory ran out ..
+    // Where nothing failed, an instance is answered by its synthesis, unless memory ran out ..
     ensures complete { IsSynth words.now → (Rose (S.faults source.old) (S.faults source.new) → ⊥)
         → (Rose (K.faults sink.old) (K.faults sink.new) → ⊥)
-        → IfSome (S.left source.old) (λ bytes. (i : Parts) → Spells bytes i
-        → (result.status ≡ status_of (Ok (answer_of (synthesis_of i)))) ⊎ (result.status ≡ Status.NoMemory)) }
+        → IfSome (S.left source.old) (λ bytes. (i : Parts) → Spells bytes i → (s : Synthesis) → IsSynthesis i s
+        → (result.status ≡ status_of (Ok (answer_of s))) ⊎ (result.status ≡ Status.NoMemory)) }
 
     // .. and any other input is refused.
     ensures refuses { IsSynth words.now → (Rose (S.faults source.old) (S.faults source.new) → ⊥)

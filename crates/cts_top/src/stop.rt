@@ -2,6 +2,7 @@
 
 ghost use Rattle.std.specs.Prelude.{◌≡◌, Result};
 ghost use Rattle.cts_top.specs.Outcome.{status_of, stop_of_read, stop_of_text};
+ghost use Rattle.cts_top.specs.Written.{ended_of};
 ghost use Rattle.cts_top.specs.declared.stop.Stop.TheVariants.{WriteFault};
 
 use crate::outcome::Status;
@@ -12,8 +13,8 @@ use thiserror::Error;
 /// What a run wrote whole.
 #[derive(Clone, Copy)]
 pub enum Answer {
-    /// The report of a tree.
-    Report,
+    /// The text that the words ask for.
+    Text,
     /// That there is no tree.
     NoTree,
 }
@@ -30,9 +31,6 @@ pub enum Stop {
     /// The input is no instance: its first line that offends, and the first cause of that line.
     #[error("line {line}: {cause}")]
     Refused { line: u32, cause: Cause },
-    /// The input is an instance that is not served yet.
-    #[error("not built")]
-    NotBuilt,
     /// Reading the input failed.
     #[error("read fault")]
     ReadFault,
@@ -75,15 +73,23 @@ impl From<WriteEnd> for Stop {
     }
 }
 
+/// How a run ends that wrote a text of this kind.
+pub fn ended(written: Result<(), WriteEnd>, kind: Answer) -> Result<Answer, Stop>
+    ensures { result ≡ ended_of written kind }
+{
+    written?;
+    Ok(kind)
+}
+
 /// The status of a run that ended so.
 pub fn status_of(ending: &Result<Answer, Stop>) -> Status
     ensures { result ≡ status_of ending.now }
 {
     match ending {
-        Ok(Answer::Report) => Status::Done,
+        Ok(Answer::Text) => Status::Done,
         Ok(Answer::NoTree) => Status::NoTree,
         Err(Stop::Words) => Status::Words,
-        Err(Stop::TooLong | Stop::Refused { .. } | Stop::NotBuilt) => Status::Refused,
+        Err(Stop::TooLong | Stop::Refused { .. }) => Status::Refused,
         Err(Stop::ReadFault) => Status::ReadFault,
         Err(Stop::WriteFault) => Status::WriteFault,
         Err(Stop::NoMemory) => Status::NoMemory,

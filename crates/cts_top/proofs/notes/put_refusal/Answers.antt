@@ -1,5 +1,5 @@
 use Rattle.cts_top.specs.Notes.{refusal_note}
-use Rattle.cts_top.proofs.Chains.{◌▸◌}
+use Rattle.cts_io.proofs.Chains.{◌▸◌}
 use Rattle.cts_top.proofs.notes.put_refusal.Goals as goal
 
 pub returns : goal.returns

@@ -1,4 +1,4 @@
-use Rattle.cts_top.proofs.Chains.{written}
+use Rattle.cts_io.proofs.Chains.{written}
 use Rattle.cts_top.proofs.notes.write_note.Goals as goal
 
 pub returns : goal.returns

@@ -1,6 +1,11 @@
 use Rattle.cts_top.specs.Notes.{note_of}
 use Rattle.cts_top.proofs.Endings.{complete_at, note_at, refused_at, refuses_at, whole_at}
+use Rattle.cts_top.proofs.Serving.{done_at}
 use Rattle.cts_top.proofs.run.run_alone.Goals as goal
+
+pub returns-clause-done : goal.returns-clause-done
+returns-clause-done g c = λ s.
+    done_at _ c.answer-ending.result _ _ _ (rw (← c.status_of.ensures) s) c.answer-ending.ensures.serves.done
 
 pub returns-clause-refused : goal.returns-clause-refused
 returns-clause-refused g c = rw c.status_of.ensures (refused_at c.answer-ending.result _ c.answer-ending.ensures.serves.explained)

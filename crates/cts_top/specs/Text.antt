@@ -1,0 +1,48 @@
+-- The text for a synthesis: the report of its tree, or one line where it has none.
+use Rattle.std.specs.Prelude.{◌≡◌, ◌≤◌, ℕ, List, ◌++◌, codes}
+use Rattle.cts_instance.specs.declared.parts.Parts.{Parts}
+use Rattle.cts_instance.specs.Validity.{IsValid}
+use Rattle.cts_tree.specs.declared.nodes.TreeNode.{TreeNode}
+use Rattle.cts_elmore.specs.declared.figures.Figures.{Figures}
+use Rattle.cts_elmore.specs.Figures.{AreFigures}
+use Rattle.cts_elmore.specs.Sound.{IsSound}
+use Rattle.cts_plain.specs.Synthesis.{Synthesis, made, beyond, cut, IsSynthesis}
+use Rattle.cts_top.specs.declared.stop.Answer.{Answer}
+use Rattle.cts_top.specs.declared.stop.Answer.TheVariants as answer
+use Rattle.cts_top.specs.Notes.{numbered}
+
+-- how a tree with its figures is told
+abbrev pub Telling : Type 0
+Telling = List TreeNode → Figures → List ℕ
+
+-- A tree of an instance is told: it is sound, each figure is that of its definition, and the skew is at most the bound.
+pub record TellsTree (telling : Telling) (i : Parts) (tree : List TreeNode) (text : List ℕ) : Type 0 where
+  pub sound : IsSound i tree
+  pub figures : Figures
+  pub are_figures : AreFigures i tree figures
+  pub skew_within : figures.skew ≤ figures.bound
+  pub told : text ≡ telling tree figures
+
+-- the line that says at which node there is no tree
+unfoldable pub no_tree_text : List ℕ → ℕ → List ℕ
+no_tree_text why node = codes "no tree: " ++ why ++ numbered (codes " at node ") node ++ codes "\n"
+
+-- the text for a synthesis
+abbrev pub IsTextOf : Telling → Parts → Synthesis → List ℕ → Type 0
+IsTextOf telling i (made tree) text = TellsTree telling i tree text
+IsTextOf telling i (beyond node) text = text ≡ no_tree_text (codes "beyond") node
+IsTextOf telling i (cut node) text = text ≡ no_tree_text (codes "cut") node
+
+-- which of the two kinds it is
+abbrev pub answer_of : Synthesis → Answer
+answer_of (made tree) = answer.Text
+answer_of (beyond node) = answer.NoTree
+answer_of (cut node) = answer.NoTree
+
+-- The text for the synthesis of a valid instance, and its kind.
+pub record TellsSynthesis (telling : Telling) (i : Parts) (kind : Answer) (text : List ℕ) : Type 0 where
+  pub valid : IsValid i
+  pub synthesis : Synthesis
+  pub is_synthesis : IsSynthesis i synthesis
+  pub kind_is : kind ≡ answer_of synthesis
+  pub is_text : IsTextOf telling i synthesis text
