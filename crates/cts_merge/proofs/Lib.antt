@@ -1,5 +1,6 @@
 pub mod BalancePairs
 pub mod Exists
+pub mod Longest
 pub mod MergePairs
 pub mod Merges
 pub mod Regions
@@ -9,5 +10,6 @@ pub mod Rising
 pub mod SideDelays
 pub mod Snakes
 pub mod Stretches
+pub mod Taps
 pub mod Tight
 pub mod Unique

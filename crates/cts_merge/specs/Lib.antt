@@ -1,6 +1,7 @@
 pub mod Balance
 pub mod Laws
 pub mod LeastPair
+pub mod Lengths
 pub mod Merge
 pub mod MergingRegion
 pub mod Side

@@ -1,12 +1,12 @@
-//! Searches for lengths of wire.
+//! Lengths of wire that bring two delays together: a greatest length, or the next unit.
 
 ghost use Rattle.std.specs.Prelude.{◌≡◌, ◌+◌, ◌-◌, ◌*◌, ◌^◌, ◌<◌, ◌≤◌, MatchOption, IfOk, IfErr};
-ghost use Rattle.cts_units.specs.Delay.{wire_delay_of};
-ghost use Rattle.cts_units.specs.Limits.{IsWire, max_length, max_load};
+ghost use Rattle.cts_units.specs.Limits.{IsWire, max_length};
 ghost use Rattle.cts_merge.specs.LeastPair.{IsLeastPair, IsTooLong, Spans};
 ghost use Rattle.cts_merge.specs.Side.{IsSideInRange, delay_through};
-ghost use Rattle.cts_merge.specs.Stretch.{IsStretch, IsLongStretch, IsLongest};
+ghost use Rattle.cts_merge.specs.Stretch.{IsStretch, IsLongStretch, IsLastBelow};
 
+use crate::greatest::{snake, tap};
 use crate::side::{Beyond, Side};
 use cts_units::{MAX_LENGTH, Wire, wire_delay};
 
@@ -21,30 +21,25 @@ pub(crate) fn delay_through(wire: Wire, side: &Side, length: u64) -> u128
     side.greatest + wire_delay(wire, length, side.load)
 }
 
-/// The greatest length at which a wire into this load has at most this delay, or `None` where that is
-/// over the limit of one wire.
-#[tactic(auto, using(cts_units::proofs::WireDelay::no_wire_no_delay))]
-fn longest(wire: Wire, load: u64, delay: u128) -> Option<u64>
+/// The last length, from `base` on, at which a side's delay is at most `target`, or `None` where that is over
+/// the limit of one wire. Mostly it is the base itself, in a balance.
+fn last_below(wire: Wire, side: &Side, base: u64, target: u128) -> Option<u64>
     requires wire { IsWire wire }
-    requires load { load ≤ max_load }
+    requires side { IsSideInRange side.now }
+    requires base { base ≤ max_length }
+    requires target { target ≤ 2 ^ 111 }
+    requires room { delay_through wire side.now base ≤ target }
     ensures { MatchOption result
-        (wire_delay_of wire.r wire.c (max_length + 1) load ≤ delay)
-        (λ len. IsLongest wire load delay len) }
+        (delay_through wire side.now (max_length + 1) ≤ target)
+        (λ len. IsLastBelow (delay_through wire side.now) target len) }
 {
-    let mut low = 0;
-    let mut high = MAX_LENGTH + 1;
-    if wire_delay(wire, high, load) <= delay {
+    if target < delay_through(wire, side, base + 1) {
+        return Some(base);
+    }
+    if delay_through(wire, side, MAX_LENGTH + 1) <= target {
         return None;
     }
-    while high - low > 1 {
-        let middle = low + (high - low) / 2;
-        if wire_delay(wire, middle, load) <= delay {
-            low = middle;
-        } else {
-            high = middle;
-        }
-    }
-    Some(low)
+    Some(snake(wire, side.load, target - side.greatest))
 }
 
 /// The length from `base` on at which a side's delay comes nearest to `target`, the shorter of two.
@@ -58,7 +53,10 @@ pub(crate) fn stretched(wire: Wire, side: &Side, base: u64, target: u128) -> Res
     ensures within { IfOk result (λ len. len ≤ max_length) }
     ensures beyond { IfErr result (λ _. IsLongStretch (delay_through wire side.now) base target) }
 {
-    let Some(low) = longest(wire, side.load, target - side.greatest) else {
+    if base > MAX_LENGTH {
+        return Err(Beyond);
+    }
+    let Some(low) = last_below(wire, side, base, target) else {
         return Err(Beyond);
     };
     let short_by = target - delay_through(wire, side, low);
@@ -70,32 +68,6 @@ pub(crate) fn stretched(wire: Wire, side: &Side, base: u64, target: u128) -> Res
         return Err(Beyond);
     }
     Ok(low + 1)
-}
-
-/// The greatest length on the first side at which it is not slower than the second one with the rest of
-/// the gap.
-fn tap(wire: Wire, a: &Side, b: &Side, gap: u64) -> u64
-    requires wire { IsWire wire }
-    requires a { IsSideInRange a.now }
-    requires b { IsSideInRange b.now }
-    requires gap { gap ≤ 2 ^ 32 }
-    requires fast_a { delay_through wire a.now 0 < delay_through wire b.now gap }
-    requires fast_b { delay_through wire b.now 0 < delay_through wire a.now gap }
-    ensures below { result < gap }
-    ensures here { delay_through wire a.now result ≤ delay_through wire b.now (gap - result) }
-    ensures next { delay_through wire b.now (gap - (result + 1)) < delay_through wire a.now (result + 1) }
-{
-    let mut low = 0;
-    let mut high = gap;
-    while high - low > 1 {
-        let middle = low + (high - low) / 2;
-        if delay_through(wire, a, middle) <= delay_through(wire, b, gap - middle) {
-            low = middle;
-        } else {
-            high = middle;
-        }
-    }
-    low
 }
 
 /// The two lengths that divide a gap where each side is the faster one without a wire, and without a

@@ -3,14 +3,16 @@
 //!
 //! A layer above hands in two sides and takes what [`merge`] makes of them, or [`Beyond`]; it cites
 //! the definitions of `specs/`: `LeastPair` for the order of pairs of lengths and for which pairs are
-//! admissible, `Merge` and `Balance` for what the calls answer. They range over all lengths, without a
-//! limit. `laws` says that they have one answer, bounds the difference of delays that is left, and says
-//! how a merging region lies to the two regions.
+//! admissible, `Merge` and `Balance` for what the calls answer, `Lengths` for [`tap`] and [`snake`], which
+//! give the greatest lengths in constant time. They range over all lengths, without a limit. `laws` says
+//! that they have one answer, bounds the difference of delays that is left, and says how a merging region
+//! lies to the two regions.
 //!
 //! Lengths are in nm, loads in zF, and delays are doubled, in 10^-27 s. No call takes memory.
 #![tactic(auto)]
 
 mod balance;
+mod greatest;
 pub mod laws;
 mod lengths;
 mod merging;
@@ -18,6 +20,7 @@ mod side;
 mod steps;
 
 pub use balance::choose;
+pub use greatest::{snake, tap};
 pub use merging::{leaf, merge};
 pub use side::{Beyond, Finished, Side};
 pub use steps::Steps;

@@ -1,4 +1,5 @@
 pub mod Computed
+pub mod Floors
 pub mod Fronts
 pub mod Readings
 pub mod Spelling

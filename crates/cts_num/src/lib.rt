@@ -1,16 +1,19 @@
-//! Decimal numbers as text, and the error for want of memory: the lowest layer.
+//! Decimal numbers as text, roots and quotients rounded down, and the error for want of memory: the
+//! lowest layer.
 //!
 //! The layers above may use [`decimal`], which writes a number as its canonical decimal text,
 //! [`read_decimal`], which reads a decimal text or names the first fault in it, the [`laws`] that tie
-//! the two, and [`NoMemory`], to which `?` turns every failed allocation.
+//! the two, [`isqrt`] and [`floor_div`], and [`NoMemory`], to which `?` turns every failed allocation.
 #![tactic(auto)]
 
 mod error;
 pub mod laws;
 mod powers;
 mod read;
+mod roots;
 mod write;
 
 pub use error::NoMemory;
 pub use read::{DecimalFault, read_decimal};
+pub use roots::{floor_div, isqrt};
 pub use write::{Digits, decimal};

@@ -9,7 +9,7 @@ use crate::params::{Buffer, Wire};
 /// The doubled Elmore delay, in 10^-27 s, of a wire of `length` nm into a load of `load` zF:
 /// the wire's resistance into half of its own capacitance and all of the load, taken twice.
 ///
-/// A length may be twice the limit of one wire, since a search for a length brackets it.
+/// A length may be twice the limit of one wire, since two wires may span a gap.
 pub fn wire_delay(wire: Wire, length: u64, load: u64) -> u128
     requires wire { IsWire wire }
     requires length { length ≤ 2 ^ 32 }

@@ -1,5 +1,5 @@
 -- A route that is too long, or a stretch of the wire to the side that is faster over its route.
-use Rattle.std.proofs.Common.{◌-◌, ◌<◌, ◌⊎◌, inl, inr, arith}
+use Rattle.std.proofs.Common.{◌<◌, ◌⊎◌, inl, inr, arith}
 use Rattle.std.proofs.lemmas.Bool.{cases_lt}
 use Rattle.cts_units.specs.Limits.{max_length}
 use Rattle.cts_merge.specs.Balance.{IsBeyondBalance}
