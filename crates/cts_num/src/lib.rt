@@ -1,16 +1,19 @@
 //! Decimal numbers as text, and the error for want of memory: the lowest layer.
 //!
 //! The layers above may use [`decimal`], which writes a number as its canonical decimal text,
-//! [`read_decimal`], which reads a decimal text or names the first fault in it, the [`laws`] that tie
-//! the two, and [`NoMemory`], to which `?` turns every failed allocation.
+//! [`read_canonical`], which reads such a text and no other, [`read_decimal`], which reads a decimal
+//! text or names the first fault in it, the [`laws`] that tie them, and [`NoMemory`], to which `?`
+//! turns every failed allocation.
 #![tactic(auto)]
 
+mod canonical;
 mod error;
 pub mod laws;
 mod powers;
 mod read;
 mod write;
 
+pub use canonical::read_canonical;
 pub use error::NoMemory;
 pub use read::{DecimalFault, read_decimal};
 pub use write::{Digits, decimal};
