@@ -130,3 +130,14 @@ digit_number_rest text i (suc j) le h =
       less = omega (arith, d.0, d.1, front.less, p);
       sum = ap (λ n. digit_number (take n text)) e ∙ more ∙ omega (arith, front.sum, d.0, times_ten (digit_number (take i text)) j);
     }
+
+-- a longer front has no lesser number
+pub digit_number-grows : (text : List ℕ) (i j : ℕ) → i + j ≤ length text → digit_number (take i text) ≤ digit_number (take (i + j) text)
+digit_number-grows text i zero le = let e : i + 0 ≡ i = omega arith in rw e (omega arith)
+digit_number-grows text i (suc j) le =
+    let e : i + suc j ≡ i + j + 1 = omega arith in
+    let front = digit_number-grows text i j (omega arith) in
+    elim (digit_tells (get_or text (i + j) 0)) [
+      | inl d ↦ rw e (omega (arith, front, digit_number_more text (i + j) (omega arith) d.1))
+      | inr d ↦ rw e (omega (arith, front, digit_number_skip text (i + j) (omega arith) d.1))
+    ]

@@ -1,3 +1,4 @@
+pub mod CanonicalTexts
 pub mod Computed
 pub mod Floors
 pub mod Fronts

@@ -48,14 +48,14 @@ spells_digits_by (suc turns) n le =
           rw (digits_text_step n pos) (subst (Spells (digits_text (n / 10) ++ glyph (n % 10) ∷ [])) e (spells_push (digits_text (n / 10)) (n / 10) (n % 10) (omega arith) front))
     ]
 
-spells_whole : (n : ℕ) → Spells (whole_text n) n
+pub spells_whole : (n : ℕ) → Spells (whole_text n) n
 spells_whole n =
     elim (eq-zero-or-pos n) [
       | inl e ↦ rw (e, whole_text_one 0 (omega arith)) (spells_push [] 0 0 (omega arith) spells_none)
       | inr pos ↦ rw (whole_text-digits n pos) (spells_digits_by n n (omega arith))
     ]
 
-spells_padded : (w n : ℕ) → n < 10 ^ w → Spells (padded_text w n) n
+pub spells_padded : (w n : ℕ) → n < 10 ^ w → Spells (padded_text w n) n
 spells_padded zero n lt = let small : n < 1 = omega (arith, lt, pow-zero 10) in let e : n ≡ 0 = omega arith in rw (padded_text-zero n small, e) spells_none
 spells_padded (suc w) n lt =
     let front = spells_padded w (n / 10) (omega (arith, pow-suc 10 w)) in
@@ -79,7 +79,7 @@ value_after_is n (y ∷ ys) =
     let unit : n * 10 ^ suc (length ys) ≡ n * (10 ^ length ys * 10) = ap (λ x. n * x) p in
     omega (arith, left, right, unit)
 
-number_of_two : (xs ys : List ℕ) (a b : ℕ) → Spells xs a → Spells ys b → digit_number (xs ++ (46 ∷ ys)) ≡ a * 10 ^ length ys + b
+pub number_of_two : (xs ys : List ℕ) (a b : ℕ) → Spells xs a → Spells ys b → digit_number (xs ++ (46 ∷ ys)) ≡ a * 10 ^ length ys + b
 unfolding digit_number
 number_of_two xs ys a b f g =
     let digits : filter is_ascii_digit (xs ++ (46 ∷ ys)) ≡ xs ++ ys = filter-append is_ascii_digit xs (46 ∷ ys) ∙ rw (f.only, g.only) refl in
@@ -112,7 +112,7 @@ two_write xs ys a b places pos len f g =
     rw (spare, pow-zero 10, digit_number-all text n (omega arith)) (omega (arith, number_of_two xs ys a b f g, ap (λ j. a * 10 ^ j) len)) in
     subst (IsDecimal text places) same value
 
-number_of_one : (xs : List ℕ) (a : ℕ) → Spells xs a → digit_number xs ≡ a
+pub number_of_one : (xs : List ℕ) (a : ℕ) → Spells xs a → digit_number xs ≡ a
 unfolding digit_number
 number_of_one xs a f = ap (digits_value 10) f.only ∙ f.number
 

@@ -1,5 +1,6 @@
 //! What the words of the contracts mean, as laws: each is the contract of a function that does nothing.
 
+ghost use Rattle.cts_num.specs.Canonical.{CanonicalIsWritten};
 ghost use Rattle.cts_num.specs.Laws.{DecimalIsReadBack, ReadingIsComputed, ReadingIsUnique, ValueIsUnique, WrittenIsRead};
 
 /// A text writes at most one value at each number of places.
@@ -26,4 +27,10 @@ pub fn decimal_is_read_back()
 /// that value and no fault.
 pub fn written_is_read()
     ensures { WrittenIsRead }
+{}
+
+/// A text is read as a number exactly where it is the canonical text of that number, and the number
+/// has at most 38 digits.
+pub fn canonical_is_written()
+    ensures { CanonicalIsWritten }
 {}

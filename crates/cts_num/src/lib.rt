@@ -2,10 +2,12 @@
 //! lowest layer.
 //!
 //! The layers above may use [`decimal`], which writes a number as its canonical decimal text,
-//! [`read_decimal`], which reads a decimal text or names the first fault in it, the [`laws`] that tie
-//! the two, [`isqrt`] and [`floor_div`], and [`NoMemory`], to which `?` turns every failed allocation.
+//! [`read_canonical`], which reads such a text and no other, [`read_decimal`], which reads a decimal
+//! text or names the first fault in it, the [`laws`] that tie them, [`isqrt`] and [`floor_div`], and
+//! [`NoMemory`], to which `?` turns every failed allocation.
 #![tactic(auto)]
 
+mod canonical;
 mod error;
 pub mod laws;
 mod powers;
@@ -13,6 +15,7 @@ mod read;
 mod roots;
 mod write;
 
+pub use canonical::read_canonical;
 pub use error::NoMemory;
 pub use read::{DecimalFault, read_decimal};
 pub use roots::{floor_div, isqrt};

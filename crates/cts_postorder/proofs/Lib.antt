@@ -13,3 +13,4 @@ pub mod Failures
 pub mod Statements
 mod Example
 pub mod Alike
+pub mod Stacks

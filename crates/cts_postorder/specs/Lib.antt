@@ -3,3 +3,4 @@ pub mod PostOrder
 pub mod Occurrence
 pub mod Pass
 pub mod Laws
+pub mod Stack

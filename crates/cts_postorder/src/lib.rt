@@ -8,11 +8,12 @@
 //! and `specs/Pass.antt` the states of upward and downward passes; all of them whatever the nodes
 //! are, given what children a node names. A layer above cites these definitions, the laws below,
 //! and the lemmas of `proofs/`: `Lists` for what stands at a number, `Tips` for the tips of a tree,
-//! `Upward` and `Downward` for the steps of passes, `Failures` for those that stop, `Decorated` for trees of the same form with other nodes, and `Zips` for lists
-//! that are related place by place. Passes are stated over a relation between trees or occurrences
+//! `Upward` and `Downward` for the steps of passes, `Failures` for those that stop, `Decorated` for trees of the same form with other nodes, `Zips` for lists
+//! that are related place by place, and `Stacks` for reading nodes with a stack, whose step `specs/Stack.antt` has. Passes are stated over a relation between trees or occurrences
 //! and their values, so that a layer need not compute what it defines.
 #![tactic(auto)]
 
+ghost use Rattle.cts_postorder.specs.Stack.{OpenIsCompletable};
 ghost use Rattle.cts_postorder.specs.Laws.{ChildrenComeBefore, FrontsKeepTrees, PostOrderIsTree, TipsAreOccurrences, TipsStandBelow, TreesAreSubtrees};
 
 /// A law: a list of nodes is in post-order exactly where it has the nodes of a tree that is
@@ -46,4 +47,10 @@ pub fn tips_are_occurrences<N>()
 /// A law: below further pairs a tree has the same tips, with these pairs above their own.
 pub fn tips_stand_below<N>()
     ensures { TipsStandBelow N }
+{}
+
+/// A law: a stack of trees is read to its end by some list of so many nodes exactly where their
+/// number allows it.
+pub fn open_is_completable()
+    ensures { OpenIsCompletable }
 {}

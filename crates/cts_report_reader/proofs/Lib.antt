@@ -1,0 +1,4 @@
+pub mod Wholes
+pub mod Pieces
+pub mod Parts
+pub mod Labels

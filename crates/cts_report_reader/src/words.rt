@@ -1,0 +1,76 @@
+//! The words of a report's lines, each read from the front of the bytes that are left.
+
+ghost use Rattle.std.specs.Prelude.{◌≡◌, ℕ, ◌^◌, ◌<◌, ◌≤◌, length, IfSome};
+ghost use Rattle.std.specs.List.{prefix_len};
+ghost use Rattle.cts_report_reader.specs.Reader.{is_number_byte};
+ghost use Rattle.cts_report_reader.specs.Words.{Finds, bounded_at, labelled_at, number_at, same, word_at};
+
+use cts_num::read_canonical;
+
+/// What follows a word that has to stand at the front.
+pub fn after_word<'a>(bytes: &'a [u8], word: &[u8]) -> Option<((), &'a [u8])>
+    ensures { Finds same result (word_at word.now bytes.now) }
+{
+    let rest = bytes.strip_prefix(word)?;
+    Some(((), rest))
+}
+
+/// A number in canonical text with so many places, and what follows it.
+pub fn number(bytes: &[u8], places: u32) -> Option<(u128, &[u8])>
+    requires { places ≤ 16 }
+    ensures found { Finds same result (number_at places bytes.now) }
+    ensures small { IfSome result (λ found. found.0 < 10 ^ 38) }
+{
+    let (text, rest) = bytes.split_at(number_size(bytes));
+    let value = read_canonical(text, places)?;
+    Some((value, rest))
+}
+
+// How many bytes stand at the front that a number is written with.
+fn number_size(bytes: &[u8]) -> usize
+    ensures longest { result ≡ prefix_len is_number_byte bytes.now }
+    ensures inside { result ≤ length bytes.now }
+{
+    let mut size = 0;
+    while size < bytes.len() && is_number_byte(bytes[size]) {
+        size += 1;
+    }
+    size
+}
+
+fn is_number_byte(byte: u8) -> bool
+    ensures { result ≡ is_number_byte byte }
+{
+    byte.is_ascii_digit() || byte == b'.'
+}
+
+/// A label, and a number in canonical text with so many places.
+#[tactic(auto, unfolding(crate::specs::Words::labelled_at))]
+pub fn labelled<'a>(bytes: &'a [u8], label: &[u8], places: u32) -> Option<(u128, &'a [u8])>
+    requires { places ≤ 16 }
+    ensures found { Finds same result (labelled_at label.now places bytes.now) }
+    ensures small { IfSome result (λ found. found.0 < 10 ^ 38) }
+{
+    let ((), rest) = after_word(bytes, label)?;
+    number(rest, places)
+}
+
+#[tactic(auto, unfolding(crate::specs::Words::bounded_at))]
+/// A label, and a number in canonical text with so many places that is at most `bound`.
+pub fn bounded<'a>(
+    bytes: &'a [u8],
+    label: &[u8],
+    places: u32,
+    bound: u64,
+) -> Option<(u64, &'a [u8])>
+    requires { places ≤ 16 }
+    ensures found { Finds same result (bounded_at label.now places bound bytes.now) }
+    ensures small { IfSome result (λ found. found.0 ≤ bound) }
+{
+    let (value, rest) = labelled(bytes, label, places)?;
+    if value <= u128::from(bound) {
+        Some((value as u64, rest))
+    } else {
+        None
+    }
+}
