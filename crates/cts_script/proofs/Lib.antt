@@ -1,0 +1,4 @@
+pub mod Draws
+pub mod Lists
+pub mod Valid
+mod Rows
