@@ -1,103 +1,215 @@
 -- What the ending of a run means for its status and its note.
-use Rattle.std.proofs.Common.{◌≡◌, ℕ, ◌⊎◌, inl, inr, List, Option, None, Some, Result, Ok, Err, IfSome, IfOk, IfErr, IsErrOf, refl, sym, subst, ap, ◌∙◌, arith}
+use Rattle.std.proofs.Common.{◌≡◌, ℕ, ◌⊎◌, inl, inr, List, [], Option, None, Some, Result, Ok, Err, IfOk, IfErr, IsErrOf, refl, sym, subst, ap, ◌∙◌, arith}
 use Rattle.std.specs.Io.KnownBytes.{Appends}
 use Rattle.cts_io.specs.Faults.{Rose}
 use Rattle.cts_io.specs.Text.{Writes}
 use Rattle.cts_io.specs.declared.write.WriteEnd.{WriteEnd}
 use Rattle.cts_read.specs.Grammar.{Refusal}
 use Rattle.cts_instance.specs.declared.parts.Parts.{Parts}
+use Rattle.cts_report.specs.Report.{report_text, summary_text}
+use Rattle.cts_script.specs.Generator.{made_parts}
+use Rattle.cts_plain.specs.Synthesis.{Synthesis, IsSynthesis}
 use Rattle.cts_top.specs.declared.stop.Answer.{Answer}
 use Rattle.cts_top.specs.declared.stop.Answer.TheVariants as answer
 use Rattle.cts_top.specs.declared.stop.Stop.{Stop}
 use Rattle.cts_top.specs.declared.stop.Stop.TheVariants as stop
+use Rattle.cts_top.specs.declared.words.Form.{Form}
+use Rattle.cts_top.specs.declared.words.Form.TheVariants.{Synth, Make, Job}
 use Rattle.cts_top.specs.declared.outcome.Status.TheVariants as status
-use Rattle.cts_plain.specs.Synthesis.{Synthesis, IsSynthesis}
-use Rattle.cts_top.specs.Input.{IsRefused, Spells, input_of}
+use Rattle.cts_top.specs.Input.{Spells, input_of}
 use Rattle.cts_top.specs.Notes.{note_of, stop_note}
-use Rattle.cts_report.specs.Report.{report_text}
-use Rattle.cts_top.specs.Outcome.{Explains, IsNote, IsRight, status_of}
-use Rattle.cts_top.specs.Text.{TellsSynthesis, answer_of}
+use Rattle.cts_top.specs.Outcome.{IsNote, status_of}
+use Rattle.cts_top.specs.Right.{Explains, IsRight, IsRightKind, OfInput, RefusesInput}
+use Rattle.cts_top.specs.Text.{TellsSynthesis, TreeText, answer_of}
 use Rattle.cts_top.specs.Written.{IsAnswered, IsAnsweredInPart}
 use Rattle.cts_top.proofs.Valid.{synthesis_same}
 
+-- what follows, bytes by bytes, from what holds of an input
+pub on_input : (form : Form) (left : Option (List ℕ)) (P Q : List ℕ → Type 0) → ((b : List ℕ) → P b → Q b) → OfInput form left P → OfInput form left Q
+on_input Synth None P Q f p = tt
+on_input Synth (Some b) P Q f p = f b p
+on_input (Make seed sinks) left P Q f p = f [] p
+on_input (Job seed sinks) left P Q f p = f [] p
+
+pub of_all : (form : Form) (left : Option (List ℕ)) (Q : List ℕ → Type 0) → ((b : List ℕ) → Q b) → OfInput form left Q
+of_all Synth None Q q = tt
+of_all Synth (Some b) Q q = q b
+of_all (Make seed sinks) left Q q = q []
+of_all (Job seed sinks) left Q q = q []
+
 -- an input spells one instance
-pub one_instance : (bytes : List ℕ) (i j : Parts) → Spells bytes i → Spells bytes j → i ≡ j
+one_instance : (bytes : List ℕ) (i j : Parts) → Spells bytes i → Spells bytes j → i ≡ j
 one_instance bytes i j s t = let e : Ok i ≡ Ok j = sym s.read ∙ t.read in cc
 
 refused_spells_none : (bytes : List ℕ) (i : Parts) (r : Refusal) → input_of bytes ≡ Err r → Spells bytes i → ⊥
 refused_spells_none bytes i r e s = let f = sym e ∙ s.read in cc
 
--- the input of a stop that refuses it
-pub explained_refused : (stop : Stop) (bytes : List ℕ) → status_of (Err stop) ≡ status.Refused → Explains stop bytes → IsRefused bytes
-explained_refused stop.Words bytes e x i s = cc
-explained_refused stop.TooLong bytes e x i s = omega (arith, x, s.within)
-explained_refused (stop.Refused line cause) bytes e x i s = refused_spells_none bytes i (line, cause) x.1 s
-explained_refused stop.ReadFault bytes e x i s = cc
-explained_refused stop.WriteFault bytes e x i s = cc
-explained_refused stop.NoMemory bytes e x i s = cc
+-- an instance has one synthesis, and so one kind of text
+same_kind : (tell : TreeText) (i : Parts) (kind : Answer) (text : List ℕ) (s : Synthesis) → TellsSynthesis tell i kind text → IsSynthesis i s
+    → kind ≡ answer_of s
+same_kind tell i kind text s told is =
+    told.kind_is ∙ ap answer_of (synthesis_same i told.valid told.synthesis s told.is_synthesis is)
 
-pub refused_at : (ending : Result Answer Stop) (left : Option (List ℕ)) → IfErr ending (λ stop. IfSome left (Explains stop))
-    → status_of ending ≡ status.Refused → IfSome left IsRefused
-refused_at (Ok answer.Text) left x e = cc
-refused_at (Ok answer.NoTree) left x e = cc
-refused_at (Err stop) None x e = tt
-refused_at (Err stop) (Some bytes) x e = explained_refused stop bytes e x
-
--- a run without a fault whose input spells an instance, which has one synthesis
-answered : (bytes : List ℕ) (j : Parts) (s : Synthesis) (kind : Answer) (text : List ℕ) → IsRight bytes kind text → Spells bytes j
-    → IsSynthesis j s → status_of (Ok kind) ≡ status_of (Ok (answer_of s))
-answered bytes j s kind text right spelled is =
+-- of one input there is one right kind of text
+one_kind : (form : Form) (bytes : List ℕ) (kind other : Answer) (text : List ℕ) → IsRight form bytes kind text → IsRightKind form bytes other
+    → status_of (Ok kind) ≡ status_of (Ok other)
+one_kind Synth bytes kind other text right k =
     let i : Parts = right.0 in
-    let told : TellsSynthesis report_text i kind text = right.2 in
-    let same : i ≡ j = one_instance bytes i j right.1 spelled in
-    let there : IsSynthesis i s = subst (λ x. IsSynthesis x s) (sym same) is in
-    ap (λ a. status_of (Ok a)) (told.kind_is ∙ ap answer_of (synthesis_same i told.valid told.synthesis s told.is_synthesis there))
+    let same : i ≡ k.0 = one_instance bytes i k.0 right.1 k.1 in
+    let there : IsSynthesis i k.2.0 = subst (λ x. IsSynthesis x k.2.0) (sym same) k.2.1 in
+    ap (λ a. status_of (Ok a)) (same_kind report_text i kind text k.2.0 right.2 there ∙ sym k.2.2)
+one_kind (Make seed sinks) bytes kind other text right k = ap (λ a. status_of (Ok a)) (right.0 ∙ sym k)
+one_kind (Job seed sinks) bytes kind other text right k =
+    ap (λ a. status_of (Ok a)) (same_kind summary_text (made_parts seed sinks) kind text k.0 right k.1 ∙ sym k.2)
 
-pub complete_at : (E : Type 0) (ending : Result Answer Stop) (left old new : Option (List ℕ))
-    → IfOk ending (λ kind. E × IfSome left (λ bytes. IsAnswered (IsRight bytes) kind old new)) → IfErr ending (λ stop. IfSome left (Explains stop))
+-- a stop for its input has no right text
+none_too_long : (form : Form) (bytes : List ℕ) (kind : Answer) → Explains form stop.TooLong bytes → IsRightKind form bytes kind → ⊥
+none_too_long Synth bytes kind x k = omega (arith, x, k.1.within)
+none_too_long (Make seed sinks) bytes kind x k = x
+none_too_long (Job seed sinks) bytes kind x k = x
+
+none_refused : (form : Form) (bytes : List ℕ) (line : ℕ) (cause : _) (kind : Answer) → Explains form (stop.Refused line cause) bytes
+    → IsRightKind form bytes kind → ⊥
+none_refused Synth bytes line cause kind x k = refused_spells_none bytes k.0 (line, cause) x.1 k.1
+none_refused (Make seed sinks) bytes line cause kind x k = x
+none_refused (Job seed sinks) bytes line cause kind x k = x
+
+-- the input of a stop that refuses it
+refused_too_long : (form : Form) (bytes : List ℕ) → Explains form stop.TooLong bytes → RefusesInput form bytes
+refused_too_long Synth bytes x = λ i s. omega (arith, x, s.within)
+refused_too_long (Make seed sinks) bytes x = x
+refused_too_long (Job seed sinks) bytes x = x
+
+refused_line : (form : Form) (bytes : List ℕ) (line : ℕ) (cause : _) → Explains form (stop.Refused line cause) bytes → RefusesInput form bytes
+refused_line Synth bytes line cause x = λ i s. refused_spells_none bytes i (line, cause) x.1 s
+refused_line (Make seed sinks) bytes line cause x = x
+refused_line (Job seed sinks) bytes line cause x = x
+
+pub refused_at : (form : Form) (ending : Result Answer Stop) (left : Option (List ℕ)) → IfErr ending (λ stop. OfInput form left (Explains form stop))
+    → status_of ending ≡ status.Refused → OfInput form left (RefusesInput form)
+refused_at form (Ok answer.Text) left x e = absurd cc
+refused_at form (Ok answer.NoTree) left x e = absurd cc
+refused_at form (Err stop.Words) left x e = absurd cc
+refused_at form (Err stop.TooLong) left x e = on_input form left (Explains form stop.TooLong) (RefusesInput form) (refused_too_long form) x
+refused_at form (Err (stop.Refused line cause)) left x e =
+    on_input form left (Explains form (stop.Refused line cause)) (RefusesInput form) (λ b. refused_line form b line cause) x
+refused_at form (Err stop.ReadFault) left x e = absurd cc
+refused_at form (Err stop.WriteFault) left x e = absurd cc
+refused_at form (Err stop.NoMemory) left x e = absurd cc
+
+-- a run without a fault, by the kind of its right text
+pub complete_at : (form : Form) (E : Type 0) (ending : Result Answer Stop) (left old new : Option (List ℕ))
+    → IfOk ending (λ kind. E × OfInput form left (λ bytes. IsAnswered (IsRight form bytes) kind old new))
+    → IfErr ending (λ stop. OfInput form left (Explains form stop))
     → (IsErrOf ending stop.Words → ⊥) → (IsErrOf ending stop.ReadFault → ⊥) → (IsErrOf ending stop.WriteFault → ⊥)
-    → IfSome left (λ bytes. (i : Parts) → Spells bytes i → (s : Synthesis) → IsSynthesis i s
-    → (status_of ending ≡ status_of (Ok (answer_of s))) ⊎ (status_of ending ≡ status.NoMemory))
-complete_at E ending None old new d x w r k = tt
-complete_at E (Ok kind) (Some bytes) old new d x w r k =
-    λ i spells s is. inl (answered bytes i s kind d.1.0 d.1.1 spells is)
-complete_at E (Err stop.Words) (Some bytes) old new d x w r k = absurd (w refl)
-complete_at E (Err stop.TooLong) (Some bytes) old new d x w r k = λ i spells. absurd (explained_refused stop.TooLong bytes refl x i spells)
-complete_at E (Err (stop.Refused line cause)) (Some bytes) old new d x w r k =
-    λ i spells. absurd (explained_refused (stop.Refused line cause) bytes refl x i spells)
-complete_at E (Err stop.ReadFault) (Some bytes) old new d x w r k = absurd (r refl)
-complete_at E (Err stop.WriteFault) (Some bytes) old new d x w r k = absurd (k refl)
-complete_at E (Err stop.NoMemory) (Some bytes) old new d x w r k = λ i spells s is. inr refl
+    → OfInput form left (λ bytes. (kind : Answer) → IsRightKind form bytes kind
+    → (status_of ending ≡ status_of (Ok kind)) ⊎ (status_of ending ≡ status.NoMemory))
+complete_at form E (Ok kind) left old new d x w r k =
+    on_input form left (λ bytes. IsAnswered (IsRight form bytes) kind old new) _
+    (λ bytes a other right. inl (one_kind form bytes kind other a.0 a.1 right)) d.1
+complete_at form E (Err stop.Words) left old new d x w r k = absurd (w refl)
+complete_at form E (Err stop.TooLong) left old new d x w r k =
+    on_input form left (Explains form stop.TooLong) _ (λ bytes e kind right. absurd (none_too_long form bytes kind e right)) x
+complete_at form E (Err (stop.Refused line cause)) left old new d x w r k =
+    on_input form left (Explains form (stop.Refused line cause)) _
+    (λ bytes e kind right. absurd (none_refused form bytes line cause kind e right)) x
+complete_at form E (Err stop.ReadFault) left old new d x w r k = absurd (r refl)
+complete_at form E (Err stop.WriteFault) left old new d x w r k = absurd (k refl)
+complete_at form E (Err stop.NoMemory) left old new d x w r k = of_all form left _ (λ bytes kind right. inr refl)
 
--- a run without a failed read whose input spells none
-pub refuses_at : (E F G : Type 0) (ending : Result Answer Stop) (left old new : Option (List ℕ))
-    → IfOk ending (λ kind. E × IfSome left (λ bytes. IsAnswered (IsRight bytes) kind old new)) → (IsErrOf ending stop.Words → ⊥) → (IsErrOf ending stop.ReadFault → ⊥)
-    → (IsErrOf ending stop.WriteFault → F × G × IfSome left (λ bytes. IsAnsweredInPart (IsRight bytes) old new))
-    → IfSome left (λ bytes. IsRefused bytes → (status_of ending ≡ status.Refused) ⊎ (status_of ending ≡ status.NoMemory))
-refuses_at E F G ending None old new d w r k = tt
-refuses_at E F G (Ok kind) (Some bytes) old new d w r k = λ n. let right : IsRight bytes kind d.1.0 = d.1.1 in absurd (n right.0 right.1)
-refuses_at E F G (Err stop.Words) (Some bytes) old new d w r k = absurd (w refl)
-refuses_at E F G (Err stop.TooLong) (Some bytes) old new d w r k = λ n. inl refl
-refuses_at E F G (Err (stop.Refused line cause)) (Some bytes) old new d w r k = λ n. inl refl
-refuses_at E F G (Err stop.ReadFault) (Some bytes) old new d w r k = absurd (r refl)
-refuses_at E F G (Err stop.WriteFault) (Some bytes) old new d w r k =
-    λ n. let p : IsAnsweredInPart (IsRight bytes) old new = (k refl).2 in let right : IsRight bytes p.0 p.1 = p.3 in absurd (n right.0 right.1)
-refuses_at E F G (Err stop.NoMemory) (Some bytes) old new d w r k = λ n. inr refl
+-- an input with a right text is not refused
+not_refused : (form : Form) (bytes : List ℕ) (kind : Answer) (text : List ℕ) → IsRight form bytes kind text → RefusesInput form bytes → ⊥
+not_refused Synth bytes kind text right n = n right.0 right.1
+not_refused (Make seed sinks) bytes kind text right n = n
+not_refused (Job seed sinks) bytes kind text right n = n
 
--- the note of a run
-pub note_at : (ending : Result Answer Stop) (left : Option (List ℕ)) → IfErr ending (λ stop. IfSome left (Explains stop))
+-- a run without a failed read whose input spells no instance
+pub refuses_at : (form : Form) (E F G : Type 0) (ending : Result Answer Stop) (left old new : Option (List ℕ))
+    → IfOk ending (λ kind. E × OfInput form left (λ bytes. IsAnswered (IsRight form bytes) kind old new))
+    → (IsErrOf ending stop.Words → ⊥) → (IsErrOf ending stop.ReadFault → ⊥)
+    → (IsErrOf ending stop.WriteFault → F × G × OfInput form left (λ bytes. IsAnsweredInPart (IsRight form bytes) old new))
+    → OfInput form left (λ bytes. RefusesInput form bytes → (status_of ending ≡ status.Refused) ⊎ (status_of ending ≡ status.NoMemory))
+refuses_at form E F G (Ok kind) left old new d w r k =
+    on_input form left (λ bytes. IsAnswered (IsRight form bytes) kind old new) _
+    (λ bytes a n. absurd (not_refused form bytes kind a.0 a.1 n)) d.1
+refuses_at form E F G (Err stop.Words) left old new d w r k = absurd (w refl)
+refuses_at form E F G (Err stop.TooLong) left old new d w r k = of_all form left _ (λ bytes n. inl refl)
+refuses_at form E F G (Err (stop.Refused line cause)) left old new d w r k = of_all form left _ (λ bytes n. inl refl)
+refuses_at form E F G (Err stop.ReadFault) left old new d w r k = absurd (r refl)
+refuses_at form E F G (Err stop.WriteFault) left old new d w r k =
+    on_input form left (λ bytes. IsAnsweredInPart (IsRight form bytes) old new) _
+    (λ bytes a n. absurd (not_refused form bytes a.0 a.1 a.3 n)) (k refl).2
+refuses_at form E F G (Err stop.NoMemory) left old new d w r k = of_all form left _ (λ bytes n. inr refl)
+
+-- a run whose status says so has written its text
+pub done_at : (form : Form) (E : Type 0) (ending : Result Answer Stop) (left old new : Option (List ℕ)) → status_of ending ≡ status.Done
+    → IfOk ending (λ kind. E × OfInput form left (λ bytes. IsAnswered (IsRight form bytes) kind old new))
+    → E × OfInput form left (λ bytes. IsAnswered (IsRight form bytes) answer.Text old new)
+done_at form E (Ok answer.Text) left old new s d = d
+done_at form E (Ok answer.NoTree) left old new s d = absurd cc
+done_at form E (Err stop.Words) left old new s d = absurd cc
+done_at form E (Err stop.TooLong) left old new s d = absurd cc
+done_at form E (Err (stop.Refused line cause)) left old new s d = absurd cc
+done_at form E (Err stop.ReadFault) left old new s d = absurd cc
+done_at form E (Err stop.WriteFault) left old new s d = absurd cc
+done_at form E (Err stop.NoMemory) left old new s d = absurd cc
+
+pub no_tree_at : (form : Form) (E : Type 0) (ending : Result Answer Stop) (left old new : Option (List ℕ)) → status_of ending ≡ status.NoTree
+    → IfOk ending (λ kind. E × OfInput form left (λ bytes. IsAnswered (IsRight form bytes) kind old new))
+    → E × OfInput form left (λ bytes. IsAnswered (IsRight form bytes) answer.NoTree old new)
+no_tree_at form E (Ok answer.NoTree) left old new s d = d
+no_tree_at form E (Ok answer.Text) left old new s d = absurd cc
+no_tree_at form E (Err stop.Words) left old new s d = absurd cc
+no_tree_at form E (Err stop.TooLong) left old new s d = absurd cc
+no_tree_at form E (Err (stop.Refused line cause)) left old new s d = absurd cc
+no_tree_at form E (Err stop.ReadFault) left old new s d = absurd cc
+no_tree_at form E (Err stop.WriteFault) left old new s d = absurd cc
+no_tree_at form E (Err stop.NoMemory) left old new s d = absurd cc
+
+-- the one ending of each status of a failure
+pub stop_at : (ending : Result Answer Stop) → status_of ending ≡ status.ReadFault → IsErrOf ending stop.ReadFault
+stop_at (Err stop.ReadFault) e = refl
+stop_at (Ok answer.Text) e = absurd cc
+stop_at (Ok answer.NoTree) e = absurd cc
+stop_at (Err stop.Words) e = absurd cc
+stop_at (Err stop.TooLong) e = absurd cc
+stop_at (Err (stop.Refused line cause)) e = absurd cc
+stop_at (Err stop.WriteFault) e = absurd cc
+stop_at (Err stop.NoMemory) e = absurd cc
+
+pub write_stop_at : (ending : Result Answer Stop) → status_of ending ≡ status.WriteFault → IsErrOf ending stop.WriteFault
+write_stop_at (Err stop.WriteFault) e = refl
+write_stop_at (Ok answer.Text) e = absurd cc
+write_stop_at (Ok answer.NoTree) e = absurd cc
+write_stop_at (Err stop.Words) e = absurd cc
+write_stop_at (Err stop.TooLong) e = absurd cc
+write_stop_at (Err (stop.Refused line cause)) e = absurd cc
+write_stop_at (Err stop.ReadFault) e = absurd cc
+write_stop_at (Err stop.NoMemory) e = absurd cc
+
+-- the note of a run on a form
+note_refused : (form : Form) (left : Option (List ℕ)) (end : Stop) → OfInput form left (Explains form end)
+    → IsNote left (status_of (Err end)) (note_of (Err end))
+unfolding note_of stop_note
+note_refused form left stop.Words x = refl
+note_refused Synth None stop.TooLong x = inl refl
+note_refused Synth (Some bytes) stop.TooLong x = inl (x, refl)
+note_refused (Make seed sinks) left stop.TooLong x = absurd x
+note_refused (Job seed sinks) left stop.TooLong x = absurd x
+note_refused Synth None (stop.Refused line cause) x = inr (line, cause, refl)
+note_refused Synth (Some bytes) (stop.Refused line cause) x = inr (x.0, line, cause, x.1, refl)
+note_refused (Make seed sinks) left (stop.Refused line cause) x = absurd x
+note_refused (Job seed sinks) left (stop.Refused line cause) x = absurd x
+note_refused form left stop.ReadFault x = refl
+note_refused form left stop.WriteFault x = refl
+note_refused form left stop.NoMemory x = refl
+
+pub note_at : (form : Form) (ending : Result Answer Stop) (left : Option (List ℕ)) → IfErr ending (λ stop. OfInput form left (Explains form stop))
     → IsNote left (status_of ending) (note_of ending)
 unfolding note_of stop_note
-note_at (Ok answer.Text) left x = refl
-note_at (Ok answer.NoTree) left x = refl
-note_at (Err stop.Words) left x = refl
-note_at (Err stop.TooLong) None x = inl refl
-note_at (Err stop.TooLong) (Some bytes) x = inl (x, refl)
-note_at (Err (stop.Refused line cause)) None x = inr (line, cause, refl)
-note_at (Err (stop.Refused line cause)) (Some bytes) x = inr (x.0, line, cause, x.1, refl)
-note_at (Err stop.ReadFault) left x = refl
-note_at (Err stop.WriteFault) left x = refl
-note_at (Err stop.NoMemory) left x = refl
+note_at form (Ok answer.Text) left x = refl
+note_at form (Ok answer.NoTree) left x = refl
+note_at form (Err end) left x = note_refused form left end x
 
 -- a text that was written where no fault rose
 pub whole_at : {S : Type 0} {held : S → Option (List ℕ)} {faults : S → ℕ} {old new : S} {text : List ℕ} (result : Result Unit WriteEnd)

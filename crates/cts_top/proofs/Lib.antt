@@ -6,3 +6,4 @@ pub mod Printable
 pub mod Told
 pub mod Writing
 pub mod Serving
+pub mod Forms

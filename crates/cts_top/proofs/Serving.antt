@@ -1,15 +1,15 @@
--- How a run ends that has read its input whole, by what it then wrote.
-use Rattle.std.proofs.Common.{◌≡◌, ◌≢◌, ◌≤◌, ℕ, List, Option, None, Some, IfSome, Result, Ok, Err, IfOk, IsErrOf, subst}
+-- How a run ends that has its input, by what it then wrote.
+use Rattle.std.proofs.Common.{◌≡◌, ◌≢◌, ◌≤◌, ℕ, List, [], Option, None, Some, IfSome, Result, Ok, Err, IsErrOf, refl, subst}
 use Rattle.std.specs.Io.KnownBytes.{IsAtEnd}
 use Rattle.cts_instance.specs.declared.parts.Parts.{Parts}
 use Rattle.cts_report.specs.Report.{report_text}
 use Rattle.cts_top.specs.declared.stop.Answer.{Answer}
-use Rattle.cts_top.specs.declared.stop.Answer.TheVariants as answer
 use Rattle.cts_top.specs.declared.stop.Stop.{Stop}
 use Rattle.cts_top.specs.declared.stop.Stop.TheVariants as stop
-use Rattle.cts_top.specs.declared.outcome.Status.TheVariants as status
+use Rattle.cts_top.specs.declared.words.Form.TheVariants.{Synth, Make, Job}
 use Rattle.cts_top.specs.Input.{Spells}
-use Rattle.cts_top.specs.Outcome.{Explains, IsRight, Serves, status_of}
+use Rattle.cts_top.specs.Outcome.{Serves}
+use Rattle.cts_top.specs.Right.{DoesNotRead, Explains, IsRight}
 use Rattle.cts_top.specs.Text.{TellsSynthesis}
 use Rattle.cts_top.specs.Written.{Answers, IsAnswered, IsAnsweredInPart}
 
@@ -18,69 +18,135 @@ of_left : (left : Option (List ℕ)) (bytes : List ℕ) (P : List ℕ → Type 0
 of_left None bytes P e p = tt
 of_left (Some b) bytes P e p = subst P e p
 
--- a run without its memory, or whose output failed, has nothing to explain
+-- a run that only wrote stops for its output or for want of memory
+does_not_read : (end : Stop) (X : Type 0) → (end ≢ stop.WriteFault → X × (end ≡ stop.NoMemory)) → DoesNotRead end
+does_not_read stop.Words X k = tt
+does_not_read stop.TooLong X k = let e = (k (λ p. cc)).1 in absurd cc
+does_not_read (stop.Refused line cause) X k = let e = (k (λ p. cc)).1 in absurd cc
+does_not_read stop.ReadFault X k = let e = (k (λ p. cc)).1 in absurd cc
+does_not_read stop.WriteFault X k = tt
+does_not_read stop.NoMemory X k = tt
+
+unexplained : (bytes : List ℕ) (end : Stop) → DoesNotRead end → Explains Synth end bytes
+unexplained bytes stop.Words n = tt
+unexplained bytes stop.TooLong n = absurd n
+unexplained bytes (stop.Refused line cause) n = absurd n
+unexplained bytes stop.ReadFault n = tt
+unexplained bytes stop.WriteFault n = tt
+unexplained bytes stop.NoMemory n = tt
+
 free_of : (left : Option (List ℕ)) (P : List ℕ → Type 0) → ((b : List ℕ) → P b) → IfSome left P
 free_of None P p = tt
 free_of (Some b) P p = p b
 
-unexplained : (left : Option (List ℕ)) (end : Stop) (X : Type 0) → (end ≢ stop.WriteFault → X × (end ≡ stop.NoMemory)) → IfSome left (Explains end)
-unexplained left stop.Words X k = let e = (k (λ p. cc)).1 in absurd cc
-unexplained left stop.TooLong X k = let e = (k (λ p. cc)).1 in absurd cc
-unexplained left (stop.Refused line cause) X k = let e = (k (λ p. cc)).1 in absurd cc
-unexplained left stop.ReadFault X k = let e = (k (λ p. cc)).1 in absurd cc
-unexplained left stop.WriteFault X k = free_of left _ (λ b. tt)
-unexplained left stop.NoMemory X k = free_of left _ (λ b. tt)
+not_a_read : (end : Stop) → DoesNotRead end → IsErrOf {T = Answer} (Err end) stop.ReadFault → ⊥
+not_a_read stop.ReadFault n p = n
+not_a_read stop.Words n p = cc
+not_a_read stop.TooLong n p = n
+not_a_read (stop.Refused line cause) n p = n
+not_a_read stop.WriteFault n p = cc
+not_a_read stop.NoMemory n p = cc
 
-not_a_read : (end : Stop) (X : Type 0) → (end ≢ stop.WriteFault → X × (end ≡ stop.NoMemory)) → IsErrOf {T = Answer} (Err end) stop.ReadFault → ⊥
-not_a_read stop.ReadFault X k p = let e = (k (λ q. cc)).1 in cc
-not_a_read stop.Words X k p = cc
-not_a_read stop.TooLong X k p = cc
-not_a_read (stop.Refused line cause) X k p = cc
-not_a_read stop.WriteFault X k p = cc
-not_a_read stop.NoMemory X k p = cc
+pub not_words : (end : Stop) (X : Type 0) → (end ≢ stop.WriteFault → X × (end ≡ stop.NoMemory)) → IsErrOf {T = Answer} (Err end) stop.Words → ⊥
+not_words stop.Words X k p = let e = (k (λ q. cc)).1 in cc
+not_words stop.ReadFault X k p = cc
+not_words stop.TooLong X k p = cc
+not_words (stop.Refused line cause) X k p = cc
+not_words stop.WriteFault X k p = cc
+not_words stop.NoMemory X k p = cc
 
-pub serves_by : {S K : Type 0} (left : S → Option (List ℕ)) (reads : S → ℕ) (held : K → Option (List ℕ)) (writes : K → ℕ)
+pub answers_no_words : {K : Type 0} {Right : Answer → List ℕ → Type 0} {held : K → Option (List ℕ)} {faults : K → ℕ} {old new : K}
+    (result : Result Answer Stop) → Answers Right held faults old new result → IsErrOf result stop.Words → ⊥
+answers_no_words (Ok kind) a e = cc
+answers_no_words (Err end) a e = not_words end _ a.kept e
+
+-- a run that has read an instance
+pub serves_synth : {S K : Type 0} (left : S → Option (List ℕ)) (reads : S → ℕ) (held : K → Option (List ℕ)) (writes : K → ℕ)
     (source source' : S) (sink sink' : K) (result : Result Answer Stop) (bytes : List ℕ) (i : Parts)
     → IsAtEnd (left source') → IfSome (left source) (λ b. bytes ≡ b) → reads source ≤ reads source' → Spells bytes i
     → Answers (TellsSynthesis report_text i) held writes sink sink' result
-    → Serves left reads held writes source source' sink sink' result
-serves_by left reads held writes source source' sink sink' (Ok kind) bytes i at_end was counted spells a = record {
+    → Serves left reads held writes Synth source source' sink sink' result
+serves_synth left reads held writes source source' sink sink' (Ok kind) bytes i at_end was counted spells a = record {
   done = (
     at_end,
-    of_left (left source) bytes (λ b. IsAnswered (IsRight b) kind (held sink) (held sink')) was
+    of_left (left source) bytes (λ b. IsAnswered (IsRight Synth b) kind (held sink) (held sink')) was
         (a.done.0, (i, spells, a.done.1), a.done.2),
   );
   write_fault = λ e. cc;
   read_fault = λ e. cc;
   explained = tt;
   kept = tt;
+  others = tt;
   source_counted = counted;
   sink_counted = a.counted;
 }
-serves_by left reads held writes source source' sink sink' (Err end) bytes i at_end was counted spells a = record {
-  done = tt;
-  write_fault = λ e. let p : IsAnsweredInPart (TellsSynthesis report_text i) (held sink) (held sink') = a.in_part e in (
-    at_end,
-    a.rose e,
-    of_left (left source) bytes (λ b. IsAnsweredInPart (IsRight b) (held sink) (held sink')) was
-        (p.0, p.1, p.2, (i, spells, p.3), p.4),
-  );
-  read_fault = λ e. absurd (not_a_read end _ a.kept e);
-  explained = unexplained (left source) end _ a.kept;
-  kept = λ n. (a.kept n).0;
-  source_counted = counted;
-  sink_counted = a.counted;
-}
+serves_synth left reads held writes source source' sink sink' (Err end) bytes i at_end was counted spells a =
+    let none : DoesNotRead end = does_not_read end _ a.kept in
+    record {
+      done = tt;
+      write_fault = λ e. let p : IsAnsweredInPart (TellsSynthesis report_text i) (held sink) (held sink') = a.in_part e in (
+        at_end,
+        a.rose e,
+        of_left (left source) bytes (λ b. IsAnsweredInPart (IsRight Synth b) (held sink) (held sink')) was
+            (p.0, p.1, p.2, (i, spells, p.3), p.4),
+      );
+      read_fault = λ e. absurd (not_a_read end none e);
+      explained = free_of (left source) (Explains Synth end) (λ b. unexplained b end none);
+      kept = λ n. (a.kept n).0;
+      others = tt;
+      source_counted = counted;
+      sink_counted = a.counted;
+    }
 
--- a run whose status says so has written its text
-pub done_at : (E : Type 0) (ending : Result Answer Stop) (left old new : Option (List ℕ)) → status_of ending ≡ status.Done
-    → IfOk ending (λ kind. E × IfSome left (λ bytes. IsAnswered (IsRight bytes) kind old new))
-    → E × IfSome left (λ bytes. IsAnswered (IsRight bytes) answer.Text old new)
-done_at E (Ok answer.Text) left old new s d = d
-done_at E (Ok answer.NoTree) left old new s d = absurd cc
-done_at E (Err stop.Words) left old new s d = absurd cc
-done_at E (Err stop.TooLong) left old new s d = absurd cc
-done_at E (Err (stop.Refused line cause)) left old new s d = absurd cc
-done_at E (Err stop.ReadFault) left old new s d = absurd cc
-done_at E (Err stop.WriteFault) left old new s d = absurd cc
-done_at E (Err stop.NoMemory) left old new s d = absurd cc
+-- a run that reads nothing
+module _ {S K : Type 0} (left : S → Option (List ℕ)) (reads : S → ℕ) (held : K → Option (List ℕ)) (writes : K → ℕ)
+    (source : S) (sink sink' : K) (counted : reads source ≤ reads source) (seed sinks : ℕ) where
+  pub serves_make : (result : Result Answer Stop) → Answers (IsRight (Make seed sinks) []) held writes sink sink' result
+      → Serves left reads held writes (Make seed sinks) source source sink sink' result
+  serves_make (Ok kind) a = record {
+    done = (refl, a.done);
+    write_fault = λ e. cc;
+    read_fault = λ e. cc;
+    explained = tt;
+    kept = tt;
+    others = refl;
+    source_counted = counted;
+    sink_counted = a.counted;
+  }
+  serves_make (Err end) a =
+      let none : DoesNotRead end = does_not_read end _ a.kept in
+      record {
+        done = tt;
+        write_fault = λ e. (refl, a.rose e, a.in_part e);
+        read_fault = λ e. absurd (not_a_read end none e);
+        explained = none;
+        kept = λ n. (a.kept n).0;
+        others = refl;
+        source_counted = counted;
+        sink_counted = a.counted;
+      }
+
+  pub serves_job : (result : Result Answer Stop) → Answers (IsRight (Job seed sinks) []) held writes sink sink' result
+      → Serves left reads held writes (Job seed sinks) source source sink sink' result
+  serves_job (Ok kind) a = record {
+    done = (refl, a.done);
+    write_fault = λ e. cc;
+    read_fault = λ e. cc;
+    explained = tt;
+    kept = tt;
+    others = refl;
+    source_counted = counted;
+    sink_counted = a.counted;
+  }
+  serves_job (Err end) a =
+      let none : DoesNotRead end = does_not_read end _ a.kept in
+      record {
+        done = tt;
+        write_fault = λ e. (refl, a.rose e, a.in_part e);
+        read_fault = λ e. absurd (not_a_read end none e);
+        explained = none;
+        kept = λ n. (a.kept n).0;
+        others = refl;
+        source_counted = counted;
+        sink_counted = a.counted;
+      }

@@ -12,15 +12,15 @@ use Rattle.cts_plain.specs.declared.end.NoTree.{NoTree}
 use Rattle.cts_plain.specs.declared.end.NoTree.TheVariants.{Beyond, Cut}
 use Rattle.cts_plain.specs.Synthesis.{IsSynthesis, made, beyond, cut}
 use Rattle.cts_top.specs.declared.stop.Answer.TheVariants as answer
-use Rattle.cts_top.specs.Text.{Telling, TellsSynthesis, no_tree_text}
+use Rattle.cts_top.specs.Text.{TreeText, TellsSynthesis, no_tree_text}
 use Rattle.std.specs.Prelude.{codes}
 
 skew_bounded : (i : Parts) (tree : List TreeNode) (figures : Figures) → AreFigures i tree figures → figures.skew ≤ figures.bound
 skew_bounded i tree figures f = rw (f.figures_of.skew_is, f.figures_of.bound_is) (skew_within i f.root)
 
-pub tree_told : (telling : Telling) (i : Parts) (tree : List TreeNode) (figures : Figures) → IsValid i → IsSynthesis i (made tree)
-    → AreFigures i tree figures → IsSound i tree → TellsSynthesis telling i answer.Text (telling tree figures)
-tree_told telling i tree figures valid is f sound = record {
+pub tree_told : (tell : TreeText) (i : Parts) (tree : List TreeNode) (figures : Figures) → IsValid i → IsSynthesis i (made tree)
+    → AreFigures i tree figures → IsSound i tree → TellsSynthesis tell i answer.Text (tell tree figures)
+tree_told tell i tree figures valid is f sound = record {
   valid = valid;
   synthesis = made tree;
   is_synthesis = is;
@@ -28,14 +28,14 @@ tree_told telling i tree figures valid is f sound = record {
   is_text = record { sound = sound; figures = figures; are_figures = f; skew_within = skew_bounded i tree figures f; told = refl };
 }
 
-pub beyond_told : (telling : Telling) (i : Parts) (node : ℕ) → IsValid i → IsSynthesis i (beyond node)
-    → TellsSynthesis telling i answer.NoTree (no_tree_text (codes "beyond") node)
-beyond_told telling i node valid is =
+pub beyond_told : (tell : TreeText) (i : Parts) (node : ℕ) → IsValid i → IsSynthesis i (beyond node)
+    → TellsSynthesis tell i answer.NoTree (no_tree_text (codes "beyond") node)
+beyond_told tell i node valid is =
     record { valid = valid; synthesis = beyond node; is_synthesis = is; kind_is = refl; is_text = refl }
 
-pub cut_told : (telling : Telling) (i : Parts) (node : ℕ) → IsValid i → IsSynthesis i (cut node)
-    → TellsSynthesis telling i answer.NoTree (no_tree_text (codes "cut") node)
-cut_told telling i node valid is =
+pub cut_told : (tell : TreeText) (i : Parts) (node : ℕ) → IsValid i → IsSynthesis i (cut node)
+    → TellsSynthesis tell i answer.NoTree (no_tree_text (codes "cut") node)
+cut_told tell i node valid is =
     record { valid = valid; synthesis = cut node; is_synthesis = is; kind_is = refl; is_text = refl }
 
 -- an end of the synthesis at this node

@@ -1,7 +1,10 @@
 pub mod Input
 pub mod Notes
 pub mod Outcome
+pub mod Right
 pub mod Text
 pub mod Words
 pub mod Written
 pub use Rattle.cts_plain.specs.Synthesis
+pub use Rattle.cts_script.specs.Generator
+pub use Rattle.cts_script.specs.Text as InstanceText

@@ -1,23 +1,21 @@
 -- Statuses, and how a run ends.
-use Rattle.std.specs.Prelude.{◌≡◌, ◌≢◌, ℕ, ◌<◌, ◌≤◌, ◌⊎◌, List, [], length, codes, Option, None, Some, IfSome, Result, Ok, Err, IfOk, IfErr, IsErrOf}
-use Rattle.std.specs.Io.KnownBytes.{IsAtEnd}
+use Rattle.std.specs.Prelude.{◌≡◌, ◌≢◌, ℕ, ◌<◌, ◌≤◌, ◌⊎◌, List, [], length, codes, Option, None, Some, Result, Ok, Err, IfOk, IfErr, IsErrOf}
 use Rattle.cts_io.specs.Faults.{Rose}
 use Rattle.cts_io.specs.declared.read.ReadEnd.{ReadEnd}
 use Rattle.cts_io.specs.declared.read.ReadEnd.TheVariants as reading
 use Rattle.cts_read.specs.declared.stop.Cause.{Cause}
 use Rattle.cts_read.specs.declared.stop.ReadStop.{ReadStop}
 use Rattle.cts_read.specs.declared.stop.ReadStop.TheVariants as text
-use Rattle.cts_instance.specs.declared.parts.Parts.{Parts}
-use Rattle.cts_report.specs.Report.{report_text}
 use Rattle.cts_top.specs.declared.stop.Answer.{Answer}
 use Rattle.cts_top.specs.declared.stop.Answer.TheVariants as answer
 use Rattle.cts_top.specs.declared.stop.Stop.{Stop}
 use Rattle.cts_top.specs.declared.stop.Stop.TheVariants as stop
 use Rattle.cts_top.specs.declared.outcome.Status.{Status}
 use Rattle.cts_top.specs.declared.outcome.Status.TheVariants as status
-use Rattle.cts_top.specs.Input.{Spells, input_limit, input_of}
+use Rattle.cts_top.specs.declared.words.Form.{Form}
+use Rattle.cts_top.specs.Input.{input_limit, input_of}
 use Rattle.cts_top.specs.Notes.{refusal_note, too_long_note, usage_note}
-use Rattle.cts_top.specs.Text.{TellsSynthesis}
+use Rattle.cts_top.specs.Right.{Explains, HasRead, IsRight, LeavesOthers, OfInput, ReadsInput}
 use Rattle.cts_top.specs.Written.{IsAnswered, IsAnsweredInPart}
 
 -- what a run stops at where reading its input ended so
@@ -50,30 +48,18 @@ code_of status.ReadFault = 5
 code_of status.WriteFault = 6
 code_of status.NoMemory = 7
 
--- the right text for an input: that of the synthesis of the instance that it spells, the tree told by its report
-abbrev pub IsRight : List ℕ → Answer → List ℕ → Type 0
-IsRight bytes kind text = (i : Parts) × Spells bytes i × TellsSynthesis report_text i kind text
-
--- What the bytes that were left must be where a run stops so: too long, or refused at a line.
-abbrev pub Explains : Stop → List ℕ → Type 0
-Explains stop.Words bytes = Unit
-Explains stop.TooLong bytes = input_limit < length bytes
-Explains (stop.Refused line cause) bytes = (length bytes ≤ input_limit) × (input_of bytes ≡ Err (line, cause))
-Explains stop.ReadFault bytes = Unit
-Explains stop.WriteFault bytes = Unit
-Explains stop.NoMemory bytes = Unit
-
--- How a run on an input and an output ends. An answer is written whole, once the input was read to its end; where nothing
--- was written whole, the input explains why, and the output is as it was but for a write fault.
+-- How a run on an input and an output ends, for what the words ask. An answer is written whole, once the input was read to
+-- its end; where nothing was written whole, the input explains why, and the output is as it was but for a write fault.
 pub record Serves {S K : Type 0} (left : S → Option (List ℕ)) (reads : S → ℕ) (held : K → Option (List ℕ)) (writes : K → ℕ)
-    (source source' : S) (sink sink' : K) (result : Result Answer Stop) : Type 0 where
-  pub done : IfOk result (λ kind. IsAtEnd (left source')
-      × IfSome (left source) (λ bytes. IsAnswered (IsRight bytes) kind (held sink) (held sink')))
-  pub write_fault : IsErrOf result stop.WriteFault → IsAtEnd (left source') × Rose (writes sink) (writes sink')
-      × IfSome (left source) (λ bytes. IsAnsweredInPart (IsRight bytes) (held sink) (held sink'))
-  pub read_fault : IsErrOf result stop.ReadFault → Rose (reads source) (reads source')
-  pub explained : IfErr result (λ end. IfSome (left source) (Explains end))
+    (form : Form) (source source' : S) (sink sink' : K) (result : Result Answer Stop) : Type 0 where
+  pub done : IfOk result (λ kind. HasRead left form source source'
+      × OfInput form (left source) (λ bytes. IsAnswered (IsRight form bytes) kind (held sink) (held sink')))
+  pub write_fault : IsErrOf result stop.WriteFault → HasRead left form source source' × Rose (writes sink) (writes sink')
+      × OfInput form (left source) (λ bytes. IsAnsweredInPart (IsRight form bytes) (held sink) (held sink'))
+  pub read_fault : IsErrOf result stop.ReadFault → ReadsInput form × Rose (reads source) (reads source')
+  pub explained : IfErr result (λ end. OfInput form (left source) (Explains form end))
   pub kept : IfErr result (λ end. end ≢ stop.WriteFault → sink' ≡ sink)
+  pub others : LeavesOthers form source source'
   pub source_counted : reads source ≤ reads source'
   pub sink_counted : writes sink ≤ writes sink'
 

@@ -9,29 +9,37 @@ use Rattle.cts_elmore.specs.Sound.{IsSound}
 use Rattle.cts_plain.specs.Synthesis.{Synthesis, made, beyond, cut, IsSynthesis}
 use Rattle.cts_top.specs.declared.stop.Answer.{Answer}
 use Rattle.cts_top.specs.declared.stop.Answer.TheVariants as answer
+use Rattle.cts_report.specs.Report.{report_text, summary_text}
+use Rattle.cts_top.specs.declared.answer.Telling.{Telling}
+use Rattle.cts_top.specs.declared.answer.Telling.TheVariants as telling
 use Rattle.cts_top.specs.Notes.{numbered}
 
--- how a tree with its figures is told
-abbrev pub Telling : Type 0
-Telling = List TreeNode → Figures → List ℕ
+-- a text of a tree with its figures
+abbrev pub TreeText : Type 0
+TreeText = List TreeNode → Figures → List ℕ
+
+-- the text by which a tree is told
+abbrev pub told_by : Telling → TreeText
+told_by telling.Report = report_text
+told_by telling.Summary = summary_text
 
 -- A tree of an instance is told: it is sound, each figure is that of its definition, and the skew is at most the bound.
-pub record TellsTree (telling : Telling) (i : Parts) (tree : List TreeNode) (text : List ℕ) : Type 0 where
+pub record TellsTree (tell : TreeText) (i : Parts) (tree : List TreeNode) (text : List ℕ) : Type 0 where
   pub sound : IsSound i tree
   pub figures : Figures
   pub are_figures : AreFigures i tree figures
   pub skew_within : figures.skew ≤ figures.bound
-  pub told : text ≡ telling tree figures
+  pub told : text ≡ tell tree figures
 
 -- the line that says at which node there is no tree
 unfoldable pub no_tree_text : List ℕ → ℕ → List ℕ
 no_tree_text why node = codes "no tree: " ++ why ++ numbered (codes " at node ") node ++ codes "\n"
 
 -- the text for a synthesis
-abbrev pub IsTextOf : Telling → Parts → Synthesis → List ℕ → Type 0
-IsTextOf telling i (made tree) text = TellsTree telling i tree text
-IsTextOf telling i (beyond node) text = text ≡ no_tree_text (codes "beyond") node
-IsTextOf telling i (cut node) text = text ≡ no_tree_text (codes "cut") node
+abbrev pub IsTextOf : TreeText → Parts → Synthesis → List ℕ → Type 0
+IsTextOf tell i (made tree) text = TellsTree tell i tree text
+IsTextOf tell i (beyond node) text = text ≡ no_tree_text (codes "beyond") node
+IsTextOf tell i (cut node) text = text ≡ no_tree_text (codes "cut") node
 
 -- which of the two kinds it is
 abbrev pub answer_of : Synthesis → Answer
@@ -40,9 +48,9 @@ answer_of (beyond node) = answer.NoTree
 answer_of (cut node) = answer.NoTree
 
 -- The text for the synthesis of a valid instance, and its kind.
-pub record TellsSynthesis (telling : Telling) (i : Parts) (kind : Answer) (text : List ℕ) : Type 0 where
+pub record TellsSynthesis (tell : TreeText) (i : Parts) (kind : Answer) (text : List ℕ) : Type 0 where
   pub valid : IsValid i
   pub synthesis : Synthesis
   pub is_synthesis : IsSynthesis i synthesis
   pub kind_is : kind ≡ answer_of synthesis
-  pub is_text : IsTextOf telling i synthesis text
+  pub is_text : IsTextOf tell i synthesis text

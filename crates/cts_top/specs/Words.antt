@@ -1,8 +1,37 @@
--- The words that are served.
-use Rattle.std.specs.Prelude.{◌≡◌, ℕ, List, [], ◌∷◌, map, codes, String, string_bytes, Ok}
+-- The words that are served, and what they ask for.
+use Rattle.std.specs.Prelude.{◌≡◌, ℕ, ◌<◌, ◌≤◌, ◌^◌, List, [], ◌∷◌, map, codes, String, string_bytes, Ok}
 use Rattle.std.specs.Global.{Global}
 use Rattle.cts_num.specs.Reading.{reading_of}
+use Rattle.cts_top.specs.declared.words.Form.{Form}
+use Rattle.cts_top.specs.declared.words.Form.TheVariants.{Synth, Make, Job}
 
--- the word `synth`, and a number of no decimal places that is 1
-abbrev pub IsSynth : List (String Global) → Type 0
-IsSynth words = (workers : List ℕ) × (map string_bytes words ≡ codes "synth" ∷ workers ∷ []) × (reading_of workers 0 ≡ Ok 1)
+-- a word is this number, with no decimal places
+abbrev pub IsNumber : List ℕ → ℕ → Type 0
+IsNumber word number = reading_of word 0 ≡ Ok number
+
+-- two words are a seed and a number of sinks, each within its limits
+pub record AreMade (seed_word sinks_word : List ℕ) (seed sinks : ℕ) : Type 0 where
+  pub seed_is : IsNumber seed_word seed
+  pub seed_within : seed < 2 ^ 31
+  pub sinks_is : IsNumber sinks_word sinks
+  pub some_sink : 1 ≤ sinks
+  pub sinks_within : sinks ≤ 65536
+
+-- what words of these bytes ask for: `synth 1`, `make SEED N`, or `job SEED N 1`
+abbrev pub AsksFor : List (List ℕ) → Form → Type 0
+AsksFor words Synth = (workers : List ℕ) × (words ≡ codes "synth" ∷ workers ∷ []) × IsNumber workers 1
+AsksFor words (Make seed sinks) =
+    (s : List ℕ) × (n : List ℕ) × (words ≡ codes "make" ∷ s ∷ n ∷ []) × AreMade s n seed sinks
+AsksFor words (Job seed sinks) =
+    (s : List ℕ) × (n : List ℕ) × (workers : List ℕ) × (words ≡ codes "job" ∷ s ∷ n ∷ workers ∷ [])
+    × AreMade s n seed sinks × IsNumber workers 1
+
+-- what some words ask for
+abbrev pub IsForm : List (String Global) → Form → Type 0
+IsForm words form = AsksFor (map string_bytes words) form
+
+-- the seed and the number of sinks of a form are within their limits
+abbrev pub IsWithinLimits : Form → Type 0
+IsWithinLimits Synth = Unit
+IsWithinLimits (Make seed sinks) = (seed < 2 ^ 31) × (1 ≤ sinks) × (sinks ≤ 65536)
+IsWithinLimits (Job seed sinks) = (seed < 2 ^ 31) × (1 ≤ sinks) × (sinks ≤ 65536)

@@ -4,10 +4,10 @@ ghost use Rattle.std.specs.Prelude.{◌≡◌, ◌<◌, IfOk, IfErr};
 ghost use Rattle.cts_io.specs.Text.{Writes};
 ghost use Rattle.cts_elmore.specs.Figures.{AreFigures};
 ghost use Rattle.cts_elmore.specs.Sound.{IsSound};
-ghost use Rattle.cts_report.specs.Report.{IsPrintable, report_text};
+ghost use Rattle.cts_report.specs.Report.{IsPrintable};
 ghost use Rattle.cts_plain.specs.Ends.{Ends};
 ghost use Rattle.cts_plain.specs.Synthesis.{IsSynthesis, made};
-ghost use Rattle.cts_top.specs.Text.{TellsSynthesis, no_tree_text};
+ghost use Rattle.cts_top.specs.Text.{TellsSynthesis, no_tree_text, told_by};
 ghost use Rattle.cts_top.specs.Written.{Answers};
 
 use crate::notes::put_numbered;
@@ -17,7 +17,7 @@ use cts_instance::Instance;
 use cts_io::{ByteSink, SinkBuffer, WriteEnd};
 use cts_merge::Steps;
 use cts_plain::{NoTree, synthesise};
-use cts_report::write_report;
+use cts_report::{write_report, write_summary};
 use cts_tree::Tree;
 use std::alloc::Global;
 use std::marker::Brand;
@@ -67,18 +67,47 @@ fn write_no_tree<K: ByteSink>(sink: &mut K, why: &[u8], node: u32) -> Result<(),
     out.finish(sink)
 }
 
-/// Writes the text for the synthesis of an instance: the report of its tree, or the line that says why
-/// it has none.
+/// How a tree is told.
+#[derive(Clone, Copy)]
+pub enum Telling {
+    /// By its report: each node, and the figures of the whole tree.
+    Report,
+    /// By its summary: the figures of the whole tree alone.
+    Summary,
+}
+
+fn write_tree<K: ByteSink>(
+    sink: &mut K,
+    telling: Telling,
+    instance: &Instance,
+    tree: &Tree,
+    figures: &Figures,
+) -> Result<(), WriteEnd>
+    requires { IsPrintable tree.now figures.now }
+    ensures { Writes K.held K.faults sink.old sink.new (told_by telling tree.now figures.now) result }
+{
+    match telling {
+        Telling::Report => write_report(sink, instance, tree, figures),
+        Telling::Summary => write_summary(sink, tree, figures),
+    }
+}
+
+/// Writes the text for the synthesis of an instance: its tree, told so, or the line that says why it has
+/// none.
 pub fn answer_instance<K: ByteSink>(
     alloc: Global,
     sink: &mut K,
+    telling: Telling,
     instance: &Instance,
 ) -> Result<Answer, Stop>
-    ensures { Answers (TellsSynthesis report_text instance.now) K.held K.faults sink.old sink.new result }
+    ensures { Answers (TellsSynthesis (told_by telling) instance.now) K.held K.faults sink.old sink.new result }
 {
     let _die = instance.die();
     match synthesise_alone(alloc, instance) {
-        Ok((tree, figures)) => ended(write_report(sink, instance, &tree, &figures), Answer::Text),
+        Ok((tree, figures)) => {
+            let written = write_tree(sink, telling, instance, &tree, &figures);
+            ended(written, Answer::Text)
+        }
         Err(NoTree::Beyond { node }) => {
             ended(write_no_tree(sink, b"beyond", node), Answer::NoTree)
         }

@@ -3,9 +3,10 @@
 ghost use Rattle.std.specs.Prelude.{◌≡◌, ◌≤◌, length, IfOk, IfErr, IsErrOf, Ok};
 ghost use Rattle.cts_read.specs.Grammar.{Refuses};
 ghost use Rattle.cts_top.specs.Input.{Spells, input_limit, input_of};
-ghost use Rattle.cts_top.specs.Outcome.{Explains};
+ghost use Rattle.cts_top.specs.Right.{Explains};
 
 use crate::stop::Stop;
+use crate::words::Form;
 use cts_instance::Instance;
 use cts_read::{ReadStop, read_instance, read_rest};
 use std::alloc::Global;
@@ -26,7 +27,7 @@ fn read_whole(alloc: Global, bytes: &[u8]) -> Result<Instance, ReadStop>
 pub fn read_input(alloc: Global, bytes: &[u8]) -> Result<Instance, Stop>
     requires { length bytes.now ≤ input_limit }
     ensures spells { IfOk result (Spells bytes.now) }
-    ensures explained { IfErr result (λ stop. Explains stop bytes.now) }
+    ensures explained { IfErr result (λ stop. Explains Form.Synth stop bytes.now) }
     ensures words { IsErrOf result Stop.Words → ⊥ }
     ensures read_fault { IsErrOf result Stop.ReadFault → ⊥ }
     ensures write_fault { IsErrOf result Stop.WriteFault → ⊥ }

@@ -11,6 +11,7 @@ mod input;
 mod notes;
 mod outcome;
 mod run;
+mod serve;
 mod stop;
 mod words;
 

@@ -1,42 +1,22 @@
 //! The top call: words, an input and an output to a status.
 
-ghost use Rattle.std.specs.Prelude.{◌≡◌, ◌≢◌, ◌≤◌, ◌↔◌, ◌⊎◌, List, ℕ, IfSome, IsErrOf, Ok, codes};
-ghost use Rattle.std.specs.Io.KnownBytes.{Appends, IsAtEnd};
+ghost use Rattle.std.specs.Prelude.{◌≡◌, ◌≢◌, ◌≤◌, ◌↔◌, ◌⊎◌, List, ℕ, IsErrOf, IfErr, Ok, codes};
+ghost use Rattle.std.specs.Io.KnownBytes.{Appends};
 ghost use Rattle.cts_io.specs.Faults.{Rose};
-ghost use Rattle.cts_instance.specs.declared.parts.Parts.{Parts};
-ghost use Rattle.cts_top.specs.Input.{IsRefused, Spells};
-ghost use Rattle.cts_top.specs.Outcome.{IsNote, IsRight, Serves, status_of};
+ghost use Rattle.cts_top.specs.Notes.{note_of};
+ghost use Rattle.cts_top.specs.Outcome.{IsNote, Serves, status_of};
+ghost use Rattle.cts_top.specs.Right.{HasRead, IsRight, IsRightKind, LeavesOthers, OfInput, ReadsInput, RefusesInput};
+ghost use Rattle.cts_top.specs.Words.{IsForm};
 ghost use Rattle.cts_top.specs.Written.{IsAnswered, IsAnsweredInPart};
-ghost use Rattle.cts_top.specs.Text.{answer_of};
-ghost use Rattle.cts_plain.specs.Synthesis.{Synthesis, IsSynthesis};
-ghost use Rattle.cts_top.specs.Words.{IsSynth};
 
-use crate::answer::answer_instance;
-use crate::input::read_input;
 use crate::notes::write_note;
 use crate::outcome::{Outcome, Status};
+use crate::serve::serve;
 use crate::stop::{Answer, Stop, status_of};
-use crate::words::is_synth;
-use cts_io::{ByteSink, ByteSource, read_all};
+use crate::words::{Form, form_of};
+use cts_io::{ByteSink, ByteSource};
 use std::alloc::Global;
 use std::thread::Threads;
-
-/// The most bytes of an input that are accepted: 64 MiB.
-const INPUT_LIMIT: usize = 67_108_864;
-
-/// Reads an instance, and writes the report of its tree, or that there is none.
-fn serve<S: ByteSource, K: ByteSink>(
-    alloc: Global,
-    source: &mut S,
-    sink: &mut K,
-) -> Result<Answer, Stop>
-    ensures serves { Serves S.left S.faults K.held K.faults source.old source.new sink.old sink.new result }
-    ensures words { IsErrOf result Stop.Words → ⊥ }
-{
-    let bytes = read_all(alloc, source, INPUT_LIMIT)?;
-    let instance = read_input(alloc, &bytes)?;
-    answer_instance(alloc, sink, &instance)
-}
 
 /// Does what the words ask for.
 fn answer<S: ByteSource, K: ByteSink>(
@@ -45,32 +25,39 @@ fn answer<S: ByteSource, K: ByteSink>(
     source: &mut S,
     sink: &mut K,
 ) -> Result<Answer, Stop>
-    ensures served { IsErrOf result Stop.Words ↔ (IsSynth words.now → ⊥) }
+    ensures served { IsErrOf result Stop.Words ↔ ((form : Form) → IsForm words.now form → ⊥) }
     ensures untouched { IsErrOf result Stop.Words → source.new ≡ source.old }
-    ensures serves { Serves S.left S.faults K.held K.faults source.old source.new sink.old sink.new result }
+    ensures serves { (form : Form) → IsForm words.now form
+        → Serves S.left S.faults K.held K.faults form source.old source.new sink.old sink.new result }
+    ensures write_fault { IsErrOf result Stop.WriteFault → Rose (K.faults sink.old) (K.faults sink.new) }
+    ensures kept { IfErr result (λ end. end ≢ Stop.WriteFault → sink.new ≡ sink.old) }
+    ensures note { IsNote (S.left source.old) (status_of result) (note_of result) }
+    ensures source_counted { S.faults source.old ≤ S.faults source.new }
+    ensures sink_counted { K.faults sink.old ≤ K.faults sink.new }
 {
-    if is_synth(words) {
-        serve(alloc, source, sink)
-    } else {
-        Err(Stop::Words)
+    match form_of(words) {
+        Some(form) => serve(alloc, form, source, sink),
+        None => Err(Stop::Words),
     }
 }
 
 /// Runs the program on its words, its input and its output, and tells the notes why nothing came
-/// out whole where nothing did.
+/// out whole where nothing did. The words are `synth 1`, `make SEED N` or `job SEED N 1`.
 ///
-/// - `Done`: the report of the instance that the input spells was written, and nothing else.
+/// - `Done`: the text was written, and nothing else. For `synth 1` it is the report of the instance that
+///   the input spells; for `make` the canonical text of the instance that is made from the seed; for
+///   `job` the summary of that instance's tree.
 /// - `NoTree`: the instance has no tree, since a node is beyond the limits or no route reaches it; the
 ///   line that says so was written, and nothing else.
-/// - `Words`: exactly where the words are not `synth` and the number 1; source and sink are as they
-///   were.
-/// - `Refused`: exactly where the input spells no instance, or is longer than 64 MiB; the sink is as it
-///   was.
+/// - `Words`: exactly where the words are none of these forms; source and sink are as they were.
+/// - `Refused`: exactly where an input is read that spells no instance, or is longer than 64 MiB; the sink
+///   is as it was.
 /// - `ReadFault`, `WriteFault`: only where the count of faults of source or sink rose in this call.
 ///   After a write fault the sink holds its old bytes and a front of the text.
 /// - `NoMemory`: after the words and before the first write; the sink is as it was.
 ///
-/// The notes get at most one line. Where they fail, nothing else changes.
+/// `make` and `job` leave the source as it is. The notes get at most one line. Where they fail, nothing
+/// else changes.
 pub fn run_alone<R: Threads + Sync, S: ByteSource, K: ByteSink, N: ByteSink>(
     _rt: &R,
     alloc: Global,
@@ -79,21 +66,28 @@ pub fn run_alone<R: Threads + Sync, S: ByteSource, K: ByteSink, N: ByteSink>(
     sink: &mut K,
     notes: &mut N,
 ) -> Outcome
-    // The report of the synthesis of the instance that was read to its end, and nothing else ..
-    ensures done { result.status ≡ Status.Done → IsAtEnd (S.left source.new)
-        × IfSome (S.left source.old) (λ bytes. IsAnswered (IsRight bytes) Answer.Text (K.held sink.old) (K.held sink.new)) }
-    // .. or that it has no tree.
-    ensures no_tree { result.status ≡ Status.NoTree → IsAtEnd (S.left source.new)
-        × IfSome (S.left source.old) (λ bytes. IsAnswered (IsRight bytes) Answer.NoTree (K.held sink.old) (K.held sink.new)) }
-
-    ensures words { (result.status ≡ Status.Words) ↔ (IsSynth words.now → ⊥) }
+    // The words ask for one form, or for none.
+    ensures words { (result.status ≡ Status.Words) ↔ ((form : Form) → IsForm words.now form → ⊥) }
     ensures untouched { result.status ≡ Status.Words → source.new ≡ source.old }
+    ensures others { (form : Form) → IsForm words.now form → LeavesOthers form source.old source.new }
 
-    ensures refused { result.status ≡ Status.Refused → IfSome (S.left source.old) IsRefused }
-    ensures read_fault { result.status ≡ Status.ReadFault → Rose (S.faults source.old) (S.faults source.new) }
+    // The right text of the form, once its input was read to its end, and nothing else ..
+    ensures done { (form : Form) → IsForm words.now form → result.status ≡ Status.Done
+        → HasRead S.left form source.old source.new × OfInput form (S.left source.old)
+        (λ bytes. IsAnswered (IsRight form bytes) Answer.Text (K.held sink.old) (K.held sink.new)) }
+    // .. or that there is no tree.
+    ensures no_tree { (form : Form) → IsForm words.now form → result.status ≡ Status.NoTree
+        → HasRead S.left form source.old source.new × OfInput form (S.left source.old)
+        (λ bytes. IsAnswered (IsRight form bytes) Answer.NoTree (K.held sink.old) (K.held sink.new)) }
+
+    ensures refused { (form : Form) → IsForm words.now form → result.status ≡ Status.Refused
+        → OfInput form (S.left source.old) (RefusesInput form) }
+    ensures read_fault { (form : Form) → IsForm words.now form → result.status ≡ Status.ReadFault
+        → ReadsInput form × Rose (S.faults source.old) (S.faults source.new) }
     ensures write_fault { result.status ≡ Status.WriteFault → Rose (K.faults sink.old) (K.faults sink.new) }
-    ensures in_part { result.status ≡ Status.WriteFault → IsAtEnd (S.left source.new)
-        × IfSome (S.left source.old) (λ bytes. IsAnsweredInPart (IsRight bytes) (K.held sink.old) (K.held sink.new)) }
+    ensures in_part { (form : Form) → IsForm words.now form → result.status ≡ Status.WriteFault
+        → HasRead S.left form source.old source.new × OfInput form (S.left source.old)
+        (λ bytes. IsAnsweredInPart (IsRight form bytes) (K.held sink.old) (K.held sink.new)) }
     ensures sink_kept { result.status ≢ Status.Done → result.status ≢ Status.NoTree → result.status ≢ Status.WriteFault
         → sink.new ≡ sink.old }
 
@@ -101,15 +95,17 @@ pub fn run_alone<R: Threads + Sync, S: ByteSource, K: ByteSink, N: ByteSink>(
     ensures sink_counted { K.faults sink.old ≤ K.faults sink.new }
     ensures notes_counted { N.faults notes.old ≤ N.faults notes.new }
 
-    // Where nothing failed, an instance is answered by its synthesis, unless memory ran out ..
-    ensures complete { IsSynth words.now → (Rose (S.faults source.old) (S.faults source.new) → ⊥)
+    // Where nothing failed, a form is answered by its right text, unless memory ran out ..
+    ensures complete { (form : Form) → IsForm words.now form
+        → (ReadsInput form → Rose (S.faults source.old) (S.faults source.new) → ⊥)
         → (Rose (K.faults sink.old) (K.faults sink.new) → ⊥)
-        → IfSome (S.left source.old) (λ bytes. (i : Parts) → Spells bytes i → (s : Synthesis) → IsSynthesis i s
-        → (result.status ≡ status_of (Ok (answer_of s))) ⊎ (result.status ≡ Status.NoMemory)) }
+        → OfInput form (S.left source.old) (λ bytes. (kind : Answer) → IsRightKind form bytes kind
+        → (result.status ≡ status_of (Ok kind)) ⊎ (result.status ≡ Status.NoMemory)) }
 
-    // .. and any other input is refused.
-    ensures refuses { IsSynth words.now → (Rose (S.faults source.old) (S.faults source.new) → ⊥)
-        → IfSome (S.left source.old) (λ bytes. IsRefused bytes
+    // .. and an input that spells no instance is refused.
+    ensures refuses { (form : Form) → IsForm words.now form
+        → (ReadsInput form → Rose (S.faults source.old) (S.faults source.new) → ⊥)
+        → OfInput form (S.left source.old) (λ bytes. RefusesInput form bytes
         → (result.status ≡ Status.Refused) ⊎ (result.status ≡ Status.NoMemory)) }
 
     ensures note { (Rose (N.faults notes.old) (N.faults notes.new) → ⊥)

@@ -7,6 +7,7 @@ ghost use Rattle.cts_top.specs.declared.stop.Stop.TheVariants.{WriteFault};
 
 use crate::outcome::Status;
 use cts_io::{ReadEnd, WriteEnd};
+use cts_num::NoMemory;
 use cts_read::{Cause, ReadStop};
 use thiserror::Error;
 
@@ -62,6 +63,16 @@ impl From<ReadStop> for Stop {
             ReadStop::Refused { line, cause } => Stop::Refused { line, cause },
             ReadStop::NoMemory => Stop::NoMemory,
         }
+    }
+}
+
+impl From<NoMemory> for Stop {
+    ghost use Rattle.cts_top.specs.declared.stop.Stop.TheVariants.{NoMemory};
+
+    ghost from_gives = { λ _ stop. stop ≡ NoMemory };
+
+    fn from(_error: NoMemory) -> Stop {
+        Stop::NoMemory
     }
 }
 

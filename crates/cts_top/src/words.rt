@@ -1,24 +1,117 @@
 //! The words that the program is called with.
 
-ghost use Rattle.std.specs.Prelude.{◌≡◌, ◌↔◌, Ok, IsTrue};
-ghost use Rattle.cts_num.specs.Reading.{reading_of};
-ghost use Rattle.cts_top.specs.Words.{IsSynth};
+ghost use Rattle.std.specs.Prelude.{◌≡◌, ◌↔◌, ◌≤◌, ◌<◌, ◌^◌, ℕ, Some, IsTrue, codes, [], ◌∷◌};
+ghost use Rattle.cts_top.specs.Words.{AreMade, AsksFor, IsForm, IsNumber};
 
 use cts_num::read_decimal;
 
-/// Whether the words ask for the synthesis by one thread: `synth`, and the number 1.
-pub fn is_synth(words: &[String]) -> bool
-    ensures { IsTrue result ↔ IsSynth words.now }
+/// What the words ask for.
+#[derive(Clone, Copy)]
+pub enum Form {
+    /// The report of the tree of the instance that the input spells.
+    Synth,
+    /// The text of the instance that is made from a seed, with so many sinks.
+    Make { seed: u32, sinks: u32 },
+    /// The summary of the tree of that instance.
+    Job { seed: u32, sinks: u32 },
+}
+
+/// What the words ask for: `synth 1`, `make SEED N` or `job SEED N 1`.
+pub fn form_of(words: &[String]) -> Option<Form>
+    ensures { (form : Form) → (result ≡ Some form) ↔ IsForm words.now form }
 {
     match words {
-        [form, workers] => form.as_str() == "synth" && is_one(workers.as_bytes()),
-        _ => false,
+        [name, workers] => synth(name.as_bytes(), workers.as_bytes()),
+        [name, seed, sinks] => make(name.as_bytes(), seed.as_bytes(), sinks.as_bytes()),
+        [name, seed, sinks, workers] => job(
+            name.as_bytes(),
+            seed.as_bytes(),
+            sinks.as_bytes(),
+            workers.as_bytes(),
+        ),
+        _ => None,
     }
 }
 
-/// Whether a word is the number 1.
-fn is_one(word: &[u8]) -> bool
-    ensures { IsTrue result ↔ (reading_of word.now 0 ≡ Ok 1) }
+fn synth(name: &[u8], workers: &[u8]) -> Option<Form>
+    ensures { (form : Form) → (result ≡ Some form) ↔ AsksFor (name.now ∷ workers.now ∷ []) form }
 {
-    matches!(read_decimal(word, 0), Ok(1))
+    if name == b"synth".as_slice() && is_number(workers, 1) {
+        Some(Form::Synth)
+    } else {
+        None
+    }
+}
+
+fn make(name: &[u8], seed: &[u8], sinks: &[u8]) -> Option<Form>
+    ensures { (form : Form) → (result ≡ Some form) ↔ AsksFor (name.now ∷ seed.now ∷ sinks.now ∷ []) form }
+{
+    if name == b"make".as_slice() {
+        make_of(seed, sinks)
+    } else {
+        None
+    }
+}
+
+/// The instance of two words.
+fn make_of(seed: &[u8], sinks: &[u8]) -> Option<Form>
+    ensures { (form : Form) → (result ≡ Some form) ↔ AsksFor (codes "make" ∷ seed.now ∷ sinks.now ∷ []) form }
+{
+    match made(seed, sinks) {
+        Some((seed, sinks)) => Some(Form::Make { seed, sinks }),
+        None => None,
+    }
+}
+
+fn job(name: &[u8], seed: &[u8], sinks: &[u8], workers: &[u8]) -> Option<Form>
+    ensures { (form : Form) → (result ≡ Some form)
+        ↔ AsksFor (name.now ∷ seed.now ∷ sinks.now ∷ workers.now ∷ []) form }
+{
+    if name == b"job".as_slice() {
+        job_of(seed, sinks, workers)
+    } else {
+        None
+    }
+}
+
+/// The job of three words.
+fn job_of(seed: &[u8], sinks: &[u8], workers: &[u8]) -> Option<Form>
+    ensures { (form : Form) → (result ≡ Some form)
+        ↔ AsksFor (codes "job" ∷ seed.now ∷ sinks.now ∷ workers.now ∷ []) form }
+{
+    if is_number(workers, 1) {
+        match made(seed, sinks) {
+            Some((seed, sinks)) => Some(Form::Job { seed, sinks }),
+            None => None,
+        }
+    } else {
+        None
+    }
+}
+
+/// A seed and a number of sinks, each within its limits.
+#[tactic(auto, using(crate::proofs::Forms::made_zip))]
+fn made(seed: &[u8], sinks: &[u8]) -> Option<(u32, u32)>
+    ensures { (s n : ℕ) → (result ≡ Some (s, n)) ↔ AreMade seed.now sinks.now s n }
+{
+    number(seed, 0, 2_147_483_647).zip(number(sinks, 1, 65_536))
+}
+
+/// The number that a word is, where it is within these limits.
+fn number(word: &[u8], least: u32, most: u32) -> Option<u32>
+    ensures { (n : ℕ) → (result ≡ Some n) ↔ (IsNumber word.now n × (least ≤ n) × (n ≤ most)) }
+{
+    let number = read_decimal(word, 0).ok()?;
+    if u64::from(least) <= number && number <= u64::from(most) {
+        Some(number as u32)
+    } else {
+        None
+    }
+}
+
+/// Whether a word is this number.
+fn is_number(word: &[u8], number: u64) -> bool
+    ensures { IsTrue result ↔ IsNumber word.now number }
+{
+    matches!(read_decimal(word, 0), Ok(read) if read == number)
 }
