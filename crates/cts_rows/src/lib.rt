@@ -1,4 +1,4 @@
-//! Worked rows of the crates on geometry, delays, shapes and merges, as tests.
+//! Worked rows of the crates on roots, geometry, delays, shapes and merges, as tests.
 //!
 //! They stand in a crate of their own, since a crate that has a test is proved twice. A row that a text can say is one of
 //! `cts_cases` instead.
@@ -13,6 +13,8 @@ mod buffers;
 #[cfg(test)]
 mod delays;
 #[cfg(test)]
+mod lengths;
+#[cfg(test)]
 mod merges;
 #[cfg(test)]
 mod plans;
@@ -20,5 +22,7 @@ mod plans;
 mod points;
 #[cfg(test)]
 mod regions;
+#[cfg(test)]
+mod roots;
 #[cfg(test)]
 mod shapes;

@@ -1,10 +1,11 @@
--- The extent of a coordinate, by its greatest and its least value.
-use Rattle.std.proofs.Common.{◌≡◌, ℕ, ◌+◌, ◌-◌, ◌<◌, ◌≤◌, max, min, nat_le, List, [], ◌∷◌, ◌++◌, take, length, get_or, All, refl, sym, ap, ap₂, subst, ◌∙◌, arith, take_all}
-use Rattle.std.proofs.lemmas.List.{take_more}
-use Rattle.std.proofs.lemmas.List.Elements.{All-head, All-tail, All-nil, All-more}
+-- The extent of a coordinate, by its greatest and its least value, which are the ends of a list that is sorted along it.
+use Rattle.std.proofs.Common.{◌≡◌, ℕ, suc, ◌+◌, ◌-◌, ◌<◌, ◌≤◌, max, min, nat_le, Bool, true, false, Less, nat_cmp, is_lt, List, [], ◌∷◌, length, get_or, IsSortedBy, inl, inr, refl, sym, ap, ap₂, ◌∙◌, arith}
+use Rattle.std.specs.Ordering.{ordering_then}
+use Rattle.std.proofs.lemmas.Bool.{cases_lt}
+use Rattle.std.proofs.lemmas.Bool.Decides.{nat_tests}
 use Rattle.std.specs.List.{AllByRecursion}
 use Rattle.cts_topo.specs.declared.pin.Pin.{Pin}
-use Rattle.cts_topo.specs.Topology.{greatest, extent, is_wide}
+use Rattle.cts_topo.specs.Topology.{greatest, extent, is_wide, is_before}
 use Rattle.cts_topo.proofs.Shuffles.{Shuffled, same, skip, turn, chain}
 
 -- the order of the pins does not matter
@@ -35,17 +36,6 @@ unfoldable pub least : ℕ → (Pin → ℕ) → List Pin → ℕ
 least limit f [] = limit
 least limit f (p ∷ ps) = min (f p) (least limit f ps)
 
-pub greatest-push : (f : Pin → ℕ) (ps : List Pin) (p : Pin) → greatest f (ps ++ p ∷ []) ≡ max (greatest f ps) (f p)
-unfolding greatest
-greatest-push f [] p = omega arith
-greatest-push f (q ∷ ps) p = omega (arith, greatest-push f ps p)
-
-pub least-push : (limit : ℕ) (f : Pin → ℕ) (ps : List Pin) (p : Pin)
-    → least limit f (ps ++ p ∷ []) ≡ min (least limit f ps) (f p)
-unfolding least
-least-push limit f [] p = omega arith
-least-push limit f (q ∷ ps) p = omega (arith, least-push limit f ps p)
-
 -- of one pin, the greatest difference is that to the least value
 greatest-less : (a limit : ℕ) (f : Pin → ℕ) (ps : List Pin) → a ≤ limit → greatest (λ q. a - f q) ps ≡ a - least limit f ps
 unfolding greatest least
@@ -73,76 +63,97 @@ unfolding extent
 extent-is limit f ps all =
     greatest-agree_on _ _ ps (differences limit f ps ps all) ∙ greatest-minus f (least limit f ps) ps
 
-pub least-le-greatest : (limit : ℕ) (f : Pin → ℕ) (ps : List Pin) → 0 < length ps → least limit f ps ≤ greatest f ps
-unfolding greatest least
-least-le-greatest limit f [] h = absurd (omega arith)
-least-le-greatest limit f (p ∷ ps) h = omega arith
+-- the values of a list that never fall
+unfoldable pub Ascends : (Pin → ℕ) → List Pin → Type 0
+Ascends f [] = Unit {0}
+Ascends f (p ∷ []) = Unit {0}
+Ascends f (p ∷ q ∷ ps) = (f p ≤ f q) × Ascends f (q ∷ ps)
 
-pub AllByRecursion-from : {X : Type 0} (P : X → Type 0) (xs : List X) → All P xs → AllByRecursion P xs
-AllByRecursion-from P [] all = tt
-AllByRecursion-from P (x ∷ xs) all = (All-head P x xs all, AllByRecursion-from P xs (All-tail P x xs all))
+all_below : (limit : ℕ) (f : Pin → ℕ) (ps : List Pin) → greatest f ps ≤ limit → AllByRecursion (λ p. f p ≤ limit) ps
+unfolding greatest
+all_below limit f [] h = tt
+all_below limit f (p ∷ ps) h = (omega arith, all_below limit f ps (omega arith))
 
--- one more pin of a list
-pub least_more : (limit : ℕ) (f : Pin → ℕ) (ps : List Pin) (i : ℕ) (d : Pin) → i < length ps
-    → least limit f (take (i + 1) ps) ≡ min (least limit f (take i ps)) (f (get_or ps i d))
-least_more limit f ps i d h = ap (least limit f) (take_more ps i d h) ∙ least-push limit f (take i ps) (get_or ps i d)
+greatest-last : (f : Pin → ℕ) (p d : Pin) (ps : List Pin) → Ascends f (p ∷ ps)
+    → greatest f (p ∷ ps) ≡ f (get_or (p ∷ ps) (length ps) d)
+unfolding greatest Ascends
+greatest-last f p d [] up = omega arith
+greatest-last f p d (q ∷ ps) up = omega (arith, greatest-last f q d ps (up.1), up.0)
 
-pub greatest_more : (f : Pin → ℕ) (ps : List Pin) (i : ℕ) (d : Pin) → i < length ps
-    → greatest f (take (i + 1) ps) ≡ max (greatest f (take i ps)) (f (get_or ps i d))
-greatest_more f ps i d h = ap (greatest f) (take_more ps i d h) ∙ greatest-push f (take i ps) (get_or ps i d)
+above_bound : (limit bound : ℕ) (f : Pin → ℕ) (p : Pin) (ps : List Pin) → Ascends f (p ∷ ps) → bound ≤ limit → bound ≤ f p
+    → bound ≤ least limit f (p ∷ ps)
+unfolding least Ascends
+above_bound limit bound f p [] up h low = omega arith
+above_bound limit bound f p (q ∷ ps) up h low = omega (arith, low, above_bound limit bound f q ps (up.1) h (omega (arith, low, up.0)))
 
--- the coordinates of a pin fit 32 bits
-abbrev pub FitsWord : Pin → Type 0
-FitsWord p = (p.x ≤ 4294967295) × (p.y ≤ 4294967295)
+least-first : (limit : ℕ) (f : Pin → ℕ) (p : Pin) (ps : List Pin) → Ascends f (p ∷ ps) → f p ≤ limit
+    → least limit f (p ∷ ps) ≡ f p
+unfolding least
+least-first limit f p ps up h = omega (arith, above_bound limit (f p) f p ps up h (omega arith))
 
--- what a scan of some pins has found of the first n of them
-pub record Scanned (ps : List Pin) (n left right bottom top : ℕ) : Type 0 where
-  pub left_is : left ≡ least 4294967295 (λ p. p.x) (take n ps)
-  pub right_is : right ≡ greatest (λ p. p.x) (take n ps)
-  pub bottom_is : bottom ≡ least 4294967295 (λ p. p.y) (take n ps)
-  pub top_is : top ≡ greatest (λ p. p.y) (take n ps)
-  pub fit : All FitsWord (take n ps)
-
-pub scanned_none : (ps : List Pin) → Scanned ps 0 4294967295 0 4294967295 0
-unfolding least greatest
-scanned_none ps = record { left_is = refl; right_is = refl; bottom_is = refl; top_is = refl; fit = All-nil FitsWord }
-
-pub scanned_more : (ps : List Pin) (n left right bottom top : ℕ) (d : Pin) → Scanned ps n left right bottom top
-    → n < length ps → (get_or ps n d).x ≤ 4294967295 → (get_or ps n d).y ≤ 4294967295
-    → Scanned ps (n + 1) (min left (get_or ps n d).x) (max right (get_or ps n d).x) (min bottom (get_or ps n d).y)
-    (max top (get_or ps n d).y)
-scanned_more ps n left right bottom top d s h x_fits y_fits = record {
-  left_is = ap (λ v. min v (get_or ps n d).x) s.left_is ∙ sym (least_more 4294967295 (λ q. q.x) ps n d h);
-  right_is = ap (λ v. max v (get_or ps n d).x) s.right_is ∙ sym (greatest_more (λ q. q.x) ps n d h);
-  bottom_is = ap (λ v. min v (get_or ps n d).y) s.bottom_is ∙ sym (least_more 4294967295 (λ q. q.y) ps n d h);
-  top_is = ap (λ v. max v (get_or ps n d).y) s.top_is ∙ sym (greatest_more (λ q. q.y) ps n d h);
-  fit = All-more FitsWord ps n d h s.fit (x_fits, y_fits);
-}
-
-pub scanned_order : (ps : List Pin) (n left right bottom top : ℕ) → Scanned ps n left right bottom top → length ps ≤ n
-    → 0 < length ps → (left ≤ right) × (bottom ≤ top)
-scanned_order ps n left right bottom top s all some =
-    let whole : take n ps ≡ ps = take_all n ps all in
-    let l : left ≡ least 4294967295 (λ p. p.x) ps = s.left_is ∙ ap (least 4294967295 (λ p. p.x)) whole in
-    let r : right ≡ greatest (λ p. p.x) ps = s.right_is ∙ ap (greatest (λ p. p.x)) whole in
-    let b : bottom ≡ least 4294967295 (λ p. p.y) ps = s.bottom_is ∙ ap (least 4294967295 (λ p. p.y)) whole in
-    let t : top ≡ greatest (λ p. p.y) ps = s.top_is ∙ ap (greatest (λ p. p.y)) whole in (
-      omega (arith, l, r, least-le-greatest 4294967295 (λ p. p.x) ps some),
-      omega (arith, b, t, least-le-greatest 4294967295 (λ p. p.y) ps some),
+-- so the extent is the difference of the last one and the first one
+pub extent_sorted : (f : Pin → ℕ) (ps : List Pin) (last : ℕ) (d e : Pin) → Ascends f ps → last + 1 ≡ length ps
+    → (extent f ps ≡ f (get_or ps last d) - f (get_or ps 0 e)) × (f (get_or ps 0 e) ≤ f (get_or ps last d))
+unfolding greatest
+extent_sorted f [] last d e up long = absurd (omega arith)
+extent_sorted f (p ∷ ps) last d e up long =
+    let limit : ℕ = greatest f (p ∷ ps) in
+    let at : length ps ≡ last = omega arith in
+    let own : f p ≤ limit = omega arith in
+    let top : greatest f (p ∷ ps) ≡ f (get_or (p ∷ ps) last d) =
+    greatest-last f p d ps up ∙ ap (λ n. f (get_or (p ∷ ps) n d)) at in (
+      extent-is limit f (p ∷ ps) (all_below limit f (p ∷ ps) (omega arith))
+          ∙ ap₂ (λ u v. u - v) top (least-first limit f p ps up own),
+      omega (arith, top, own),
     )
 
--- once all pins are scanned the extents are known
-pub scanned_all : (ps : List Pin) (n left right bottom top : ℕ) → Scanned ps n left right bottom top → length ps ≤ n
-    → is_wide ps ≡ nat_le (top - bottom) (right - left)
+-- the coordinate along an axis
+abbrev pub along_axis : Bool → Pin → ℕ
+along_axis true p = p.x
+along_axis false p = p.y
+
+less_first : (m n : ℕ) → m < n → nat_cmp m n ≡ Less
+less_first m n h = grind (arith, nat_tests)
+
+not_before : (wide : Bool) (q p : Pin) → is_before wide q p ≡ false → along_axis wide p ≤ along_axis wide q
+not_before true q p h = elim (cases_lt q.x p.x) [
+  | inr there ↦ there
+  | inl less ↦
+      let is : is_before true q p ≡ true =
+      ap (λ o. is_lt (ordering_then (ordering_then o (nat_cmp q.y p.y)) (nat_cmp q.id p.id))) (less_first q.x p.x less) in
+      cc
+]
+not_before false q p h = elim (cases_lt q.y p.y) [
+  | inr there ↦ there
+  | inl less ↦
+      let is : is_before false q p ≡ true =
+      ap (λ o. is_lt (ordering_then (ordering_then o (nat_cmp q.x p.x)) (nat_cmp q.id p.id))) (less_first q.y p.y less) in
+      cc
+]
+
+-- pins sorted along an axis never fall along it
+pub ascends_sorted : (wide : Bool) (ps : List Pin) → IsSortedBy (is_before wide) ps → Ascends (along_axis wide) ps
+unfolding Ascends
+ascends_sorted wide [] sorted = tt
+ascends_sorted wide (p ∷ []) sorted = tt
+ascends_sorted wide (p ∷ q ∷ ps) sorted = (
+  not_before wide q p (sorted 0 p (omega arith) (omega arith)),
+  ascends_sorted wide (q ∷ ps)
+      (λ k d u w. let step : suc k + 1 ≡ suc (k + 1) = omega arith in
+      ap (λ i. is_before wide (get_or (p ∷ q ∷ ps) i d) (get_or (q ∷ ps) k d)) (sym step)
+      ∙ sorted (suc k) d (omega arith) (omega arith)),
+)
+
+pub ends_rise : (wide : Bool) (ps : List Pin) (last : ℕ) (d e : Pin) → IsSortedBy (is_before wide) ps → last + 1 ≡ length ps
+    → along_axis wide (get_or ps 0 e) ≤ along_axis wide (get_or ps last d)
+ends_rise wide ps last d e sorted long = (extent_sorted (along_axis wide) ps last d e (ascends_sorted wide ps sorted) long).1
+
+-- the ends of one list of pins sorted along x, and of one sorted along y, tell the axis
+pub ends_tell : (xs ys : List Pin) (last : ℕ) (d e f g : Pin) → IsSortedBy (is_before true) xs → IsSortedBy (is_before false) ys
+    → Shuffled xs ys → last + 1 ≡ length xs → last + 1 ≡ length ys
+    → is_wide xs ≡ nat_le ((get_or ys last f).y - (get_or ys 0 g).y) ((get_or xs last d).x - (get_or xs 0 e).x)
 unfolding is_wide
-scanned_all ps n left right bottom top s all =
-    let whole : take n ps ≡ ps = take_all n ps all in
-    let l : left ≡ least 4294967295 (λ p. p.x) ps = s.left_is ∙ ap (least 4294967295 (λ p. p.x)) whole in
-    let r : right ≡ greatest (λ p. p.x) ps = s.right_is ∙ ap (greatest (λ p. p.x)) whole in
-    let b : bottom ≡ least 4294967295 (λ p. p.y) ps = s.bottom_is ∙ ap (least 4294967295 (λ p. p.y)) whole in
-    let t : top ≡ greatest (λ p. p.y) ps = s.top_is ∙ ap (greatest (λ p. p.y)) whole in
-    let fit : All FitsWord ps = subst (All FitsWord) whole s.fit in
-    let xs : AllByRecursion (λ p. p.x ≤ 4294967295) ps = AllByRecursion-from _ ps (λ k d h. (fit k d h).0) in
-    let ys : AllByRecursion (λ p. p.y ≤ 4294967295) ps = AllByRecursion-from _ ps (λ k d h. (fit k d h).1) in
-    ap₂ nat_le (extent-is 4294967295 (λ p. p.y) ps ys ∙ ap₂ (λ u v. u - v) (sym t) (sym b))
-    (extent-is 4294967295 (λ p. p.x) ps xs ∙ ap₂ (λ u v. u - v) (sym r) (sym l))
+ends_tell xs ys last d e f g x_order y_order items long same_long =
+    let x = extent_sorted (λ p. p.x) xs last d e (ascends_sorted true xs x_order) long in
+    let y = extent_sorted (λ p. p.y) ys last f g (ascends_sorted false ys y_order) same_long in
+    ap₂ nat_le (extent-Shuffled (λ p. p.y) items ∙ y.0) (x.0)

@@ -4,6 +4,7 @@ pub mod Ranks
 pub mod Apart
 pub mod Extents
 pub mod Parts
+pub mod Pivots
 pub mod Sorted
 pub mod Divisions
 pub mod PinsFrom

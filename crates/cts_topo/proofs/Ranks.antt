@@ -21,7 +21,7 @@ pub count_by-cons : {X : Type 0} (p : X → Bool) (x : X) (xs : List X)
 count_by-cons p x xs = sum_by-cons (λ y. cond (p y) 1 0) x xs
 
 module _ {X : Type 0} (lt : X → X → Bool) (asym : (x y : X) → lt x y ≡ true → lt y x ≡ false) where
-  not_itself : (x : X) → lt x x ≡ false
+  pub not_itself : (x : X) → lt x x ≡ false
   not_itself x = cases (lt x x) refl
     where
       cases : (b : Bool) → lt x x ≡ b → lt x x ≡ false

@@ -2,13 +2,7 @@
 use Rattle.std.proofs.Common.{◌≡◌, ℕ, zero, suc, ◌+◌, ◌<◌, Bool, true, false, cond, List, [], ◌∷◌, ◌++◌, map, set, length, get_or, swap, filter, sum_by, IsPermutation, refl, sym, ap, ◌∙◌, arith}
 use Rattle.std.proofs.lemmas.List.Sorted.{IsPermutation-keeps}
 use Rattle.std.proofs.lemmas.List.Sums.{sum_by-cons}
-
--- ys has the items of xs: the same list, one more item before both, the first two exchanged, one step after another
-pub data Shuffled {X : Type 0} : List X → List X → Type 0 where
-  same : {xs : List X} → Shuffled xs xs
-  skip : {x : X} {xs ys : List X} → Shuffled xs ys → Shuffled (x ∷ xs) (x ∷ ys)
-  turn : {x y : X} {xs : List X} → Shuffled (x ∷ y ∷ xs) (y ∷ x ∷ xs)
-  chain : {xs ys zs : List X} → Shuffled xs ys → Shuffled ys zs → Shuffled xs zs
+pub use Rattle.cts_topo.specs.Shuffled.{Shuffled, same, skip, turn, chain}
 
 module _ {X : Type 0} where
   pub turned_round : {xs ys : List X} → Shuffled xs ys → Shuffled ys xs

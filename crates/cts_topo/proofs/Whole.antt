@@ -18,7 +18,8 @@ use Rattle.cts_topo.proofs.Apart.{AreApart}
 use Rattle.cts_topo.specs.Topology.{pins_from, division, topology_of, shape_of}
 use Rattle.cts_topo.proofs.Shuffles.{Shuffled, same, skip, turn, chain, sum_by-Shuffled}
 use Rattle.cts_topo.proofs.Ranks.{count_by-cons}
-use Rattle.cts_topo.proofs.Divisions.{IsNumbered-division, size-division, leaf_sinks-division, depth-division, IsDivided-division}
+use Rattle.cts_topo.proofs.Divisions.{division-Shuffled, IsNumbered-division, size-division, leaf_sinks-division, depth-division, IsDivided-division}
+use Rattle.cts_topo.proofs.Shuffles.{Shuffled, length-Shuffled}
 use Rattle.cts_topo.proofs.PinsFrom.{length-pins_from, distinct_pins}
 
 all-Shuffled : {X : Type 0} (P : X → Type 0) {xs ys : List X} → Shuffled xs ys → AllByRecursion P xs → AllByRecursion P ys
@@ -120,11 +121,11 @@ pub shapes_are_shallow_lem : ShapesAreShallow
 shapes_are_shallow_lem sinks are = (depth-topology_of sinks are, depth-topology_of sinks are 16 are.few)
 
 -- what the code divides is the shape of the definition
-pub divided_is_shape : (sinks : List Sink) (pins : List Pin) (before nodes : List ShapeNode) → pins ≡ pins_from 0 sinks → before ≡ []
-    → ((limit : ℕ) → length pins ≤ limit → nodes ≡ before ++ labels (division limit (length before) pins))
+pub shuffled_is_shape : (sinks : List Sink) (pins : List Pin) (before nodes : List ShapeNode) → Shuffled (pins_from 0 sinks) pins
+    → before ≡ [] → ((limit : ℕ) → length pins ≤ limit → nodes ≡ before ++ labels (division limit (length before) pins))
     → nodes ≡ shape_of sinks
 unfolding shape_of topology_of
-divided_is_shape sinks pins before nodes is empty divided =
-    divided (length sinks) (omega (arith, ap length is, length-pins_from 0 sinks))
+shuffled_is_shape sinks pins before nodes items empty divided =
+    divided (length sinks) (omega (arith, length-Shuffled items, length-pins_from 0 sinks))
     ∙ ap (λ ns. ns ++ labels (division (length sinks) (length ns) pins)) empty
-    ∙ ap (λ ps. labels (division (length sinks) 0 ps)) is
+    ∙ ap labels (sym (division-Shuffled (length sinks) 0 (pins_from 0 sinks) pins items))

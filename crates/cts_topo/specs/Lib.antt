@@ -1,4 +1,5 @@
 pub mod Shape
+pub mod Shuffled
 pub mod Sinks
 pub mod Topology
 pub mod Laws

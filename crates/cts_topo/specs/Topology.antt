@@ -33,6 +33,11 @@ extent f pins = greatest (λ p. greatest (λ q. f p - f q) pins) pins
 unfoldable pub is_wide : List Pin → Bool
 is_wide pins = nat_le (extent (λ p. p.y) pins) (extent (λ p. p.x) pins)
 
+-- the axis is the other one than that which `wide` names
+abbrev pub turned : Bool → List Pin → Bool
+turned true pins = not (is_wide pins)
+turned false pins = is_wide pins
+
 -- how two pins compare by one coordinate, then the other, then the id
 abbrev pub compare_by : (Pin → ℕ) → (Pin → ℕ) → Pin → Pin → Ordering
 compare_by first second p q =

@@ -1,12 +1,14 @@
-//! The division of sinks in halves, along the axis in which they run further.
+//! The division of sinks in halves, along the axis in which they run further. They are sorted once along
+//! each axis, and each division splits both lists and keeps their orders.
 
-ghost use Rattle.std.specs.Prelude.{◌≡◌, ℕ, ◌+◌, ◌*◌, ◌^◌, ◌<◌, ◌≤◌, ◌++◌, length, vec_len, OnOk, IfOk};
+ghost use Rattle.std.specs.Prelude.{◌≡◌, ℕ, ◌+◌, ◌*◌, ◌^◌, ◌<◌, ◌≤◌, ◌++◌, true, false, not, length, filter, vec_len, OnOk, IfOk};
 ghost use Rattle.std.specs.List.Sorted.{IsPermutation, IsSortedBy};
 ghost use Rattle.cts_units.specs.Ids.{HasDistinctIds};
 ghost use Rattle.cts_postorder.specs.BinaryTree.{labels};
 ghost use Rattle.cts_topo.specs.Shape.{IsShapeOver};
 ghost use Rattle.cts_topo.specs.Sinks.{AreSinks, IsPlaced};
-ghost use Rattle.cts_topo.specs.Topology.{is_before, division, pins_from, shape_of};
+ghost use Rattle.cts_topo.specs.Topology.{is_before, compare_along, division, pins_from, shape_of, turned};
+ghost use Rattle.cts_topo.specs.Shuffled.{Shuffled};
 ghost use Rattle.cts_topo.specs.Topology.{is_wide as spec_is_wide, pin_of as spec_pin_of};
 
 use crate::pin::Pin;
@@ -14,6 +16,7 @@ use crate::shape::{Shape, ShapeNode};
 use cts_num::NoMemory;
 use cts_units::Sink;
 use std::alloc::Global;
+use std::cmp::Ordering;
 
 /// The shape of the tree over these sinks, after the method of means and medians.
 ///
@@ -28,9 +31,19 @@ pub fn topology(alloc: Global, sinks: &[Sink]) -> Result<Shape, NoMemory>
     ensures each_sink_once { IfOk result (IsShapeOver (length sinks.now)) }
     ensures count { IfOk result (λ shape. length shape + 1 ≡ 2 * length sinks.now) }
 {
-    let mut pins = pins_of(alloc, sinks)?;
+    let mut by_x = pins_of(alloc, sinks)?;
+    sort_along(&mut by_x, true);
+    let mut by_y = Vec::from_slice(alloc, by_x.as_slice())?;
+    sort_along(&mut by_y, false);
+    let mut spare = Vec::from_slice(alloc, by_x.as_slice())?;
     let mut nodes = Vec::with_capacity(alloc, 2 * sinks.len() - 1)?;
-    divide(pins.as_mut_slice(), &mut nodes)?;
+    divide(
+        true,
+        by_x.as_mut_slice(),
+        by_y.as_mut_slice(),
+        spare.as_mut_slice(),
+        &mut nodes,
+    )?;
     Ok(Shape::of(nodes))
 }
 
@@ -60,54 +73,121 @@ fn pin_of(sink: &Sink, place: usize) -> Pin
     }
 }
 
-/// Appends the nodes of the tree over these pins, and leaves the pins in another order.
-fn divide(pins: &mut [Pin], nodes: &mut Vec<ShapeNode>) -> Result<(), NoMemory>
-    requires some { 0 < length pins.old }
-    requires distinct { HasDistinctIds (λ p. p.id) pins.old }
-    requires room { vec_len nodes.old + 2 * length pins.old ≤ 2 ^ 32 }
-    ensures count { OnOk result (vec_len nodes.new + 1 ≡ vec_len nodes.old + 2 * length pins.old) }
-    ensures nodes { OnOk result ((limit : ℕ) → length pins.old ≤ limit
-        → nodes.new.items ≡ nodes.old.items ++ labels (division limit (length nodes.old.items) pins.old)) }
+/// Appends the nodes of the tree over some pins, which are sorted once along the axis that `wide` names and once
+/// across it. Both lists are left in another order.
+fn divide(
+    wide: bool,
+    along: &mut [Pin],
+    across: &mut [Pin],
+    spare: &mut [Pin],
+    nodes: &mut Vec<ShapeNode>,
+) -> Result<(), NoMemory>
+    requires some { 0 < length along.old }
+    requires distinct { HasDistinctIds (λ p. p.id) along.old }
+    requires along { IsSortedBy (is_before wide) along.old }
+    requires across { IsSortedBy (is_before (not wide)) across.old }
+    requires same { Shuffled along.old across.old }
+    requires spare { length spare.old ≡ length along.old }
+    requires room { vec_len nodes.old + 2 * length along.old ≤ 2 ^ 32 }
+    ensures count { OnOk result (vec_len nodes.new + 1 ≡ vec_len nodes.old + 2 * length along.old) }
+    ensures nodes { OnOk result ((limit : ℕ) → length along.old ≤ limit
+        → nodes.new.items ≡ nodes.old.items ++ labels (division limit (length nodes.old.items) along.old)) }
 {
-    if pins.len() == 1 {
-        nodes.push(ShapeNode::Leaf { sink: pins[0].sink })?;
+    if along.len() == 1 {
+        nodes.push(ShapeNode::Leaf {
+            sink: along[0].sink,
+        })?;
         return Ok(());
     }
-    let half = pins.len().div_ceil(2);
-    let wide = is_wide(pins);
-    sort_along(pins, wide);
-    let (left_part, right_part) = pins.split_at_mut(half);
-    divide(left_part, nodes)?;
+    if is_turned(wide, along, across) {
+        return divide(!wide, across, along, spare, nodes);
+    }
+    let half = along.len().div_ceil(2);
+    split(across, wide, along[half], half, spare);
+    let (left_along, right_along) = along.split_at_mut(half);
+    let (left_across, right_across) = spare.split_at_mut(half);
+    let (left_spare, right_spare) = across.split_at_mut(half);
+    divide(wide, left_along, left_across, left_spare, nodes)?;
     let left = (nodes.len() - 1) as u32;
-    divide(right_part, nodes)?;
+    divide(wide, right_along, right_across, right_spare, nodes)?;
     let right = (nodes.len() - 1) as u32;
     nodes.push(ShapeNode::Pair { left, right })?;
     Ok(())
 }
 
-/// Whether the pins are divided along x: they run at least as far in x as in y.
-fn is_wide(pins: &[Pin]) -> bool
-    requires { 0 < length pins.now }
-    ensures { result ≡ spec_is_wide pins.now }
+/// Whether the pins are divided along the other axis than that which `wide` names.
+fn is_turned(wide: bool, along: &[Pin], across: &[Pin]) -> bool
+    requires some { 0 < length along.now }
+    requires along { IsSortedBy (is_before wide) along.now }
+    requires across { IsSortedBy (is_before (not wide)) across.now }
+    requires same { Shuffled along.now across.now }
+    ensures { result ≡ turned wide along.now }
 {
-    let (mut left, mut right, mut bottom, mut top) = (u32::MAX, 0u32, u32::MAX, 0u32);
-    for pin in pins {
-        left = left.min(pin.x);
-        right = right.max(pin.x);
-        bottom = bottom.min(pin.y);
-        top = top.max(pin.y);
+    if wide {
+        !is_wide(along, across)
+    } else {
+        is_wide(across, along)
     }
-    right - left >= top - bottom
+}
+
+/// Whether pins that are sorted along x and along y run at least as far in x as in y.
+fn is_wide(by_x: &[Pin], by_y: &[Pin]) -> bool
+    requires some { 0 < length by_x.now }
+    requires by_x { IsSortedBy (is_before true) by_x.now }
+    requires by_y { IsSortedBy (is_before false) by_y.now }
+    requires same { Shuffled by_x.now by_y.now }
+    ensures { result ≡ spec_is_wide by_x.now }
+{
+    let last = by_x.len() - 1;
+    by_x[last].x - by_x[0].x >= by_y[last].y - by_y[0].y
+}
+
+/// Copies the pins in their order to `target`: those before the pivot, of which there are `half`, then the others.
+fn split(pins: &[Pin], wide: bool, pivot: Pin, half: usize, target: &mut [Pin])
+    requires half { length (filter (λ p. is_before wide p pivot) pins.now) ≡ half }
+    requires room { length target.old ≡ length pins.now }
+    ensures { target.new ≡ filter (λ p. is_before wide p pivot) pins.now
+        ++ filter (λ p. not (is_before wide p pivot)) pins.now }
+{
+    let (front, back) = target.split_at_mut(half);
+    let (mut early, mut late) = (0, 0);
+    for pin in pins {
+        if comes_before(wide, pin, &pivot) {
+            front[early] = *pin;
+            early += 1;
+        } else {
+            back[late] = *pin;
+            late += 1;
+        }
+    }
 }
 
 /// Sorts the pins along x or along y; ties go by the other coordinate, then by id.
-fn sort_along(pins: &mut [Pin], wide: bool)
-    ensures permutation { IsPermutation pins.old pins.new }
-    ensures sorted { IsSortedBy (is_before wide) pins.new }
+fn sort_along(pins: &mut Vec<Pin>, wide: bool)
+    ensures permutation { IsPermutation pins.old.items pins.new.items }
+    ensures sorted { IsSortedBy (is_before wide) pins.new.items }
 {
     if wide {
-        pins.sort_unstable_by(|p, q| p.x.cmp(&q.x).then(p.y.cmp(&q.y)).then(p.id.cmp(&q.id)));
+        pins.sort_unstable_by(|p, q| compare(true, p, q));
     } else {
-        pins.sort_unstable_by(|p, q| p.y.cmp(&q.y).then(p.x.cmp(&q.x)).then(p.id.cmp(&q.id)));
+        pins.sort_unstable_by(|p, q| compare(false, p, q));
+    }
+}
+
+/// Whether the first pin comes before the second one along x or along y.
+fn comes_before(wide: bool, p: &Pin, q: &Pin) -> bool
+    ensures { result ≡ is_before wide p.now q.now }
+{
+    compare(wide, p, q).is_lt()
+}
+
+/// How two pins compare along x or along y.
+fn compare(wide: bool, p: &Pin, q: &Pin) -> Ordering
+    ensures { result ≡ compare_along wide p.now q.now }
+{
+    if wide {
+        p.x.cmp(&q.x).then(p.y.cmp(&q.y)).then(p.id.cmp(&q.id))
+    } else {
+        p.y.cmp(&q.y).then(p.x.cmp(&q.x)).then(p.id.cmp(&q.id))
     }
 }

@@ -1,5 +1,5 @@
-use Rattle.std.proofs.Common.{length}
+use Rattle.cts_topo.proofs.Pivots.{turns_left}
 use Rattle.cts_topo.proofs.divide.+divide.Given as goal
 
 abbrev pub decreases-divide : goal.decreases-divide
-decreases-divide l = length l.pins.now
+decreases-divide l = turns_left l.wide l.along.now

@@ -1,20 +1,25 @@
-use Rattle.std.proofs.Common.{sym, arith}
-use Rattle.cts_topo.proofs.Extents.{scanned_none, scanned_more, scanned_order, scanned_all}
+-- The ends of the two lists tell the extents.
+use Rattle.std.proofs.Common.{true, false, ◌-◌, length, sym, arith}
+use Rattle.cts_topo.proofs.Shuffles.{length-Shuffled}
+use Rattle.cts_topo.proofs.Extents.{ends_rise, ends_tell}
 use Rattle.cts_topo.proofs.divide.is_wide.Goals as goal
 
-pub loop-pin-init : goal.loop-pin-init
-loop-pin-init c = scanned_none _
+pub bounds-by_y-last : goal.bounds-by_y-last
+bounds-by_y-last c = omega (arith, length-Shuffled c.requires.same, c.requires.some)
 
-pub loop-pin-preserved : goal.loop-pin-preserved
-loop-pin-preserved c =
-    rw (c.min-left.ensures, c.max-right.ensures, c.min-bottom.ensures, c.max-top.ensures)
-    (scanned_more _ _ _ _ _ _ _ c.loop-pin.invariant c.loop-pin-test.true (omega arith) (omega arith))
+pub bounds-by_y-0 : goal.bounds-by_y-0
+bounds-by_y-0 c = omega (arith, length-Shuffled c.requires.same, c.requires.some)
 
 pub overflow_sub-result : goal.overflow_sub-result
-overflow_sub-result c = (scanned_order _ _ _ _ _ _ c.loop-pin.invariant (omega arith) c.requires).0
+overflow_sub-result c =
+    ends_rise true c.args.by_x.now (length c.args.by_x.now - 1) _ _ c.requires.by_x (omega (arith, c.requires.some))
 
 pub overflow_sub-result-2 : goal.overflow_sub-result-2
-overflow_sub-result-2 c = (scanned_order _ _ _ _ _ _ c.loop-pin.invariant (omega arith) c.requires).1
+overflow_sub-result-2 c =
+    ends_rise false c.args.by_y.now (length c.args.by_x.now - 1) _ _ c.requires.by_y
+    (omega (arith, length-Shuffled c.requires.same, c.requires.some))
 
 pub returns : goal.returns
-returns c = sym (scanned_all _ _ _ _ _ _ c.loop-pin.invariant (omega arith))
+returns c =
+    sym (ends_tell c.args.by_x.now c.args.by_y.now (length c.args.by_x.now - 1) _ _ _ _ c.requires.by_x c.requires.by_y c.requires.same
+    (omega (arith, c.requires.some)) (omega (arith, length-Shuffled c.requires.same, c.requires.some)))

@@ -8,10 +8,10 @@ use Rattle.cts_topo.proofs.divide.sort_along.Goals as goal
 
 pub returns-then-wide-clause-sorted : goal.returns-then-wide-clause-sorted
 returns-then-wide-clause-sorted c =
-    subst (λ b. IsSortedBy (is_before b) c.sort_unstable_by.new.self) (sym c.if-wide.true)
+    subst (λ b. IsSortedBy (is_before b) c.sort_unstable_by.new.self.items) (sym c.if-wide.true)
     (c.sort_unstable_by.ensures.sorted (is_before true) (pins_weak true) (answers_always _ _ _ (λ f a r g h. search rules)))
 
 pub returns-else-wide-clause-sorted : goal.returns-else-wide-clause-sorted
 returns-else-wide-clause-sorted c =
-    subst (λ b. IsSortedBy (is_before b) c.sort_unstable_by-else-wide.new.self) (sym c.if-wide.false)
+    subst (λ b. IsSortedBy (is_before b) c.sort_unstable_by-else-wide.new.self.items) (sym c.if-wide.false)
     (c.sort_unstable_by-else-wide.ensures.sorted (is_before false) (pins_weak false) (answers_always _ _ _ (λ f a r g h. search rules)))
