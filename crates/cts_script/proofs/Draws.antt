@@ -1,7 +1,9 @@
 -- Draws of the generator.
-use Rattle.std.proofs.Common.{◌≡◌, ℕ, zero, suc, pos, ◌+◌, ◌*◌, ◌%◌, ◌^◌, subst, ◌<◌, refl, ap, ◌∙◌, sym, arith}
+use Rattle.std.proofs.Common.{◌≡◌, List, [], ◌∷◌, ◌++◌, map, ℕ, zero, suc, pos, ◌+◌, ◌*◌, ◌%◌, ◌^◌, subst, ◌<◌, refl, ap, ◌∙◌, sym, arith}
 use Rattle.std.proofs.Math.Nat.{div-lt_iff_lt-mul, mul-lt-mul_of_pos_right}
 use Rattle.std.specs.Fn.{iterate}
+use Rattle.std.specs.List.{range_with_len}
+use Rattle.std.proofs.lemmas.List.FromFn.{map-range_with_len_more}
 use Rattle.cts_units.specs.declared.params.Sink.{Sink}
 use Rattle.cts_script.specs.Generator.{draw, drawn, made_sink, next_state, state_after}
 
@@ -54,3 +56,13 @@ sink_from_states seed number t u v ht hu hv x y c hx hy hc =
     ap (λ v. record { id = number + 1; x = pos v; y = pos y; cap = (20 + c) * 1000000 }) ex
     ∙ ap (λ v. record { id = number + 1; x = pos (draw seed (3 * number) 10000001); y = pos v; cap = (20 + c) * 1000000 }) ey
     ∙ ap (λ v. record { id = number + 1; x = pos (draw seed (3 * number) 10000001); y = pos (draw seed (3 * number + 1) 10000001); cap = (20 + v) * 1000000 }) ec
+
+-- one more sink
+pub sinks_more : (seed count : ℕ) (old new : List Sink) (sink : Sink) → new ≡ old ++ sink ∷ []
+    → old ≡ map (made_sink seed) (range_with_len 0 count) → sink ≡ made_sink seed count
+    → new ≡ map (made_sink seed) (range_with_len 0 (count + 1))
+sinks_more seed count old new sink pushed before made =
+    pushed
+    ∙ ap (λ sinks. sinks ++ sink ∷ []) before
+    ∙ ap (λ s. map (made_sink seed) (range_with_len 0 count) ++ s ∷ []) made
+    ∙ sym (map-range_with_len_more (made_sink seed) 0 count count (omega arith))

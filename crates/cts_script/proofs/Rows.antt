@@ -1,4 +1,4 @@
--- States, sinks and a text worked by hand.
+-- States and sinks worked by hand.
 use Rattle.std.proofs.Common.{◌≡◌, [], ◌∷◌, map, pos, refl}
 use Rattle.cts_script.specs.Generator.{made_sinks, next_state, state_after}
 

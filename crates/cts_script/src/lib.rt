@@ -1,11 +1,12 @@
 //! Instances that are made from a number, and the canonical text of an instance.
 //!
 //! A layer above uses [`make_instance`], whose result is told by `specs/Generator.antt`, and
-//! [`write_instance`], which writes the text of `specs/Text.antt`; the lines of that text stand in the
-//! order in which the reader of instances takes them. Scripts of edits will stand here too.
+//! [`write_instance`], which writes the text of `specs/Text.antt`. The [`laws`] say that the reader of
+//! instances takes every valid instance back from that text. Scripts of edits will stand here too.
 #![tactic(auto)]
 
 mod generator;
+pub mod laws;
 mod make;
 mod words;
 mod write;

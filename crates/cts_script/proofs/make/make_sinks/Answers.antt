@@ -1,7 +1,7 @@
-use Rattle.std.proofs.Common.{◌∷◌, [], ◌++◌, map, ap, ◌∙◌, sym, arith}
+use Rattle.std.proofs.Common.{map, ap, ◌∙◌, arith}
 use Rattle.std.specs.List.{range_with_len}
-use Rattle.std.proofs.lemmas.List.FromFn.{map-range_with_len_more}
 use Rattle.cts_script.specs.Generator.{made_sink, made_sinks, state_after}
+use Rattle.cts_script.proofs.Draws.{sinks_more}
 use Rattle.cts_script.proofs.make.make_sinks.Goals as goal
 
 pub loop-number-init : goal.loop-number-init
@@ -12,10 +12,7 @@ pub loop-number-preserved : goal.loop-number-preserved
 loop-number-preserved c =
     let before = c.loop-number.invariant in (
       c.make_sink.ensures.state c.args.seed before.0,
-      c.in_ok-push.ensures.items
-          ∙ ap (λ sinks. sinks ++ c.make_sink.result ∷ []) before.1
-          ∙ ap (λ sink. map (made_sink c.args.seed) (range_with_len 0 c.loop-number.number) ++ sink ∷ []) (c.make_sink.ensures.sink c.args.seed before.0)
-          ∙ sym (map-range_with_len_more (made_sink c.args.seed) 0 c.loop-number.number c.loop-number.number (omega arith)),
+      sinks_more c.args.seed c.loop-number.number _ _ _ c.in_ok-push.ensures.items before.1 (c.make_sink.ensures.sink c.args.seed before.0),
     )
 
 pub returns : goal.returns
