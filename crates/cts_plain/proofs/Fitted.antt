@@ -1,9 +1,8 @@
 -- The tree of a shape is made of the instance's sinks and buffers.
-use Rattle.std.proofs.Common.{◌≡◌, ℕ, ◌<◌, ◌≤◌, List, [], ◌∷◌, map, length, get_or, slice_get, Option, Some, None, IsSomeAnd, refl, sym, ap, subst, ◌∙◌, arith}
-use Rattle.std.specs.List.{All, AllZip}
+use Rattle.std.proofs.Common.{◌≡◌, ℕ, List, length, get_or, Option, Some, None, IsSomeAnd, refl, sym, ap, subst, ◌∙◌, arith}
+use Rattle.std.specs.List.{AllZip}
 use Rattle.std.proofs.lemmas.Slice.Zip.{AllZip-long}
 use Rattle.cts_units.specs.declared.params.Sink.{Sink}
-use Rattle.cts_units.specs.declared.params.Buffer.{Buffer}
 use Rattle.cts_postorder.specs.BinaryTree.{label}
 use Rattle.cts_postorder.specs.Occurrence.{Occurrence, occurrences_of}
 use Rattle.cts_postorder.proofs.Zips.{all_zip-all, all_zip-at}

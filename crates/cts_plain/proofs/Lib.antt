@@ -5,3 +5,4 @@ pub mod Wires
 pub mod Fitted
 pub mod Unique
 pub mod Sound
+pub mod Uncut

@@ -1,9 +1,7 @@
 -- In the tree of a shape each sink is reached once and at its place, and its nodes name what the instance has.
-use Rattle.std.proofs.Common.{◌≡◌, ℕ, zero, suc, ◌+◌, ◌<◌, ◌≤◌, ◌==◌, inl, inr, List, [], ◌∷◌, ◌++◌, map, length, get_or, slice_get, filter_map, count_by, Option, Some, None, MatchOption, refl, sym, ap, ap₂, subst, ◌∙◌, arith}
-use Rattle.std.specs.List.{All, AllZip, cons_option}
+use Rattle.std.proofs.Common.{◌≡◌, ℕ, ◌≤◌, ◌==◌, inl, inr, List, [], ◌∷◌, map, length, get_or, slice_get, filter_map, count_by, Option, Some, None, MatchOption, refl, sym, ap, subst, ◌∙◌, arith}
+use Rattle.std.specs.List.{AllZip, cons_option}
 use Rattle.std.specs.Option.{option_map}
-use Rattle.std.proofs.lemmas.Option.{slice_get-get_or}
-use Rattle.std.proofs.lemmas.Slice.Zip.{AllZip-long}
 use Rattle.cts_geom.specs.Points.{spot_at}
 use Rattle.cts_geom.specs.declared.points.Spot.{Spot}
 use Rattle.cts_units.specs.declared.params.Sink.{Sink}
@@ -22,7 +20,7 @@ use Rattle.cts_topo.specs.declared.shape.ShapeNode.{ShapeNode}
 use Rattle.cts_topo.specs.declared.shape.ShapeNode.TheVariants.{Leaf, Pair}
 use Rattle.cts_topo.specs.Shape.{children, leaf_sink, leaf_sinks, IsShapeOver}
 use Rattle.cts_merge.specs.declared.side.Finished.{Finished}
-use Rattle.cts_embed.specs.Places.{IsNodePlace, kind_of}
+use Rattle.cts_embed.specs.Places.{IsNodePlace}
 use Rattle.cts_embed.specs.PlacedTree.{IsPlacedNode, IsPlacedTree}
 use Rattle.cts_embed.specs.declared.node.NodeBalance.{NodeBalance}
 use Rattle.cts_embed.specs.Balance.{IsBalance}

@@ -1,29 +1,23 @@
 -- The leaves of a placed tree are those of its shape: each sink is reached once, and at its place.
-use Rattle.std.proofs.Common.{◌≡◌, ◌≢◌, ℕ, suc, ◌+◌, ◌<◌, ◌==◌, Bool, true, false, cond, inl, inr, List, [], ◌∷◌, ◌++◌, map, length, get_or, slice_get, filter_map, count_by, Option, Some, None, MatchOption, refl, sym, ap, ap₂, subst, ◌∙◌, arith}
-use Rattle.std.specs.List.{All, AllZip, Contains}
+use Rattle.std.proofs.Common.{◌≡◌, ◌≢◌, ℕ, suc, ◌+◌, ◌<◌, ◌==◌, Bool, true, cond, inl, inr, List, [], ◌∷◌, map, length, get_or, slice_get, count_by, Option, Some, None, MatchOption, refl, sym, ap, ap₂, subst, ◌∙◌, arith}
+use Rattle.std.specs.List.{All, Contains}
 use Rattle.std.specs.Option.{option_map}
-use Rattle.std.proofs.lemmas.Option.{slice_get-get_or, slice_get_within, get_or_from_slice_get}
+use Rattle.std.proofs.lemmas.Option.{slice_get_within, get_or_from_slice_get}
 use Rattle.std.proofs.lemmas.Bool.{cases_lt}
 use Rattle.std.proofs.lemmas.Bool.Decides.{nat_tests}
 use Rattle.cts_geom.specs.Points.{spot_at}
 use Rattle.cts_units.specs.declared.params.Sink.{Sink}
 use Rattle.cts_units.specs.Ids.{HasDistinctIds}
-use Rattle.cts_postorder.specs.BinaryTree.{label}
-use Rattle.cts_postorder.specs.Occurrence.{Occurrence, occurrences_of}
 use Rattle.cts_tree.specs.declared.nodes.NodeKind.{NodeKind}
 use Rattle.cts_tree.specs.declared.nodes.NodeKind.TheVariants as kinds
-use Rattle.cts_tree.specs.declared.nodes.PlacedNode.{PlacedNode}
 use Rattle.cts_tree.specs.declared.nodes.TreeNode.{TreeNode}
-use Rattle.cts_tree.specs.Nodes.{leaf_id, leaf_sink, buffer_of}
-use Rattle.cts_instance.specs.declared.parts.Parts.{Parts}
+use Rattle.cts_tree.specs.Nodes.{leaf_id}
 use Rattle.cts_topo.specs.declared.shape.ShapeNode.{ShapeNode}
 use Rattle.cts_topo.specs.declared.shape.ShapeNode.TheVariants.{Leaf, Pair}
-use Rattle.cts_topo.specs.Shape.{children}
-use Rattle.cts_topo.specs.Shape.{leaf_sink as named_by, leaf_sinks}
+use Rattle.cts_topo.specs.Shape.{leaf_sink as named_by}
 use Rattle.cts_topo.proofs.Ranks.{count_by-cons}
-use Rattle.cts_embed.specs.Places.{IsNodePlace, kind_of}
-use Rattle.cts_embed.specs.PlacedTree.{IsPlacedFrom, IsPlacedNode}
-use Rattle.cts_elmore.specs.Sound.{IsSinkAt, leaf_ids}
+use Rattle.cts_embed.specs.Places.{kind_of}
+use Rattle.cts_elmore.specs.Sound.{IsSinkAt}
 
 -- what a leaf of a shape is made of: the sink that it names, with this sink's id
 module _ (sinks : List Sink) where

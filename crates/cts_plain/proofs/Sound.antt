@@ -1,5 +1,5 @@
 -- The tree of a shape is sound.
-use Rattle.std.proofs.Common.{◌≡◌, ℕ, suc, ◌<◌, inl, inr, List, [], ◌∷◌, ◌++◌, map, length, get_or, ℤ, ◌≤ℤ◌, refl, sym, ap, subst, ◌∙◌, arith}
+use Rattle.std.proofs.Common.{suc, inl, inr, List, [], ◌∷◌, ◌++◌, map, length, ℤ, sym, ap, subst, arith}
 use Rattle.std.specs.List.{All, AllZip}
 use Rattle.std.proofs.lemmas.List.Elements.{All-map, All-weaker, All-cons, All-nil}
 use Rattle.std.proofs.lemmas.Int.{ints, by_lt_z}
@@ -15,13 +15,12 @@ use Rattle.cts_postorder.proofs.Decorated.{same_children}
 use Rattle.cts_tree.specs.declared.nodes.PlacedNode.{PlacedNode}
 use Rattle.cts_tree.specs.declared.nodes.TreeNode.{TreeNode}
 use Rattle.cts_tree.specs.Nodes.{placed_children, tree_children, children_of}
-use Rattle.cts_tree.specs.Path.{points_along, AllAlong, IsOnSegment, IsWithin}
+use Rattle.cts_tree.specs.Path.{AllAlong, IsWithin}
 use Rattle.cts_instance.specs.declared.parts.Parts.{Parts}
 use Rattle.cts_instance.specs.Validity.{IsValid}
 use Rattle.cts_topo.specs.declared.shape.ShapeNode.{ShapeNode}
 use Rattle.cts_topo.specs.Shape.{children, IsShapeOver}
-use Rattle.cts_embed.specs.PlacedTree.{IsPlacedTree}
-use Rattle.cts_embed.specs.BalancedTree.{IsBalancedNode, IsBalancedTree}
+use Rattle.cts_embed.specs.BalancedTree.{IsBalancedNode}
 use Rattle.cts_embed.proofs.PlacedFits.{placed_trees_fit_lem}
 use Rattle.cts_embed.proofs.Starts.{place_in_die}
 use Rattle.cts_elmore.specs.Fits.{FitsInstance}

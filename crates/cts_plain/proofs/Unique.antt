@@ -1,5 +1,5 @@
 -- Over one shape there is one synthesis.
-use Rattle.std.proofs.Common.{◌≡◌, ℕ, inl, inr, List, map, length, refl, sym, ap, subst, ◌∙◌}
+use Rattle.std.proofs.Common.{◌≡◌, ℕ, inl, inr, List, map, length, sym, ap, subst}
 use Rattle.cts_postorder.specs.BinaryTree.{label}
 use Rattle.cts_postorder.specs.PostOrder.{IsPostOrder}
 use Rattle.cts_postorder.specs.Occurrence.{Occurrence}
@@ -19,7 +19,7 @@ use Rattle.cts_embed.proofs.OnePlace.{placed_tree_one, placed_not_cut, greatest_
 use Rattle.cts_embed.proofs.Unique.{balanced_tree_one}
 use Rattle.cts_embed.proofs.Beyond.{balanced_tree_not_beyond}
 use Rattle.cts_embed.proofs.Beyond.{least_beyond_one as balance_beyond_one}
-use Rattle.cts_plain.specs.Synthesis.{Synthesis, made, beyond, cut, IsSynthesisOver, IsTreeOf, IsBeyondOf, IsCutOf}
+use Rattle.cts_plain.specs.Synthesis.{Synthesis, made, beyond, cut, IsSynthesisOver, IsTreeOf, IsBeyondOf}
 use Rattle.cts_plain.specs.Laws.{SynthesisIsOne}
 
 -- a placed tree is in post-order, as its shape is

@@ -1,28 +1,25 @@
 -- The wires of the tree of a shape run along legal routes, and buffers stand in no block.
-use Rattle.std.proofs.Common.{◌≡◌, ℕ, ◌+◌, ◌*◌, ◌≤◌, ℤ, inl, inr, List, [], ◌∷◌, ◌++◌, map, length, get_or, slice_get, Option, Some, None, MatchOption, refl, sym, ap, ap₂, subst, ◌∙◌, arith}
+use Rattle.std.proofs.Common.{◌≡◌, ℕ, ℤ, List, [], ◌∷◌, ◌++◌, map, length, get_or, Option, Some, None, MatchOption, refl, sym, ap, subst, ◌∙◌, arith}
 use Rattle.std.specs.List.{All, AllZip}
 use Rattle.std.specs.Option.{is_some}
 use Rattle.std.proofs.lemmas.List.Elements.{All-append, All-cons, All-nil}
 use Rattle.std.proofs.lemmas.Int.{ints}
 use Rattle.cts_geom.specs.declared.points.Spot.{Spot}
 use Rattle.cts_geom.specs.declared.points.Half.{Half}
-use Rattle.cts_geom.specs.Points.{spot_at, point_of}
+use Rattle.cts_geom.specs.Points.{point_of}
 use Rattle.cts_block.specs.declared.blocks.Block.{Block}
-use Rattle.cts_block.specs.FreePoints.{IsInDie, IsOpenToBuffers}
+use Rattle.cts_block.specs.FreePoints.{IsOpenToBuffers}
 use Rattle.cts_block.specs.NearestFree.{IsFree}
 use Rattle.cts_postorder.specs.BinaryTree.{BinaryTree, tip, fork, label}
 use Rattle.cts_postorder.specs.Occurrence.{Occurrence, occurrence, occurrences, occurrences_of}
 use Rattle.cts_postorder.specs.PostOrder.{IsPostOrder}
 use Rattle.cts_postorder.proofs.Zips.{all_zip-all}
 use Rattle.cts_postorder.proofs.Lists.{Whole, whole_of}
-use Rattle.cts_postorder.proofs.Alike.{IsAlike, AlikeLists, alike_lists, alike_label}
+use Rattle.cts_postorder.proofs.Alike.{IsAlike, AlikeLists, alike_lists}
 use Rattle.cts_tree.specs.declared.nodes.NodeKind.{NodeKind}
-use Rattle.cts_tree.specs.declared.nodes.NodeKind.TheVariants as kinds
-use Rattle.cts_tree.specs.declared.nodes.PlacedNode.{PlacedNode}
 use Rattle.cts_tree.specs.declared.nodes.TreeNode.{TreeNode}
 use Rattle.cts_tree.specs.declared.route.Route.{Route}
-use Rattle.cts_tree.specs.Nodes.{placed_children, tree_children, children_of, buffer_of}
-use Rattle.cts_tree.specs.Path.{points_along, path_length}
+use Rattle.cts_tree.specs.Nodes.{tree_children, children_of, buffer_of}
 use Rattle.cts_instance.specs.declared.parts.Parts.{Parts}
 use Rattle.cts_instance.specs.Validity.{IsBlock, IsValid}
 use Rattle.cts_topo.specs.declared.shape.ShapeNode.{ShapeNode}
@@ -30,16 +27,14 @@ use Rattle.cts_topo.specs.declared.shape.ShapeNode.TheVariants.{Leaf, Pair}
 use Rattle.cts_topo.specs.Shape.{children, IsShapeOver}
 use Rattle.cts_merge.specs.declared.side.Finished.{Finished}
 use Rattle.cts_embed.specs.Places.{IsNodePlace, IsPlaceBelow, IsRouteStart, kind_of, source_of}
-use Rattle.cts_embed.specs.PlacedTree.{IsPlacedNode, IsPlacedFrom, IsPlacedTree}
-use Rattle.cts_embed.specs.BalancedTree.{IsBalancedTree}
 use Rattle.cts_embed.proofs.FreePlaces.{pair_places_free}
 use Rattle.cts_embed.proofs.NodeKinds.{leaf_kind, pair_kind, same_kids}
 use Rattle.cts_embed.proofs.OnePlace.{start_one}
 use Rattle.cts_embed.proofs.Starts.{place_in_die, start_in_die}
-use Rattle.cts_elmore.specs.Sound.{IsLegalRoute, HasLegalWire, HasOpenBuffer, upper_end}
+use Rattle.cts_elmore.specs.Sound.{HasLegalWire, HasOpenBuffer, upper_end}
 use Rattle.cts_route.specs.Laws.{HasCornersIn, IsLegalWay}
 use Rattle.cts_route.proofs.Legal.{routes_legal}
-use Rattle.cts_plain.proofs.Reached.{Keeps, IsMadeOf, made}
+use Rattle.cts_plain.proofs.Reached.{IsMadeOf}
 
 module _ (i : Parts) where
   -- a buffer's place is open to buffers

@@ -1,14 +1,14 @@
 -- A balanced tree is within the limits: what the balance made of each node are the load and the delay of the tree there.
 use Rattle.std.proofs.Common.{◌≡◌, ℕ, ◌+◌, ◌*◌, max, inl, inr, List, [], ◌∷◌, ◌++◌, map, slice_get, Option, Some, None, MatchOption, add_comm, refl, sym, ap, ap₂, subst, ◌∙◌, arith}
-use Rattle.std.specs.List.{All, AllZip}
+use Rattle.std.specs.List.{All}
 use Rattle.std.specs.Option.{option_map_or}
 use Rattle.std.proofs.lemmas.List.Elements.{All-append, All-cons, All-nil, All-weaker}
 use Rattle.cts_units.specs.declared.params.Sink.{Sink}
 use Rattle.cts_units.specs.Choice.{added_delay_of, seen_load_of}
 use Rattle.cts_units.specs.Delay.{wire_delay_of}
 use Rattle.cts_postorder.specs.BinaryTree.{BinaryTree, tip, fork, label, subtrees}
-use Rattle.cts_postorder.specs.Occurrence.{Occurrence, occurrence, occurrences_of}
-use Rattle.cts_postorder.specs.PostOrder.{IsPostOrder, root_of, trees_of}
+use Rattle.cts_postorder.specs.Occurrence.{occurrence}
+use Rattle.cts_postorder.specs.PostOrder.{IsPostOrder, root_of}
 use Rattle.cts_postorder.proofs.Alike.{IsAlike, AlikeLists, alike_lists, alike_label}
 use Rattle.cts_tree.specs.declared.nodes.NodeKind.{NodeKind}
 use Rattle.cts_tree.specs.declared.nodes.NodeKind.TheVariants.{Leaf, Pair}
@@ -17,14 +17,14 @@ use Rattle.cts_tree.specs.declared.nodes.TreeNode.{TreeNode}
 use Rattle.cts_tree.specs.Nodes.{placed_children, tree_children, children_of, buffer_of}
 use Rattle.cts_instance.specs.declared.parts.Parts.{Parts}
 use Rattle.cts_embed.specs.declared.node.NodeBalance.{NodeBalance}
-use Rattle.cts_embed.specs.Balance.{IsBalance, IsLeafBalance, IsPairBalance, IsRootWithin, sink_of, delay_through, delay_below}
+use Rattle.cts_embed.specs.Balance.{IsBalance, IsLeafBalance, IsPairBalance, IsRootWithin, sink_of, delay_through}
 use Rattle.cts_embed.specs.Balance.{load_below as balanced_load}
 use Rattle.cts_embed.specs.BalancedTree.{IsBalancedNode, IsBalancedTree, IsWireLength}
 use Rattle.cts_embed.proofs.Unique.{wire_one}
-use Rattle.cts_elmore.specs.Loads.{load_below, load_seen, sink_load, wire_load, source_load}
+use Rattle.cts_elmore.specs.Loads.{load_below, load_seen, sink_load, source_load}
 use Rattle.cts_elmore.specs.Delays.{wire_delay, source_delay, buffer_delay}
 use Rattle.cts_elmore.specs.Skew.{greatest_below}
-use Rattle.cts_elmore.specs.Limits.{IsOverAtPair, long_left, long_right, great_load, great_delay, IsPairOver, IsRootOver, long_root, great_source_load, great_leaf_delay, IsOver, IsWithinLimits}
+use Rattle.cts_elmore.specs.Limits.{long_left, long_right, great_load, great_delay, IsPairOver, IsRootOver, long_root, great_source_load, great_leaf_delay, IsOver, IsWithinLimits}
 use Rattle.cts_elmore.proofs.Paths.{load_at_pair}
 use Rattle.cts_elmore.proofs.Below.{greatest_at_tip, greatest_at_pair}
 use Rattle.cts_elmore.proofs.Rising.{seen_at_pair, added_at_pair}

@@ -1,5 +1,6 @@
 -- What holds of every synthesis.
-use Rattle.std.specs.Prelude.{◌≡◌, List, length, All}
+use Rattle.std.specs.Prelude.{◌≡◌, ℕ, List, length, All}
+use Rattle.cts_block.specs.declared.blocks.Kind.TheVariants.{Buffer}
 use Rattle.cts_tree.specs.declared.nodes.TreeNode.{TreeNode}
 use Rattle.cts_instance.specs.declared.parts.Parts.{Parts}
 use Rattle.cts_instance.specs.Validity.{IsValid}
@@ -7,7 +8,7 @@ use Rattle.cts_topo.specs.declared.shape.ShapeNode.{ShapeNode}
 use Rattle.cts_topo.specs.Shape.{IsShapeOver}
 use Rattle.cts_elmore.specs.Sound.{IsSound}
 use Rattle.cts_elmore.specs.Fits.{FitsInstance}
-use Rattle.cts_plain.specs.Synthesis.{Synthesis, IsTreeOf, IsSynthesisOver, StandsInDie}
+use Rattle.cts_plain.specs.Synthesis.{Synthesis, cut, IsTreeOf, IsSynthesisOver, StandsInDie}
 
 -- over one shape there is one synthesis
 abbrev pub SynthesisIsOne : Type 0
@@ -21,3 +22,8 @@ TreesAreSound =
     (i : Parts) (shape : List ShapeNode) (tree : List TreeNode) → IsValid i → IsShapeOver (length i.sinks) shape
     → IsTreeOf i shape tree
     → IsSound i tree × All (StandsInDie i.die) tree × FitsInstance i tree
+
+-- where all blocks are of kind Buffer, which stop no wire, no node is cut
+abbrev pub NothingIsCutWithoutWalls : Type 0
+NothingIsCutWithoutWalls =
+    (i : Parts) (shape : List ShapeNode) (k : ℕ) → All (λ block. block.kind ≡ Buffer) i.blocks → IsSynthesisOver i shape (cut k) → ⊥

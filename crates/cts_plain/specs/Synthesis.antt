@@ -1,7 +1,6 @@
 -- The synthesis of an instance, as a definition: a plan upward, places and routes downward, and the wires balanced upward
 -- again. Where one of these ends early there is no tree.
 use Rattle.std.specs.Prelude.{ℕ, ◌⊎◌, List, All}
-use Rattle.cts_geom.specs.declared.points.Half.{Half}
 use Rattle.cts_geom.specs.declared.bounds.Die.{Die}
 use Rattle.cts_geom.specs.Points.{point_of}
 use Rattle.cts_block.specs.FreePoints.{IsInDie}

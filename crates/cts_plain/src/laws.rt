@@ -1,6 +1,6 @@
 //! What holds of every synthesis, as laws: each is the contract of a function that does nothing.
 
-ghost use Rattle.cts_plain.specs.Laws.{SynthesisIsOne, TreesAreSound};
+ghost use Rattle.cts_plain.specs.Laws.{NothingIsCutWithoutWalls, SynthesisIsOne, TreesAreSound};
 
 /// Over one shape there is one synthesis at most.
 pub fn synthesis_is_one()
@@ -10,4 +10,9 @@ pub fn synthesis_is_one()
 /// The tree of a shape is sound, stands in the die, and is made of the instance's sinks and buffers.
 pub fn trees_are_sound()
     ensures { TreesAreSound }
+{}
+
+/// Where no block stops wires no node is cut.
+pub fn nothing_is_cut_without_walls()
+    ensures { NothingIsCutWithoutWalls }
 {}

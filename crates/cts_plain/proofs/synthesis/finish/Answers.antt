@@ -1,5 +1,3 @@
-use Rattle.std.proofs.Common.{List}
-use Rattle.cts_tree.specs.declared.nodes.TreeNode.{TreeNode}
 use Rattle.cts_plain.specs.Synthesis.{IsTreeOf}
 use Rattle.cts_plain.proofs.Sound.{trees_sound}
 use Rattle.cts_plain.proofs.synthesis.finish.Goals as goal
