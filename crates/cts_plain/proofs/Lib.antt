@@ -6,3 +6,4 @@ pub mod Fitted
 pub mod Unique
 pub mod Sound
 pub mod Uncut
+pub mod Settled

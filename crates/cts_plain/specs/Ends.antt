@@ -16,11 +16,30 @@ EndsWithPlan i shape (Beyond node) = IsBeyondOf i shape node
 EndsWithPlan i shape (Cut node) = IsCutOf i shape node
 EndsWithPlan i shape NoMemory = Unit {0}
 
+-- with a placed tree: a node is beyond in the balance, or memory ran out
+abbrev pub EndsInBalance : Parts → List ShapeNode → NoTree → Type 0
+EndsInBalance i shape (Beyond node) = IsBeyondOf i shape node
+EndsInBalance i shape (Cut node) = ⊥
+EndsInBalance i shape NoMemory = Unit {0}
+
+-- before there is a placed tree: a node is beyond in the plan, or cut, or memory ran out
+abbrev pub EndsInPlaces : Parts → List ShapeNode → NoTree → Type 0
+EndsInPlaces i shape (Beyond node) = IsBeyondInPlan i.params i.sinks shape node
+EndsInPlaces i shape (Cut node) = IsCutOf i shape node
+EndsInPlaces i shape NoMemory = Unit {0}
+
 -- the synthesis of an instance comes to this node, or memory ran out
 abbrev pub Ends : Parts → NoTree → Type 0
 Ends i (Beyond node) = IsSynthesis i (beyond node)
 Ends i (Cut node) = IsSynthesis i (cut node)
 Ends i NoMemory = Unit {0}
+
+-- Where the plan has no placed tree, the count of merges has grown by one for each pair up to the node that is beyond, or by
+-- one for each pair.
+abbrev pub CountsInPlaces : Parts → ℕ → ℕ → NoTree → Type 0
+CountsInPlaces i before after (Beyond node) = CountsPairs (shape_of i.sinks) before after (plan.Beyond node)
+CountsInPlaces i before after (Cut node) = after + 1 ≡ before + length i.sinks
+CountsInPlaces i before after NoMemory = Unit {0}
 
 -- Where there is no tree, the count of merges has grown by one for each pair up to the node that is beyond in the plan; or
 -- by one for each pair, where the plan has no such node.

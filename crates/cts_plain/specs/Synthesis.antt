@@ -23,6 +23,12 @@ pub data Synthesis : Type 0 where
   cut : ℕ → Synthesis
 
 module _ (i : Parts) (shape : List ShapeNode) where
+  -- a placed tree, by the plan of the shape
+  pub record IsPlacedBy (placed : List PlacedNode) : Type 0 where
+    pub plan : List Finished
+    pub is_plan : IsPlan i.params i.sinks shape plan
+    pub is_placed : IsPlacedTree i shape placed
+
   -- the plan of a shape, placed and balanced
   pub record IsTreeOf (tree : List TreeNode) : Type 0 where
     pub plan : List Finished

@@ -1,12 +1,15 @@
 //! The passes of the synthesis, one after the other.
 
-ghost use Rattle.std.specs.Prelude.{◌≡◌, ◌+◌, ◌≤◌, length, All, IfOk, IfErr, OnOk};
+ghost use Rattle.std.specs.Prelude.{◌≡◌, ◌+◌, ◌≤◌, length, List, All, IfOk, IfErr, OnOk};
+ghost use Rattle.cts_topo.specs.declared.shape.ShapeNode.{ShapeNode};
 ghost use Rattle.cts_topo.specs.Shape.{IsShapeOver};
+ghost use Rattle.cts_topo.specs.Topology.{shape_of};
 ghost use Rattle.cts_up.specs.Plan.{IsPlan};
+ghost use Rattle.cts_embed.specs.Fitting.{Fits};
 ghost use Rattle.cts_elmore.specs.Figures.{AreFigures, AreFiguresInRange};
 ghost use Rattle.cts_elmore.specs.Sound.{IsSound};
-ghost use Rattle.cts_plain.specs.Ends.{CountsMerges, Ends, EndsWithPlan};
-ghost use Rattle.cts_plain.specs.Synthesis.{IsSynthesis, IsSynthesisOver, StandsInDie, made};
+ghost use Rattle.cts_plain.specs.Ends.{CountsInPlaces, CountsMerges, Ends, EndsInBalance, EndsInPlaces, EndsWithPlan};
+ghost use Rattle.cts_plain.specs.Synthesis.{IsPlacedBy, IsSynthesis, IsSynthesisOver, StandsInDie, made};
 
 use crate::end::NoTree;
 use cts_elmore::{Figures, measure};
@@ -14,7 +17,7 @@ use cts_embed::{balance, embed};
 use cts_instance::Instance;
 use cts_merge::{Finished, Steps};
 use cts_topo::{Shape, topology};
-use cts_tree::Tree;
+use cts_tree::{Placed, Tree};
 use cts_up::up;
 use std::alloc::Global;
 use std::sync::ledger::Ledger;
@@ -40,12 +43,51 @@ pub fn finish(
     ensures in_die { IfOk result (λ r. All (StandsInDie instance.now.die) r.0) }
     ensures ends { IfErr result (EndsWithPlan instance.now shape.now) }
 {
-    // Each read call says that the instance is valid, which the limits of the passes rest on.
-    let _die = instance.die();
     let placed = embed(alloc, instance, shape, plan)?;
+    settle(alloc, instance, placed)
+}
+
+/// The tree of a placed tree, with its figures: the wires balanced upward, and what each node's load,
+/// delay and slew then are.
+fn settle(alloc: Global, instance: &Instance, placed: Placed) -> Result<(Tree, Figures), NoTree>
+    requires fits { Fits instance.now placed }
+    requires of_shape { (shape : List ShapeNode) × IsShapeOver (length instance.now.sinks) shape × IsPlacedBy instance.now shape placed }
+    ensures tree { (shape : List ShapeNode) → IsPlacedBy instance.now shape placed
+        → IfOk result (λ r. IsSynthesisOver instance.now shape (made r.0)) }
+    ensures figures { IfOk result (λ r. AreFigures instance.now r.0 r.1) }
+    ensures sound { IfOk result (λ r. IsSound instance.now r.0) }
+    ensures one_each { IfOk result (λ r. length r.1.nodes ≡ length r.0) }
+    ensures in_range { IfOk result (λ r. AreFiguresInRange r.1) }
+    ensures in_die { IfOk result (λ r. All (StandsInDie instance.now.die) r.0) }
+    ensures ends { (shape : List ShapeNode) → IsPlacedBy instance.now shape placed
+        → IfErr result (EndsInBalance instance.now shape) }
+{
+    // A read call says that the instance is valid, which the limits of the passes rest on.
+    let _die = instance.die();
     let tree = balance(alloc, instance, placed)?;
     let figures = measure(alloc, instance, &tree)?;
     Ok((tree, figures))
+}
+
+/// The nodes of an instance's tree in their places, with the routes to them. The shape and the plan,
+/// which nobody reads after it, go.
+fn place<L: Ledger>(
+    alloc: Global,
+    instance: &Instance,
+    steps: &mut Steps<L>,
+) -> Result<Placed, NoTree>
+    ensures fits { IfOk result (Fits instance.now) }
+    ensures placed { IfOk result (IsPlacedBy instance.now (shape_of instance.now.sinks)) }
+    ensures shape { OnOk result (IsShapeOver (length instance.now.sinks) (shape_of instance.now.sinks)) }
+    ensures ends { IfErr result (EndsInPlaces instance.now (shape_of instance.now.sinks)) }
+    ensures merges { OnOk result (steps.new + 1 ≡ steps.old + length instance.now.sinks) }
+    ensures merges_until { IfErr result (CountsInPlaces instance.now steps.old steps.new) }
+    ensures merges_at_most { steps.new + 1 ≤ steps.old + length instance.now.sinks }
+{
+    let sinks = instance.sinks();
+    let shape = topology(alloc, sinks)?;
+    let plan = up(alloc, instance.params(), sinks, &shape, steps)?;
+    Ok(embed(alloc, instance, &shape, &plan)?)
 }
 
 /// The synthesis of an instance by one thread: its tree with the figures, or why it has none.
@@ -70,8 +112,6 @@ pub fn synthesise<L: Ledger>(
     ensures merges_until { IfErr result (CountsMerges instance.now steps.old steps.new) }
     ensures merges_at_most { steps.new + 1 ≤ steps.old + length instance.now.sinks }
 {
-    let sinks = instance.sinks();
-    let shape = topology(alloc, sinks)?;
-    let plan = up(alloc, instance.params(), sinks, &shape, steps)?;
-    finish(alloc, instance, &shape, &plan)
+    let placed = place(alloc, instance, steps)?;
+    settle(alloc, instance, placed)
 }
