@@ -2,3 +2,5 @@ pub mod Wholes
 pub mod Pieces
 pub mod Parts
 pub mod Labels
+pub mod PointParts
+pub mod NodeParts

@@ -1,3 +1,7 @@
+pub mod Bounds
+pub mod Lines
+pub mod NodeLine
 pub mod Reader
 pub mod Text
+pub mod Whole
 pub mod Words
