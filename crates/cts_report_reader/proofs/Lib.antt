@@ -4,3 +4,5 @@ pub mod Parts
 pub mod Labels
 pub mod PointParts
 pub mod NodeParts
+pub mod LineParts
+pub mod LinesPieces
