@@ -6,3 +6,6 @@ pub mod PointParts
 pub mod NodeParts
 pub mod LineParts
 pub mod LinesPieces
+pub mod TotalPieces
+pub mod NodePieces
+pub mod ReportPieces

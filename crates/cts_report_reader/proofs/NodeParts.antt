@@ -438,13 +438,13 @@ line_by : (number : ℕ) (node : PrintedNode) (kind : PrintedKind) → node.kind
 unfolding node_line rest_text tail_text whole time length_in_um
 line_by number node kind e = simp append_assoc
 
-is_number : (found number : ℕ) → eqb found number ≡ true → found ≡ number
+pub is_number : (found number : ℕ) → eqb found number ≡ true → found ≡ number
 is_number found number e = elim (eqb_tells found number) [ inl p ↦ p.1 | inr p ↦ absurd (true_false (sym e ∙ p.0)) ]
 
-same_number : (number : ℕ) → eqb number number ≡ true
+pub same_number : (number : ℕ) → eqb number number ≡ true
 same_number number = elim (eqb_tells number number) [ inl p ↦ p.0 | inr p ↦ absurd (p.1 refl) ]
 
-pub NodeFits : ℕ → List ℕ → ℕ → PrintedNode → Type 0
+unfoldable pub NodeFits : ℕ → List ℕ → ℕ → PrintedNode → Type 0
 NodeFits buffers stack todo node = RestFits buffers node × (joins_stack stack todo (printed_children node) ≡ true)
 
 pub node_part : (buffers number : ℕ) (stack : List ℕ) (todo : ℕ) → buffers ≤ 2 ^ 16 → number < 10 ^ 38
