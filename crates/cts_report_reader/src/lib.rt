@@ -7,6 +7,7 @@
 //! and `Wholes` whole texts.
 #![tactic(auto)]
 
+mod points;
 mod words;
 
 pub use words::bounded;
