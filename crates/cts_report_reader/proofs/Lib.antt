@@ -9,3 +9,4 @@ pub mod LinesPieces
 pub mod TotalPieces
 pub mod NodePieces
 pub mod ReportPieces
+pub mod PointLoops

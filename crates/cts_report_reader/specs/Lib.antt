@@ -1,6 +1,7 @@
 pub mod Bounds
 pub mod Lines
 pub mod NodeLine
+pub mod Nodes
 pub mod Reader
 pub mod Seen
 pub mod Text

@@ -7,7 +7,8 @@
 //! and `Wholes` whole texts.
 #![tactic(auto)]
 
+mod node;
 mod points;
 mod words;
 
-pub use words::bounded;
+pub use node::{ReportKind, ReportNode};

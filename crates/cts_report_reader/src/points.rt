@@ -53,3 +53,35 @@ pub fn place(bytes: &[u8]) -> Option<(Half, &[u8])>
         None
     }
 }
+
+/// So many points.
+fn points(alloc: Global, count: u64, bytes: &[u8]) -> Result<Option<(Vec<Half>, &[u8])>, NoMemory>
+    ensures found { FindsIn (λ ps. map seen_point ps.items) result (points_at count bytes.now) }
+    ensures seen { IfOk result (λ found. IfSome found (λ points. All IsSeen points.0.items)) }
+{
+    let mut items = Vec::new(alloc);
+    let mut rest = bytes;
+    for _index in 0..count {
+        let Some((next, after)) = point(rest) else {
+            return Ok(None);
+        };
+        items.push(next)?;
+        rest = after;
+    }
+    Ok(Some((items, rest)))
+}
+
+/// The number of corners, and then the corners.
+#[tactic(auto, unfolding(crate::specs::Words::corners_at))]
+pub fn corners(alloc: Global, bytes: &[u8]) -> Result<Option<(Corners, &[u8])>, NoMemory>
+    ensures found { FindsIn (λ cs. map seen_point cs) result (corners_at bytes.now) }
+    ensures seen { IfOk result (λ found. IfSome found (λ corners. All IsSeen corners.0)) }
+{
+    let Some((count, rest)) = bounded(bytes, b" via ", 0, 65_536) else {
+        return Ok(None);
+    };
+    let Some((items, rest)) = points(alloc, count, rest)? else {
+        return Ok(None);
+    };
+    Ok(Some((Corners::of(items), rest)))
+}
