@@ -10,3 +10,5 @@ pub mod TotalPieces
 pub mod NodePieces
 pub mod ReportPieces
 pub mod PointLoops
+pub mod StackLists
+pub mod TotalReads

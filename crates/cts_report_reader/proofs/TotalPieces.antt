@@ -5,7 +5,7 @@ use Rattle.cts_report.specs.Printed.{PrintedTotals}
 use Rattle.cts_report_reader.specs.Bounds.{IsShort, IsPrintedTotals}
 use Rattle.cts_report_reader.specs.Lines.{figure_at, answer_at}
 use Rattle.cts_report_reader.specs.Reader.{LinesReader, IsPiece}
-use Rattle.cts_report_reader.specs.Whole.{line_at, both_lines, mapped_lines, TotalsFound, totals_of, totals_at}
+use Rattle.cts_report_reader.specs.Whole.{line_at, both_lines, mapped_lines, TotalsFound, totals_of, answers_at, later_at, totals_at}
 use Rattle.cts_report_reader.specs.Words.{word_at}
 use Rattle.cts_report_reader.proofs.Pieces.{line_piece}
 use Rattle.cts_report_reader.proofs.Labels.{word_part}
@@ -99,7 +99,7 @@ pub found_totals : PrintedTotals → TotalsFound
 found_totals t = (t.source_load, (t.wire_total, (t.greatest, (t.least, (t.skew, (t.bound, (t.load_met, (t.slew_met, tt))))))))
 
 pub totals_piece : (at : ℕ) → IsPiece IsPrintedTotals total_lines at (totals_at at)
-unfolding totals_at total_lines FoundFits found_lines AnyAnswers answers_text figure_text capacitance time length_in_um found_totals
+unfolding totals_at later_at answers_at total_lines FoundFits found_lines AnyAnswers answers_text figure_text capacitance time length_in_um found_totals
 totals_piece at =
     map_piece FoundFits found_lines _ at IsPrintedTotals total_lines totals_of found_totals (found_piece at)
     (λ c fits. (

@@ -5,5 +5,6 @@ pub mod Nodes
 pub mod Reader
 pub mod Seen
 pub mod Text
+pub mod Totals
 pub mod Whole
 pub mod Words

@@ -28,3 +28,22 @@ FindsIn view (Ok None) (Some right) = ⊥
 FindsIn view (Ok (Some found)) None = ⊥
 FindsIn view (Ok (Some found)) (Some right) = (view found.0 ≡ right.0) × (found.1.now ≡ right.1)
 FindsIn view (Err e) right = Unit {0}
+
+-- the same of lines, of which the first that goes wrong is told
+abbrev pub FindsLines : {T A E : Type 0} → (T → A) → Result (Result (T × Bor (List ℕ)) ℕ) E → Result (A × List ℕ) ℕ → Type 0
+FindsLines view (Ok (Ok found)) (Ok right) = (view found.0 ≡ right.0) × (found.1.now ≡ right.1)
+FindsLines view (Ok (Ok found)) (Err line) = ⊥
+FindsLines view (Ok (Err line)) (Ok right) = ⊥
+FindsLines view (Ok (Err line)) (Err right) = line ≡ right
+FindsLines view (Err e) right = Unit {0}
+
+abbrev pub fronted_lines : {A : Type 0} → List A → Result (List A × List ℕ) ℕ → Result (List A × List ℕ) ℕ
+fronted_lines front (Ok found) = Ok (front ++ found.0, found.1)
+fronted_lines front (Err line) = Err line
+
+-- the same where no memory is taken
+abbrev pub FindsLine : {T A : Type 0} → (T → A) → Result (T × Bor (List ℕ)) ℕ → Result (A × List ℕ) ℕ → Type 0
+FindsLine view (Ok found) (Ok right) = (view found.0 ≡ right.0) × (found.1.now ≡ right.1)
+FindsLine view (Ok found) (Err line) = ⊥
+FindsLine view (Err line) (Ok right) = ⊥
+FindsLine view (Err line) (Err right) = line ≡ right

@@ -42,18 +42,31 @@ totals_of found = record {
   slew_met = found.1.1.1.1.1.1.1.0;
 }
 
+abbrev pub AnswersFound : Type 0
+AnswersFound = Bool × (Bool × Unit)
+
+abbrev pub LaterFound : Type 0
+LaterFound = ℕ × (ℕ × (ℕ × AnswersFound))
+
+-- the last lines on the whole tree, which has `at` lines before the first of them
+unfoldable pub answers_at : ℕ → LinesReader AnswersFound
+answers_at at =
+    both_lines (line_at (at + 6) (answer_at (codes "load met")))
+    (both_lines (line_at (at + 7) (answer_at (codes "slew met"))) (line_at (at + 8) (word_at (codes "end\n"))))
+
+-- the lines from the least delay on
+unfoldable pub later_at : ℕ → LinesReader LaterFound
+later_at at =
+    both_lines (line_at (at + 3) (figure_at (codes "delay least ") 16))
+    (both_lines (line_at (at + 4) (figure_at (codes "skew ") 16)) (both_lines (line_at (at + 5) (figure_at (codes "bound ") 16)) (answers_at at)))
+
 -- the lines on the whole tree, after `at` others
 unfoldable pub totals_at : ℕ → LinesReader PrintedTotals
 totals_at at =
     mapped_lines totals_of
     (both_lines (line_at at (figure_at (codes "source load ") 6))
     (both_lines (line_at (at + 1) (figure_at (codes "wire total ") 3))
-    (both_lines (line_at (at + 2) (figure_at (codes "delay greatest ") 16))
-    (both_lines (line_at (at + 3) (figure_at (codes "delay least ") 16))
-    (both_lines (line_at (at + 4) (figure_at (codes "skew ") 16))
-    (both_lines (line_at (at + 5) (figure_at (codes "bound ") 16))
-    (both_lines (line_at (at + 6) (answer_at (codes "load met")))
-    (both_lines (line_at (at + 7) (answer_at (codes "slew met"))) (line_at (at + 8) (word_at (codes "end\n")))))))))))
+    (both_lines (line_at (at + 2) (figure_at (codes "delay greatest ") 16)) (later_at at))))
 
 abbrev pub printed_of_two : List PrintedNode × PrintedTotals → Printed
 printed_of_two found = record { nodes = found.0; totals = found.1 }

@@ -9,6 +9,7 @@
 
 mod node;
 mod points;
+mod totals;
 mod words;
 
 pub use node::{ReportKind, ReportNode};

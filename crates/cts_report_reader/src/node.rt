@@ -1,8 +1,10 @@
 //! The line of a node.
 
-ghost use Rattle.std.specs.Prelude.{◌≡◌, ℕ, ◌+◌, ◌^◌, ◌<◌, ◌≤◌, length, reverse, All, IfSome, IfOk};
-ghost use Rattle.cts_report_reader.specs.NodeLine.{buffer_at, leaf_at, node_at, node_rest_at, pair_at};
-ghost use Rattle.cts_report_reader.specs.Nodes.{IsSeenNode, seen_buffer, seen_node, seen_tail};
+ghost use Rattle.std.specs.Prelude.{◌≡◌, ℕ, ◌+◌, ◌^◌, ◌<◌, ◌≤◌, ◌∷◌, length, drop, reverse, All, Some, IfSome, IfOk, OnOk};
+ghost use Rattle.cts_postorder.specs.Stack.{stack_after};
+ghost use Rattle.cts_report_reader.specs.Bounds.{children_of_kind};
+ghost use Rattle.cts_report_reader.specs.NodeLine.{joins_stack, buffer_at, leaf_at, node_at, node_rest_at, pair_at};
+ghost use Rattle.cts_report_reader.specs.Nodes.{IsSeenNode, seen_buffer, seen_kind, seen_node, seen_tail};
 ghost use Rattle.cts_report_reader.specs.Seen.{FindsIn, IsSeen};
 ghost use Rattle.cts_report_reader.specs.Words.{Finds, tail_at};
 
@@ -201,4 +203,82 @@ fn node_rest(alloc: Global, buffers: u64, bytes: &[u8]) -> Result<Option<(Report
         return Ok(Some(found));
     }
     pair(alloc, buffers, bytes)
+}
+
+/// Whether a node joins the stack, whose latest tree is the last: a pair takes the two latest, and the
+/// `todo` nodes to come after it can leave one tree.
+fn joins(stack: &[u32], todo: usize, kind: &ReportKind) -> bool
+    ensures { result ≡ joins_stack (reverse stack.now) todo (children_of_kind (seen_kind kind.now)) }
+{
+    match kind {
+        ReportKind::Leaf { .. } => stack.len() <= todo,
+        ReportKind::Pair { left, right, .. } => takes_last(stack, *left, *right),
+    }
+}
+
+fn takes_last(stack: &[u32], left: u32, right: u32) -> bool
+    ensures { (todo : ℕ) → result ≡ joins_stack (reverse stack.now) todo (Some (left, right)) }
+{
+    let count = stack.len();
+    if count < 2 {
+        return false;
+    }
+    left == stack[count - 2] && right == stack[count - 1]
+}
+
+/// The stack after a node.
+pub fn stack_node(stack: &mut Vec<u32>, kind: &ReportKind, number: u32) -> Result<(), NoMemory>
+    ensures { OnOk result (reverse stack.new.items
+        ≡ stack_after (children_of_kind (seen_kind kind.now)) (reverse stack.old.items) number) }
+{
+    match kind {
+        ReportKind::Leaf { .. } => push_leaf(stack, number),
+        ReportKind::Pair { .. } => push_pair(stack, number),
+    }
+}
+
+fn push_leaf(stack: &mut Vec<u32>, number: u32) -> Result<(), NoMemory>
+    ensures { OnOk result (reverse stack.new.items ≡ number ∷ reverse stack.old.items) }
+{
+    stack.push(number)?;
+    Ok(())
+}
+
+fn push_pair(stack: &mut Vec<u32>, number: u32) -> Result<(), NoMemory>
+    ensures { OnOk result (reverse stack.new.items ≡ number ∷ drop 2 (reverse stack.old.items)) }
+{
+    stack.truncate(stack.len().saturating_sub(2));
+    stack.push(number)?;
+    Ok(())
+}
+
+/// The line of the node of this number, where these trees stand on the stack and so many nodes are to
+/// come after it.
+#[tactic(auto, unfolding(crate::specs::NodeLine::node_at))]
+pub fn node<'a>(
+    alloc: Global,
+    buffers: u64,
+    number: u32,
+    stack: &[u32],
+    todo: usize,
+    bytes: &'a [u8],
+) -> Result<Option<(ReportNode, &'a [u8])>, NoMemory>
+    requires { buffers ≤ 2 ^ 16 }
+    ensures found { FindsIn seen_node result (node_at buffers number (reverse stack.now) todo bytes.now) }
+    ensures seen { IfOk result (λ found. IfSome found (λ node. IsSeenNode node.0)) }
+{
+    let Some((found, rest)) = labelled(bytes, b"node ", 0) else {
+        return Ok(None);
+    };
+    if found != u128::from(number) {
+        return Ok(None);
+    }
+    let Some((node, rest)) = node_rest(alloc, buffers, rest)? else {
+        return Ok(None);
+    };
+    if joins(stack, todo, &node.kind) {
+        Ok(Some((node, rest)))
+    } else {
+        Ok(None)
+    }
 }
