@@ -12,3 +12,5 @@ pub mod ReportPieces
 pub mod PointLoops
 pub mod StackLists
 pub mod TotalReads
+pub mod NodeLoops
+pub mod ReportReads

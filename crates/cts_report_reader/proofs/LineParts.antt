@@ -1,13 +1,13 @@
 -- The lines of a report but those of its nodes.
-use Rattle.std.proofs.Common.{◌≡◌, ◌⊎◌, ℕ, suc, ◌+◌, ◌%◌, ◌^◌, ◌<◌, ◌≤◌, Bool, true, false, cond, eqb, leb, ◌&&◌, List, [], ◌∷◌, ◌++◌, Option, Some, None, refl, sym, ap, ◌∙◌, subst, inl, inr, arith, codes}
+use Rattle.std.proofs.Common.{◌≡◌, ◌⊎◌, ℕ, ◌%◌, ◌≤◌, Bool, true, false, eqb, leb, ◌&&◌, List, ◌++◌, None, refl, sym, ◌∙◌, inl, inr, arith, codes}
 use Rattle.std.proofs.lemmas.Bool.Decides.{eqb_tells, leb_tells}
 use Rattle.cts_report.specs.Lines.{labelled, whole, answer, count_line}
-use Rattle.cts_report_reader.specs.Reader.{PartReader, IsStop, IsAny, IsPart}
+use Rattle.cts_report_reader.specs.Reader.{IsStop, IsAny, IsPart}
 use Rattle.cts_report_reader.specs.Bounds.{IsShort}
 use Rattle.cts_report_reader.specs.Lines.{figure_at, answer_at, count_at}
-use Rattle.cts_report_reader.specs.Words.{◌>>=◌, word_at, kept_if, labelled_at, both_at, mapped_at, first_of}
+use Rattle.cts_report_reader.specs.Words.{word_at, labelled_at, mapped_at}
 use Rattle.cts_report_reader.proofs.Parts.{kept_part, same_part}
-use Rattle.cts_report_reader.proofs.Labels.{word_part, labelled_part, le_bound, bound_le}
+use Rattle.cts_report_reader.proofs.Labels.{word_part, labelled_part, le_bound}
 use Rattle.cts_report_reader.proofs.PointParts.{map_part, both_part, true_false}
 use Rattle.cts_report_reader.proofs.NodeParts.{first_part}
 

@@ -1,5 +1,5 @@
 -- Lines put together: in another form, and one after another.
-use Rattle.std.proofs.Common.{◌≡◌, ℕ, suc, ◌+◌, ◌<◌, ◌≤◌, List, [], ◌∷◌, ◌++◌, take, length, Result, Ok, Err, refl, sym, ap, ap₂, ◌∙◌, subst, arith}
+use Rattle.std.proofs.Common.{◌≡◌, ℕ, ◌+◌, List, ◌++◌, take, length, Result, Ok, Err, refl, sym, ap, ap₂, ◌∙◌, subst, arith}
 use Rattle.std.specs.List.{concat}
 use Rattle.cts_report_reader.specs.Text.{Begins}
 use Rattle.cts_report_reader.specs.Reader.{LinesReader, Stops, IsPiece, ◌>>=◌}

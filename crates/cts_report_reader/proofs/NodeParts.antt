@@ -1,15 +1,13 @@
 -- The line of a node.
-use Rattle.std.proofs.Common.{◌≡◌, ◌⊎◌, ℕ, zero, suc, ◌+◌, ◌-◌, ◌*◌, ◌/◌, ◌%◌, ◌^◌, ◌<◌, ◌≤◌, Bool, true, false, cond, eqb, leb, ltb, ◌&&◌, List, [], ◌∷◌, ◌++◌, take, drop, length, All, Option, Some, None, refl, sym, ap, ap₂, ◌∙◌, subst, inl, inr, arith, append_assoc, append-nil, codes}
-use Rattle.std.proofs.lemmas.Bool.Decides.{eqb_tells, leb_tells}
-use Rattle.cts_postorder.specs.Stack.{IsJoin, stack_after, IsOpen}
-use Rattle.cts_postorder.proofs.Stacks.{open_leaf, open_leaf_room, open_pair}
-use Rattle.cts_report.specs.Lines.{labelled, whole, point_words, corner_words, time, capacitance, length_in_um, name_words, buffer_words, load_words, node_line}
+use Rattle.std.proofs.Common.{◌≡◌, ◌⊎◌, ℕ, suc, ◌-◌, ◌^◌, ◌<◌, ◌≤◌, true, eqb, ltb, List, [], ◌++◌, Option, Some, None, refl, sym, ap, ◌∙◌, subst, inl, inr, arith, append_assoc, codes}
+use Rattle.std.proofs.lemmas.Bool.Decides.{eqb_tells}
+use Rattle.cts_report.specs.Lines.{labelled, whole, point_words, time, capacitance, length_in_um, name_words, buffer_words, load_words, node_line}
 use Rattle.cts_report.specs.Printed.{PrintedPoint, PrintedKind, sink_leaf, pair_node, PrintedNode}
 use Rattle.cts_report_reader.specs.Reader.{PartReader, IsStop, IsAny, IsPart}
-use Rattle.cts_report_reader.specs.Bounds.{IsShort, IsPrintedPoint, IsPrintedPlace, IsPrintedKind, IsPrintedNode, printed_children}
-use Rattle.cts_report_reader.specs.NodeLine.{LeafFound, PairFound, PlaceFound, TailFound, node_of, leaf_of, pair_of, leaf_at, buffer_at, pair_at, joins_stack, node_rest_at, node_at}
-use Rattle.cts_report_reader.specs.Words.{◌>>=◌, word_at, kept_if, labelled_at, bounded_at, both_at, mapped_at, first_of, place_at, tail_at}
-use Rattle.cts_report_reader.proofs.Parts.{bind_part, done_part, kept_part, same_part, some_is, none_is}
+use Rattle.cts_report_reader.specs.Bounds.{IsShort, IsPrintedPlace, IsPrintedKind, IsPrintedNode, printed_children}
+use Rattle.cts_report_reader.specs.NodeLine.{LeafFound, PairFound, PlaceFound, TailFound, leaf_of, pair_of, leaf_at, buffer_at, pair_at, joins_stack, node_rest_at, node_at}
+use Rattle.cts_report_reader.specs.Words.{word_at, kept_if, labelled_at, bounded_at, both_at, mapped_at, first_of, place_at, tail_at}
+use Rattle.cts_report_reader.proofs.Parts.{kept_part}
 use Rattle.cts_report_reader.proofs.Labels.{not_letter, word_part, labelled_part, bounded_part, le_bound, bound_le}
 use Rattle.cts_report_reader.proofs.PointParts.{map_part, both_part, place_part, TailFits, tail_text, tail_part, CornersFit, true_false}
 
@@ -215,9 +213,25 @@ residue_or (sink_leaf id) = 0
 residue_or (pair_node left right buffer residue) = residue
 
 found_pair : PrintedNode → PairFound
-found_pair node =
-    (left_or node.kind, (right_or node.kind, ((tt, node.place), (buffer_or node.kind, (node.load, (residue_or node.kind,
-    (node.delay, (node.slew, (node.wire, (node.corners, tt))))))))))
+found_pair node = (
+  left_or node.kind,
+  (
+    right_or node.kind,
+    (
+      (tt, node.place),
+      (
+        buffer_or node.kind,
+        (
+          node.load,
+          (
+            residue_or node.kind,
+            (node.delay, (node.slew, (node.wire, (node.corners, tt)))),
+          ),
+        ),
+      ),
+    ),
+  ),
+)
 
 IsPairKind : PrintedKind → Type 0
 IsPairKind (sink_leaf id) = ⊥

@@ -1,16 +1,14 @@
 -- The lines of all nodes.
-use Rattle.std.proofs.Common.{◌≡◌, ◌⊎◌, ℕ, zero, suc, ◌+◌, ◌-◌, ◌*◌, ◌%◌, ◌^◌, ◌<◌, ◌≤◌, Bool, true, false, eqb, leb, ◌&&◌, List, [], ◌∷◌, ◌++◌, take, drop, length, map, All, Option, Some, None, Result, Ok, Err, refl, sym, ap, ap₂, ◌∙◌, subst, inl, inr, arith, codes}
+use Rattle.std.proofs.Common.{◌≡◌, ℕ, zero, suc, ◌+◌, ◌-◌, ◌^◌, ◌≤◌, Bool, true, false, eqb, ◌&&◌, List, [], ◌∷◌, ◌++◌, length, map, All, Option, Some, None, Result, Ok, refl, sym, ap, ap₂, ◌∙◌, subst, arith}
 use Rattle.std.specs.List.{concat}
-use Rattle.std.proofs.lemmas.Bool.Decides.{eqb_tells, leb_tells}
 use Rattle.std.proofs.lemmas.List.Elements.{All-nil, All-cons, All-head, All-tail}
 use Rattle.std.proofs.lemmas.List.{length-map}
 use Rattle.cts_postorder.specs.PostOrder.{IsPostOrderFrom}
-use Rattle.cts_postorder.specs.Stack.{IsJoin, stack_after, IsOpen, Completion}
+use Rattle.cts_postorder.specs.Stack.{IsJoin, stack_after, IsOpen}
 use Rattle.cts_postorder.proofs.Stacks.{post_joins, post_splits, post_ends, post_counts, open_leaf, open_leaf_room, open_pair, completion}
 use Rattle.cts_report.specs.Lines.{node_line, node_lines}
-use Rattle.cts_report.specs.Printed.{PrintedPoint, PrintedKind, sink_leaf, pair_node, PrintedNode}
-use Rattle.cts_report_reader.specs.Text.{Begins}
-use Rattle.cts_report_reader.specs.Reader.{LinesReader, IsPiece}
+use Rattle.cts_report.specs.Printed.{PrintedKind, sink_leaf, pair_node, PrintedNode}
+use Rattle.cts_report_reader.specs.Reader.{IsPiece}
 use Rattle.cts_report_reader.specs.Bounds.{IsPrintedNode, IsPrintedKind, printed_children, children_of_kind}
 use Rattle.cts_report_reader.specs.NodeLine.{joins_stack, node_at}
 use Rattle.cts_report_reader.specs.Whole.{line_at, mapped_lines, nodes_at}
@@ -18,7 +16,7 @@ use Rattle.cts_report_reader.proofs.Wholes.{ok_is, err_ok}
 use Rattle.cts_report_reader.proofs.Pieces.{line_piece, bind_piece}
 use Rattle.cts_report_reader.proofs.Labels.{le_bound, bound_le}
 use Rattle.cts_report_reader.proofs.PointParts.{true_false}
-use Rattle.cts_report_reader.proofs.NodeParts.{RestFits, left_or, right_or, NodeFits, node_part, is_number, same_number}
+use Rattle.cts_report_reader.proofs.NodeParts.{left_or, right_or, NodeFits, node_part, is_number, same_number}
 use Rattle.cts_report_reader.proofs.LinesPieces.{map_piece}
 
 -- the numbers on a stack, which are of nodes
@@ -130,8 +128,7 @@ pub record NodesFit (buffers todo k : ℕ) (stack : List ℕ) (nodes : List Prin
 
 pub some_nodes : (buffers todo k : ℕ) (stack : List ℕ) → IsOpen stack todo → (nodes : List PrintedNode) × NodesFit buffers todo k stack nodes
 some_nodes buffers todo k stack open_ =
-    let c = completion todo stack k open_ in
-    (
+    let c = completion todo stack k open_ in (
       map made c.nodes,
       record {
         long = made_long c.nodes ∙ c.long;
@@ -174,11 +171,10 @@ nodes_join : (buffers todo k : ℕ) (stack : List ℕ) (node : PrintedNode) (nod
     → NodeFits buffers stack todo node → Follow buffers todo k stack node nodes
     → NodesFit buffers (suc todo) k stack nodes × (node_lines k nodes ≡ (node_line k node ∷ []) ++ node_lines (k + 1) (tail_or nodes))
 unfolding node_lines
-nodes_join buffers todo k stack node nodes open_ fits h =
-    (
-      subst (NodesFit buffers (suc todo) k stack) (sym h.is) (nodes_join_at buffers todo k stack node (tail_or nodes) open_ fits h.others),
-      ap (node_lines k) h.is,
-    )
+nodes_join buffers todo k stack node nodes open_ fits h = (
+  subst (NodesFit buffers (suc todo) k stack) (sym h.is) (nodes_join_at buffers todo k stack node (tail_or nodes) open_ fits h.others),
+  ap (node_lines k) h.is,
+)
 
 nodes_split : (buffers todo k : ℕ) (stack : List ℕ) (nodes : List PrintedNode) → AreNumbers stack → IsOpen stack (suc todo)
     → NodesFit buffers (suc todo) k stack nodes
@@ -194,8 +190,7 @@ nodes_split buffers todo k stack (node ∷ nodes) numbers open_ h =
       each = All-tail (IsPrintedNode buffers) node nodes h.each;
     } in
     let counted = post_counts (map printed_children nodes) (stack_after children stack k) (k + 1) s.1 in
-    let size : length (map printed_children nodes) ≡ todo = length-map nodes printed_children ∙ others.long in
-    (
+    let size : length (map printed_children nodes) ≡ todo = length-map nodes printed_children ∙ others.long in (
       (
         record {
           bounds = All-head (IsPrintedNode buffers) node nodes h.each;
@@ -230,8 +225,7 @@ none_take : (buffers k : ℕ) (stack : List ℕ) → IsOpen stack 0 → (bytes :
 unfolding node_lines
 none_take buffers k stack open_ bytes nodes rest e =
     let p = ok_is e in
-    let none : [] ≡ nodes = ap (λ (x : List PrintedNode × List ℕ). x.0) p in
-    (
+    let none : [] ≡ nodes = ap (λ (x : List PrintedNode × List ℕ). x.0) p in (
       subst (NodesFit buffers 0 k stack) none (no_nodes buffers k stack open_),
       ap (λ (x : List PrintedNode × List ℕ). x.1) p ∙ ap (λ ns. concat (node_lines k ns) ++ rest) none,
     )
@@ -256,7 +250,7 @@ after_open buffers todo k stack node open_ fits = (test_joins (printed_children 
 rest_piece : (buffers todo k : ℕ) (stack : List ℕ) (node : PrintedNode)
     → IsPiece (NodesFit buffers todo (k + 1) (stack_after (printed_children node) stack k)) (node_lines (k + 1)) (k + 1 + 2) (nodes_at buffers todo (k + 1) (stack_after (printed_children node) stack k))
     → IsPiece (Follow buffers todo k stack node) (λ nodes. node_lines (k + 1) (tail_or nodes)) (k + 1 + 2)
-      (mapped_lines (λ nodes. node ∷ nodes) (nodes_at buffers todo (k + 1) (stack_after (printed_children node) stack k)))
+    (mapped_lines (λ nodes. node ∷ nodes) (nodes_at buffers todo (k + 1) (stack_after (printed_children node) stack k)))
 unfolding tail_or
 rest_piece buffers todo k stack node piece =
     map_piece _ (node_lines (k + 1)) _ (k + 1 + 2) (Follow buffers todo k stack node) (λ nodes. node_lines (k + 1) (tail_or nodes)) (λ nodes. node ∷ nodes) tail_or piece

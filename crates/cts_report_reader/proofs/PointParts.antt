@@ -1,15 +1,15 @@
 -- Points and corners, and what every line of a node ends with.
-use Rattle.std.proofs.Common.{◌≡◌, ◌⊎◌, ℕ, zero, suc, ◌+◌, ◌-◌, ◌*◌, ◌/◌, ◌%◌, ◌^◌, ◌<◌, ◌≤◌, Bool, true, false, cond, eqb, leb, ◌&&◌, List, [], ◌∷◌, ◌++◌, take, drop, length, All, Option, Some, None, refl, sym, ap, ap₂, ◌∙◌, subst, inl, inr, arith, append_assoc, append-nil, codes}
+use Rattle.std.proofs.Common.{◌≡◌, ℕ, zero, suc, ◌+◌, ◌-◌, ◌*◌, ◌/◌, ◌%◌, ◌^◌, ◌<◌, ◌≤◌, Bool, true, false, eqb, List, [], ◌∷◌, ◌++◌, length, All, Option, Some, None, refl, sym, ap, ap₂, ◌∙◌, subst, inl, inr, arith, codes}
 use Rattle.std.specs.List.{flat_map}
 use Rattle.std.proofs.lemmas.Bool.Decides.{eqb_tells, leb_tells}
 use Rattle.std.proofs.lemmas.List.Elements.{All-nil, All-cons, All-head, All-tail}
-use Rattle.cts_report.specs.Lines.{labelled, coordinate, whole, point_words, corner_words, time, length_in_um}
+use Rattle.cts_report.specs.Lines.{labelled, coordinate, whole, point_words, corner_words}
 use Rattle.cts_report.specs.Printed.{PrintedPoint}
 use Rattle.cts_report_reader.specs.Reader.{PartReader, IsStop, IsAny, IsPart}
 use Rattle.cts_report_reader.specs.Bounds.{IsShort, IsPrintedCoordinate, IsPrintedPoint, IsPrintedPlace}
 use Rattle.cts_report_reader.specs.Words.{◌>>=◌, word_at, kept_if, labelled_at, bounded_at, both_at, mapped_at, is_coordinate, coordinate_at, point_of_two, point_at, is_even_place, place_at, points_at, corners_at, tail_at}
-use Rattle.cts_report_reader.proofs.Parts.{bind_part, done_part, kept_part, same_part, some_is, none_is}
-use Rattle.cts_report_reader.proofs.Labels.{word_part, labelled_part, bounded_part, le_bound, bound_le}
+use Rattle.cts_report_reader.proofs.Parts.{bind_part, kept_part, same_part, some_is, none_is}
+use Rattle.cts_report_reader.proofs.Labels.{word_part, labelled_part, bounded_part, le_bound}
 
 -- a part, put into another form
 module _ {A C : Type 0} (Ends : List ℕ → Type 0) (FitsA : A → Type 0) (textA : A → List ℕ) (readA : PartReader A)

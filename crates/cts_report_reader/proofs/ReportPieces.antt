@@ -1,15 +1,14 @@
 -- A whole report.
-use Rattle.std.proofs.Common.{◌≡◌, ℕ, zero, suc, ◌+◌, ◌*◌, ◌/◌, ◌%◌, ◌^◌, ◌<◌, ◌≤◌, Bool, true, List, [], ◌∷◌, ◌++◌, length, map, All, Option, Result, refl, sym, ap, ap₂, ◌∙◌, subst, arith, codes}
+use Rattle.std.proofs.Common.{◌≡◌, ℕ, ◌+◌, ◌/◌, ◌^◌, ◌≤◌, true, List, [], ◌∷◌, ◌++◌, length, map, refl, ap, ◌∙◌, arith, codes}
 use Rattle.std.proofs.lemmas.List.{length-map}
-use Rattle.cts_postorder.specs.PostOrder.{IsPostOrder}
 use Rattle.cts_postorder.specs.Stack.{IsOpen}
 use Rattle.cts_postorder.proofs.Stacks.{post_counts}
 use Rattle.cts_report.specs.Lines.{count_line, node_lines, total_lines, report_lines}
 use Rattle.cts_report.specs.Printed.{PrintedNode, PrintedTotals, Printed}
-use Rattle.cts_report_reader.specs.Reader.{LinesReader, IsPiece, ◌>>=◌}
-use Rattle.cts_report_reader.specs.Bounds.{IsReport, IsPrintedTotals, IsPrintedNode, printed_children}
+use Rattle.cts_report_reader.specs.Reader.{IsPiece, ◌>>=◌}
+use Rattle.cts_report_reader.specs.Bounds.{IsReport, IsPrintedTotals, printed_children}
 use Rattle.cts_report_reader.specs.Lines.{count_at}
-use Rattle.cts_report_reader.specs.Whole.{line_at, both_lines, mapped_lines, nodes_at, totals_at, printed_of_two, report_at}
+use Rattle.cts_report_reader.specs.Whole.{line_at, nodes_at, totals_at, printed_of_two, body_at, report_at}
 use Rattle.cts_report_reader.specs.Words.{word_at}
 use Rattle.cts_report_reader.proofs.Pieces.{line_piece, bind_piece}
 use Rattle.cts_report_reader.proofs.Labels.{word_part}
@@ -58,7 +57,8 @@ some_counted buffers count fits =
 
 body_piece : (buffers count : ℕ) → buffers ≤ 2 ^ 16 → CountFits count
     → IsPiece (Counted buffers count) (λ printed. node_lines 0 printed.nodes ++ total_lines printed.totals) 2
-      (mapped_lines printed_of_two (both_lines (nodes_at buffers count 0 []) (totals_at (count + 2))))
+    (body_at buffers count)
+unfolding body_at
 body_piece buffers count few fits =
     map_piece (λ (c : List PrintedNode × PrintedTotals). NodesFit buffers count 0 [] c.0 × IsPrintedTotals c.1) (λ c. node_lines 0 c.0 ++ total_lines c.1) _ 2
     (Counted buffers count) (λ printed. node_lines 0 printed.nodes ++ total_lines printed.totals) printed_of_two (λ printed. (printed.nodes, printed.totals))
@@ -70,12 +70,12 @@ body_piece buffers count few fits =
 
 counted_piece : (buffers : ℕ) → buffers ≤ 2 ^ 16
     → IsPiece (IsReport buffers) (λ printed. count_line (length printed.nodes) ∷ (node_lines 0 printed.nodes ++ total_lines printed.totals)) 1
-      (λ bytes. line_at 1 count_at bytes >>= λ count. mapped_lines printed_of_two (both_lines (nodes_at buffers count.0 0 []) (totals_at (count.0 + 2))) count.1)
+    (λ bytes. line_at 1 count_at bytes >>= λ count. body_at buffers count.0 count.1)
 counted_piece buffers few =
     bind_piece CountFits (λ count. count_line count ∷ []) (line_at 1 count_at) 1 1 2
     (IsReport buffers) (λ printed. count_line (length printed.nodes) ∷ (node_lines 0 printed.nodes ++ total_lines printed.totals))
     (Counted buffers) (λ printed. node_lines 0 printed.nodes ++ total_lines printed.totals)
-    (λ count. mapped_lines printed_of_two (both_lines (nodes_at buffers count 0 []) (totals_at (count + 2)))) (λ printed. length printed.nodes)
+    (body_at buffers) (λ printed. length printed.nodes)
     (line_piece CountFits count_line count_at count_part 1 1 (record { few = omega arith; odd = refl }))
     (λ count fits. refl) refl
     (λ count fits. body_piece buffers count few fits)
@@ -92,7 +92,7 @@ unfolding report_at report_lines
 report_piece buffers few =
     bind_piece (λ (_ : Unit {0}). Unit {0}) (λ _. codes "cts report 1\n" ∷ []) (line_at 0 (word_at (codes "cts report 1\n"))) 0 1 1
     (IsReport buffers) report_lines (λ _. IsReport buffers) (λ printed. count_line (length printed.nodes) ∷ (node_lines 0 printed.nodes ++ total_lines printed.totals))
-    (λ _ bytes. line_at 1 count_at bytes >>= λ count. mapped_lines printed_of_two (both_lines (nodes_at buffers count.0 0 []) (totals_at (count.0 + 2))) count.1) (λ _. tt)
+    (λ _ bytes. line_at 1 count_at bytes >>= λ count. body_at buffers count.0 count.1) (λ _. tt)
     (line_piece (λ (_ : Unit {0}). Unit {0}) (λ _. codes "cts report 1\n") (word_at (codes "cts report 1\n")) (word_part (codes "cts report 1\n")) 0 tt tt)
     (λ _ fits. refl) refl (λ _ fits. counted_piece buffers few)
     (λ _ printed fits h. (h, refl)) (λ printed h. (tt, h)) (λ _ fits. some_report buffers)

@@ -1,8 +1,7 @@
 -- A stack whose latest tree is the last of a list.
-use Rattle.std.proofs.Common.{◌≡◌, ℕ, zero, suc, ◌+◌, ◌-◌, ◌<◌, ◌≤◌, Bool, true, false, eqb, ◌&&◌, List, [], ◌∷◌, ◌++◌, take, drop, length, get_or, reverse, Option, Some, None, refl, sym, ap, ap₂, ◌∙◌, subst, inl, inr, arith}
+use Rattle.std.proofs.Common.{◌≡◌, ℕ, ◌+◌, ◌-◌, ◌<◌, ◌≤◌, false, eqb, ◌&&◌, List, [], ◌∷◌, ◌++◌, take, drop, length, get_or, reverse, Some, refl, sym, ap, ◌∙◌, inl, inr, arith}
 use Rattle.std.proofs.lemmas.Bool.{cases_lt}
 use Rattle.std.proofs.lemmas.List.{take_more, take_all, reverse-append, length-reverse}
-use Rattle.cts_postorder.specs.Stack.{stack_after}
 use Rattle.cts_report_reader.specs.NodeLine.{joins_stack}
 
 last_one : (xs : List ℕ) (n : ℕ) → n < length xs → reverse (take (n + 1) xs) ≡ get_or xs n 0 ∷ reverse (take n xs)

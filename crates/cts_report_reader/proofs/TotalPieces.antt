@@ -1,11 +1,11 @@
 -- The lines on the whole tree.
-use Rattle.std.proofs.Common.{◌≡◌, ℕ, suc, ◌+◌, ◌<◌, ◌≤◌, Bool, true, false, List, [], ◌∷◌, ◌++◌, length, refl, sym, ap, ◌∙◌, arith, codes}
-use Rattle.cts_report.specs.Lines.{labelled, whole, answer, capacitance, time, length_in_um, total_lines}
+use Rattle.std.proofs.Common.{◌≡◌, ℕ, ◌+◌, Bool, true, List, [], ◌∷◌, ◌++◌, length, refl, arith, codes}
+use Rattle.cts_report.specs.Lines.{labelled, answer, capacitance, time, length_in_um, total_lines}
 use Rattle.cts_report.specs.Printed.{PrintedTotals}
 use Rattle.cts_report_reader.specs.Bounds.{IsShort, IsPrintedTotals}
 use Rattle.cts_report_reader.specs.Lines.{figure_at, answer_at}
 use Rattle.cts_report_reader.specs.Reader.{LinesReader, IsPiece}
-use Rattle.cts_report_reader.specs.Whole.{line_at, both_lines, mapped_lines, TotalsFound, totals_of, answers_at, later_at, totals_at}
+use Rattle.cts_report_reader.specs.Whole.{line_at, both_lines, TotalsFound, totals_of, answers_at, later_at, totals_at}
 use Rattle.cts_report_reader.specs.Words.{word_at}
 use Rattle.cts_report_reader.proofs.Pieces.{line_piece}
 use Rattle.cts_report_reader.proofs.Labels.{word_part}

@@ -1,12 +1,11 @@
 -- The lines on the whole tree, as the code reads them in three steps.
-use Rattle.std.proofs.Common.{◌≡◌, ℕ, ◌+◌, List, Option, Some, None, Result, Ok, Err, refl, sym, ap, ap₂, ◌∙◌, subst, codes}
+use Rattle.std.proofs.Common.{◌≡◌, ℕ, List, Option, Some, None, Result, Ok, Err, refl, sym, ap, ap₂, subst, codes}
 use Rattle.std.specs.Borrow.{Bor}
 use Rattle.cts_report.specs.Printed.{PrintedTotals}
 use Rattle.cts_report_reader.specs.declared.totals.Answers.{Answers}
 use Rattle.cts_report_reader.specs.declared.totals.LaterTotals.{LaterTotals}
 use Rattle.cts_report_reader.specs.declared.totals.ReportTotals.{ReportTotals}
 use Rattle.cts_report_reader.specs.Lines.{figure_at}
-use Rattle.cts_report_reader.specs.Reader.{◌>>=◌}
 use Rattle.cts_report_reader.specs.Seen.{FindsLine}
 use Rattle.cts_report_reader.specs.Totals.{seen_answers, seen_later, seen_totals}
 use Rattle.cts_report_reader.specs.Whole.{AnswersFound, LaterFound, totals_of, answers_at, later_at, totals_at}
@@ -63,16 +62,19 @@ totals_is at bytes load wire greatest one two three e f g (Err line) h = rw (e, 
 
 abbrev with_later : ℕ → ℕ → ℕ → Result (LaterTotals × Bor (List ℕ)) ℕ → Result (ReportTotals × Bor (List ℕ)) ℕ
 with_later load wire greatest (Ok found) =
-    Ok (record {
-      source_load = load;
-      wire_total = wire;
-      greatest = greatest;
-      least = (found.0).least;
-      skew = (found.0).skew;
-      bound = (found.0).bound;
-      load_met = (found.0).answers.load_met;
-      slew_met = (found.0).answers.slew_met;
-    }, found.1)
+    Ok (
+      record {
+        source_load = load;
+        wire_total = wire;
+        greatest = greatest;
+        least = (found.0).least;
+        skew = (found.0).skew;
+        bound = (found.0).bound;
+        load_met = (found.0).answers.load_met;
+        slew_met = (found.0).answers.slew_met;
+      },
+      found.1,
+    )
 with_later load wire greatest (Err line) = Err line
 
 totals_seen : (load wire greatest : ℕ) (found : Result (LaterTotals × Bor (List ℕ)) ℕ) (right : Result (LaterFound × List ℕ) ℕ)

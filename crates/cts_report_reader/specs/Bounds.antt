@@ -1,6 +1,6 @@
 -- Which numbers, points and nodes a report can print, and which reports there are.
-use Rattle.std.specs.Prelude.{◌≡◌, ℕ, ◌+◌, ◌-◌, ◌*◌, ◌/◌, ◌%◌, ◌^◌, ◌<◌, ◌≤◌, List, length, map, All, Option, Some, None, IfSome}
-use Rattle.cts_postorder.specs.PostOrder.{IsPostOrder, IsPostOrderFrom}
+use Rattle.std.specs.Prelude.{◌≡◌, ℕ, ◌+◌, ◌-◌, ◌*◌, ◌/◌, ◌%◌, ◌^◌, ◌<◌, ◌≤◌, length, map, All, Option, Some, None, IfSome}
+use Rattle.cts_postorder.specs.PostOrder.{IsPostOrder}
 use Rattle.cts_report.specs.Printed.{PrintedPoint, PrintedKind, sink_leaf, pair_node, PrintedNode, PrintedTotals, Printed}
 
 -- a number of at most 38 digits, on both sides of the point

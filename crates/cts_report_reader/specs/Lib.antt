@@ -3,6 +3,7 @@ pub mod Lines
 pub mod NodeLine
 pub mod Nodes
 pub mod Reader
+pub mod Reports
 pub mod Seen
 pub mod Text
 pub mod Totals

@@ -1,7 +1,7 @@
 -- The lines of a report but those of its nodes.
-use Rattle.std.specs.Prelude.{◌≡◌, ℕ, ◌%◌, Bool, true, false, ◌&&◌, nat_le, List, codes, Option, Some, None, ◌==◌}
+use Rattle.std.specs.Prelude.{ℕ, ◌%◌, Bool, true, false, ◌&&◌, nat_le, List, codes, ◌==◌}
 use Rattle.cts_report_reader.specs.Reader.{PartReader}
-use Rattle.cts_report_reader.specs.Words.{◌>>=◌, word_at, kept_if, labelled_at, both_at, mapped_at, first_of}
+use Rattle.cts_report_reader.specs.Words.{word_at, kept_if, labelled_at, both_at, mapped_at, first_of}
 
 -- a figure of the whole tree
 unfoldable pub figure_at : List ℕ → ℕ → PartReader ℕ

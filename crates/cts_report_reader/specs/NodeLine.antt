@@ -1,9 +1,9 @@
 -- The line of a node.
-use Rattle.std.specs.Prelude.{◌≡◌, ℕ, ◌+◌, ◌-◌, ◌^◌, Bool, false, ◌&&◌, nat_le, nat_lt, List, [], ◌∷◌, length, codes, Option, Some, None, ◌==◌}
+use Rattle.std.specs.Prelude.{ℕ, ◌-◌, ◌^◌, Bool, false, ◌&&◌, nat_le, nat_lt, List, [], ◌∷◌, length, codes, Option, Some, None, ◌==◌}
 use Rattle.cts_report.specs.Printed.{PrintedPoint, PrintedKind, sink_leaf, pair_node, PrintedNode}
 use Rattle.cts_report_reader.specs.Bounds.{printed_children}
 use Rattle.cts_report_reader.specs.Reader.{PartReader}
-use Rattle.cts_report_reader.specs.Words.{◌>>=◌, word_at, kept_if, labelled_at, bounded_at, both_at, mapped_at, first_of, place_at, tail_at}
+use Rattle.cts_report_reader.specs.Words.{word_at, kept_if, labelled_at, bounded_at, both_at, mapped_at, first_of, place_at, tail_at}
 
 abbrev pub PlaceFound : Type 0
 PlaceFound = Unit × PrintedPoint

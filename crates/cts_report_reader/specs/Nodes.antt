@@ -1,6 +1,6 @@
 -- What a report prints of its nodes, as the types of the code hold it.
-use Rattle.std.specs.Prelude.{ℕ, List, map, All, Option, Some, None}
-use Rattle.cts_report.specs.Printed.{PrintedPoint, PrintedKind, sink_leaf, pair_node, PrintedNode}
+use Rattle.std.specs.Prelude.{ℕ, List, map, All, Option}
+use Rattle.cts_report.specs.Printed.{PrintedKind, sink_leaf, pair_node, PrintedNode}
 use Rattle.cts_report_reader.specs.declared.node.ReportKind.{ReportKind}
 use Rattle.cts_report_reader.specs.declared.node.ReportKind.TheVariants.{Leaf, Pair}
 use Rattle.cts_report_reader.specs.declared.node.ReportNode.{ReportNode}
@@ -33,3 +33,6 @@ seen_node node = record {
 pub record IsSeenNode (node : ReportNode) : Type 0 where
   pub place : IsSeen node.place
   pub corners : All IsSeen node.corners
+
+abbrev pub seen_nodes : List ReportNode → List PrintedNode
+seen_nodes nodes = map seen_node nodes

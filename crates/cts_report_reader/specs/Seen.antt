@@ -1,8 +1,8 @@
 -- What a report prints, as the types of the code hold it.
-use Rattle.std.specs.Prelude.{◌≡◌, ℕ, ◌*◌, ◌++◌, ℤ, pos, ◌≤ℤ◌, unsigned_abs, List, map, Option, Some, None, Bool, Result, Ok, Err}
+use Rattle.std.specs.Prelude.{◌≡◌, ℕ, ◌*◌, ◌++◌, ℤ, pos, ◌≤ℤ◌, unsigned_abs, List, Option, Some, None, Result, Ok, Err}
 use Rattle.std.specs.Borrow.{Bor}
 use Rattle.cts_geom.specs.declared.points.Half.{Half}
-use Rattle.cts_report.specs.Printed.{PrintedPoint, PrintedKind, sink_leaf, pair_node, PrintedNode, PrintedTotals, Printed}
+use Rattle.cts_report.specs.Printed.{PrintedPoint}
 
 -- a coordinate in half nm, in 10^-4 µm
 abbrev pub seen_half : ℤ → ℕ

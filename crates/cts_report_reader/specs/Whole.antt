@@ -1,5 +1,5 @@
 -- A report read line by line.
-use Rattle.std.specs.Prelude.{◌≡◌, ℕ, zero, suc, ◌+◌, ◌%◌, Bool, true, false, ◌&&◌, nat_le, List, [], ◌∷◌, codes, Option, Some, None, Result, Ok, Err, ◌==◌}
+use Rattle.std.specs.Prelude.{ℕ, zero, suc, ◌+◌, Bool, List, [], ◌∷◌, codes, Result, Ok, Err}
 use Rattle.cts_postorder.specs.Stack.{stack_after}
 use Rattle.cts_report.specs.Printed.{PrintedNode, PrintedTotals, Printed}
 use Rattle.cts_report_reader.specs.Bounds.{printed_children}
@@ -71,9 +71,18 @@ totals_at at =
 abbrev pub printed_of_two : List PrintedNode × PrintedTotals → Printed
 printed_of_two found = record { nodes = found.0; totals = found.1 }
 
+-- the report of these nodes and of what is found after them
+abbrev pub after_nodes : List PrintedNode → Result (PrintedTotals × List ℕ) ℕ → Result (Printed × List ℕ) ℕ
+after_nodes nodes (Ok found) = Ok (record { nodes = nodes; totals = found.0 }, found.1)
+after_nodes nodes (Err line) = Err line
+
+-- so many nodes, and then the lines on the whole tree
+unfoldable pub body_at : ℕ → ℕ → LinesReader Printed
+body_at buffers count = mapped_lines printed_of_two (both_lines (nodes_at buffers count 0 []) (totals_at (count + 2)))
+
 -- the whole report, up to its last line
 unfoldable pub report_at : ℕ → LinesReader Printed
 report_at buffers bytes =
     line_at 0 (word_at (codes "cts report 1\n")) bytes
     >>= λ title. line_at 1 count_at title.1
-    >>= λ count. mapped_lines printed_of_two (both_lines (nodes_at buffers count.0 0 []) (totals_at (count.0 + 2))) count.1
+    >>= λ count. body_at buffers count.0 count.1

@@ -25,7 +25,9 @@ const MOST: u64 = 4_294_967_295;
 #[derive(Clone, Copy, Debug, PartialEq, Eq)]
 pub enum ReportKind {
     /// A sink, by its id.
-    Leaf { id: u32 },
+    Leaf {
+        id: u32,
+    },
     /// A pair of two parts, by the numbers of their roots, the index of its buffer in the library, if
     /// it has one, and its residue in 10^-16 ps.
     Pair {
@@ -194,7 +196,11 @@ fn pair(alloc: Global, buffers: u64, bytes: &[u8]) -> Result<Option<(ReportNode,
 
 /// The line of a node from what it is on.
 #[tactic(auto, unfolding(crate::specs::NodeLine::node_rest_at))]
-fn node_rest(alloc: Global, buffers: u64, bytes: &[u8]) -> Result<Option<(ReportNode, &[u8])>, NoMemory>
+fn node_rest(
+    alloc: Global,
+    buffers: u64,
+    bytes: &[u8],
+) -> Result<Option<(ReportNode, &[u8])>, NoMemory>
     requires { buffers ≤ 2 ^ 16 }
     ensures found { FindsIn seen_node result (node_rest_at buffers bytes.now) }
     ensures seen { IfOk result (λ found. IfSome found (λ node. IsSeenNode node.0)) }

@@ -1,4 +1,4 @@
-use Rattle.std.proofs.Common.{◌≡◌, reverse, ap, ◌∙◌}
+use Rattle.std.proofs.Common.{reverse, ap, ◌∙◌}
 use Rattle.cts_report_reader.proofs.StackLists.{leaf_after}
 use Rattle.cts_report_reader.proofs.node.push_leaf.Goals as goal
 

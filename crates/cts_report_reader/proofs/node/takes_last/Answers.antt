@@ -1,4 +1,4 @@
-use Rattle.std.proofs.Common.{◌≡◌, ◌-◌, length, get_or, sym, ◌∙◌}
+use Rattle.std.proofs.Common.{◌-◌, length, get_or, sym, ◌∙◌}
 use Rattle.std.proofs.lemmas.Bool.{ne_eqb}
 use Rattle.cts_report_reader.proofs.StackLists.{pair_other}
 use Rattle.cts_report_reader.proofs.node.takes_last.Goals as goal

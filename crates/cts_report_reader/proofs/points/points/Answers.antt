@@ -1,4 +1,4 @@
-use Rattle.std.proofs.Common.{◌≡◌, ◌<◌, ◌+◌, ◌-◌, [], map, All, Vec, Global, refl, sym, ap, ◌∙◌, subst, arith}
+use Rattle.std.proofs.Common.{◌≡◌, ◌<◌, ◌+◌, ◌-◌, map, All, Vec, Global, refl, sym, ap, ◌∙◌, subst, arith}
 use Rattle.std.proofs.lemmas.List.Elements.{All-nil, All-push}
 use Rattle.cts_geom.specs.declared.points.Half.{Half}
 use Rattle.cts_report_reader.specs.Seen.{IsSeen, seen_point, fronted}
@@ -35,6 +35,6 @@ loop-index-preserved c =
     let pushed = c.in_ok-push.ensures.items in
     record {
       found = ap (λ ps. fronted (map seen_point ps) (points_at (c.args.count - (l._index + 1)) c.in-Some.after.now)) pushed
-      ∙ points_step c.args.count l._index l.items.items _ l.rest.now c.in-Some.next (point_at l.rest.now) c.in-Some.after lt l.invariant.found refl c.in-Some.ensures.found;
+          ∙ points_step c.args.count l._index l.items.items _ l.rest.now c.in-Some.next (point_at l.rest.now) c.in-Some.after lt l.invariant.found refl c.in-Some.ensures.found;
       seen = subst (All IsSeen) (sym pushed) (All-push IsSeen l.items.items c.in-Some.next l.invariant.seen c.in-Some.ensures.seen);
     }
