@@ -11,6 +11,7 @@ use Rattle.cts_num.specs.Canonical.{canonical_of}
 use Rattle.cts_num.specs.Decimal.{decimal_text}
 use Rattle.cts_num.proofs.CanonicalTexts.{canonical_is_written, decimal-bytes, texts_agree, texts_same}
 use Rattle.cts_num.proofs.Fronts.{digit_passes}
+use Rattle.cts_num.proofs.Spelling.{decimal_is_read_back}
 use Rattle.cts_report.specs.Lines.{labelled}
 use Rattle.cts_report_reader.specs.Reader.{is_number_byte, IsStop, IsAny, IsPart}
 use Rattle.cts_report_reader.specs.Words.{◌>>=◌, Finds, word_at, number_at, labelled_at, bounded_at}
@@ -107,10 +108,10 @@ labelled_part label places =
     (λ _ number. number < 10 ^ 38) (decimal_text places) (λ _. number_at places) (λ _. tt)
     (word_part label) (λ _ _. number_part places) (λ a c _ fits. (fits, refl)) (λ c fits. (tt, fits)) (λ c rest fits ends. tt)
 
-le_bound : (number bound : ℕ) → number ≤ bound → leb number bound ≡ true
+pub le_bound : (number bound : ℕ) → number ≤ bound → leb number bound ≡ true
 le_bound number bound le = elim (leb_tells number bound) [ inl p ↦ p.0 | inr p ↦ absurd (omega (arith, p.1, le)) ]
 
-bound_le : (number bound : ℕ) → leb number bound ≡ true → number ≤ bound
+pub bound_le : (number bound : ℕ) → leb number bound ≡ true → number ≤ bound
 bound_le number bound e = elim (leb_tells number bound) [ inl p ↦ p.1 | inr p ↦ absurd (true_false (sym e ∙ p.0)) ]
 
 pub bounded_part : (label : List ℕ) (places bound : ℕ) → bound < 10 ^ 38
@@ -175,3 +176,24 @@ number_some places bytes text size number size_is text_is some =
 
 pub number_small : (places : ℕ) (text : List ℕ) (number : ℕ) → canonical_of places text ≡ Some number → number < 10 ^ 38
 number_small places text number e = ((canonical_is_written places number text).0 e).1
+
+-- a number begins with no letter
+
+other_first : (letter : ℕ) (word text rest : List ℕ) → is_number_byte letter ≡ false → 0 < length text → is_number_byte (get_or text 0 0) ≡ true
+    → word_at (letter ∷ word) (text ++ rest) ≡ None
+unfolding word_at
+other_first letter word [] rest other some first = absurd (omega (arith, some))
+other_first letter word (byte ∷ text) rest other some first =
+    elim (eqb_tells letter byte) [
+      | inl p ↦ absurd (true_false (sym first ∙ ap is_number_byte (sym p.1) ∙ other))
+      | inr p ↦ rw p.0 refl
+    ]
+
+pub some_byte : (places number : ℕ) → 0 < length (decimal_text places number)
+some_byte places number = let w = (decimal_is_read_back places number).some_digit in omega (arith, w.1)
+
+pub not_letter : (places number letter : ℕ) (word rest : List ℕ) → is_number_byte letter ≡ false
+    → word_at (letter ∷ word) (decimal_text places number ++ rest) ≡ None
+not_letter places number letter word rest other =
+    let some = some_byte places number in
+    other_first letter word (decimal_text places number) rest other some (number_byte places number 0 some)

@@ -2,3 +2,15 @@ pub mod Wholes
 pub mod Pieces
 pub mod Parts
 pub mod Labels
+pub mod PointParts
+pub mod NodeParts
+pub mod LineParts
+pub mod LinesPieces
+pub mod TotalPieces
+pub mod NodePieces
+pub mod ReportPieces
+pub mod PointLoops
+pub mod StackLists
+pub mod TotalReads
+pub mod NodeLoops
+pub mod ReportReads

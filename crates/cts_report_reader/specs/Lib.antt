@@ -1,3 +1,11 @@
+pub mod Bounds
+pub mod Lines
+pub mod NodeLine
+pub mod Nodes
 pub mod Reader
+pub mod Reports
+pub mod Seen
 pub mod Text
+pub mod Totals
+pub mod Whole
 pub mod Words

@@ -1,8 +1,9 @@
 -- The words of a report's lines, read from the front of bytes.
-use Rattle.std.specs.Prelude.{◌≡◌, ℕ, Bool, if◌then◌else◌, nat_le, List, [], ◌∷◌, take, drop, Option, Some, None, ◌==◌}
+use Rattle.std.specs.Prelude.{◌≡◌, ℕ, zero, suc, ◌+◌, ◌-◌, ◌*◌, ◌/◌, ◌%◌, ◌^◌, Bool, ◌&&◌, if◌then◌else◌, nat_le, List, [], ◌∷◌, take, drop, codes, Option, Some, None, ◌==◌}
 use Rattle.std.specs.Borrow.{Bor}
 use Rattle.std.specs.List.{prefix_len}
 use Rattle.cts_num.specs.Canonical.{canonical_of}
+use Rattle.cts_report.specs.Printed.{PrintedPoint}
 use Rattle.cts_report_reader.specs.Reader.{PartReader, is_number_byte}
 
 infixl 10 ◌>>=◌
@@ -47,3 +48,53 @@ labelled_at label places bytes = do
 -- a label and a number up to a bound
 unfoldable pub bounded_at : List ℕ → ℕ → ℕ → PartReader ℕ
 bounded_at label places bound bytes = kept_if (λ number. nat_le number bound) (labelled_at label places bytes)
+
+-- one part and then another
+abbrev pub both_at : {A B : Type 0} → PartReader A → PartReader B → PartReader (A × B)
+both_at first second bytes = first bytes >>= λ a. second a.1 >>= λ b. Some ((a.0, b.0), b.1)
+
+-- a part, put into another form
+abbrev pub mapped_at : {A C : Type 0} → (A → C) → PartReader A → PartReader C
+mapped_at to read bytes = read bytes >>= λ a. Some (to a.0, a.1)
+
+abbrev pub is_coordinate : ℕ → Bool
+is_coordinate number = nat_le number (5 * (2 * 10 ^ 8)) && (number % 5 == 0)
+
+-- a coordinate after a space
+unfoldable pub coordinate_at : PartReader ℕ
+coordinate_at bytes = kept_if is_coordinate (labelled_at (codes " ") 4 bytes)
+
+abbrev pub point_of_two : ℕ × ℕ → PrintedPoint
+point_of_two found = record { x = found.0; y = found.1 }
+
+unfoldable pub point_at : PartReader PrintedPoint
+point_at = mapped_at point_of_two (both_at coordinate_at coordinate_at)
+
+-- x and y are both whole, or both half
+abbrev pub is_even_place : PrintedPoint → Bool
+is_even_place p = (p.x / 5 + p.y / 5) % 2 == 0
+
+unfoldable pub place_at : PartReader (Unit × PrintedPoint)
+place_at = both_at (word_at (codes " at")) (λ bytes. kept_if is_even_place (point_at bytes))
+
+-- so many points
+unfoldable pub points_at : ℕ → PartReader (List PrintedPoint)
+points_at zero bytes = Some ([], bytes)
+points_at (suc count) bytes =
+    mapped_at (λ (found : PrintedPoint × List PrintedPoint). found.0 ∷ found.1) (both_at point_at (points_at count)) bytes
+
+-- the number of corners, and then the corners
+unfoldable pub corners_at : PartReader (List PrintedPoint)
+corners_at bytes = bounded_at (codes " via ") 0 65536 bytes >>= λ count. points_at count.0 count.1
+
+-- the first of two answers, if there is one, else the second
+abbrev pub first_of : {A : Type 0} → Option A → Option A → Option A
+first_of (Some found) other = Some found
+first_of None other = other
+
+-- what every line of a node ends with: delay, slew, wire and corners
+unfoldable pub tail_at : PartReader (ℕ × (ℕ × (ℕ × (List PrintedPoint × Unit))))
+tail_at =
+    both_at (labelled_at (codes " delay ") 16)
+    (both_at (labelled_at (codes " slew ") 16)
+    (both_at (bounded_at (codes " wire ") 3 (2 ^ 31 - 1)) (both_at corners_at (word_at (codes "\n")))))

@@ -1,0 +1,57 @@
+use Rattle.std.proofs.Common.{◌≡◌, ◌<◌, ◌+◌, ◌-◌, ◌∷◌, [], List, Ok, Option, IfSome, Bor, length, reverse, All, Vec, Global, sym, ap, ap₂, ◌∙◌, subst, arith, length-append}
+use Rattle.std.proofs.lemmas.List.Elements.{All-nil, All-push}
+use Rattle.cts_num.specs.declared.error.NoMemory.{NoMemory}
+use Rattle.cts_postorder.specs.Stack.{stack_after}
+use Rattle.cts_report_reader.specs.declared.node.ReportNode.{ReportNode}
+use Rattle.cts_report_reader.specs.Bounds.{printed_children}
+use Rattle.cts_report_reader.specs.NodeLine.{node_at}
+use Rattle.cts_report_reader.specs.Nodes.{IsSeenNode, seen_node, seen_nodes}
+use Rattle.cts_report_reader.specs.Seen.{fronted_lines, FindsIn}
+use Rattle.cts_report_reader.specs.Whole.{nodes_at}
+use Rattle.cts_report_reader.proofs.NodeLoops.{nodes_begin, nodes_step, nodes_none, nodes_done, found_lines, missed_line}
+use Rattle.cts_report_reader.proofs.report.nodes.Goals as goal
+
+pub loop-number-init : goal.loop-number-init
+loop-number-init c =
+    let items = c.new-items.ensures.items in
+    let stack = c.new-stack.ensures.items in
+    record {
+      found = ap₂ (λ (ns : List ReportNode) (s : List _). fronted_lines (seen_nodes ns) (nodes_at c.args.buffers (c.args.count - 0) 0 (reverse s) c.args.bytes.now)) items stack
+          ∙ nodes_begin c.args.buffers c.args.count c.args.bytes.now;
+      seen = subst (All IsSeenNode) (sym items) (All-nil IsSeenNode);
+      long = ap length items;
+    }
+
+pub loop-number-preserved : goal.loop-number-preserved
+loop-number-preserved c =
+    let l = c.loop-number in
+    let lt : l.number < c.args.count = c.loop-number-test.true in
+    let pushed = c.in_ok-push.ensures.items in
+    let slice = c.as_slice.ensures.value in
+    let h = ap (λ (s : List _). fronted_lines (seen_nodes l.items.items) (nodes_at c.args.buffers (c.args.count - l.number) l.number (reverse s) l.rest.now)) slice ∙ l.invariant.found in
+    let after = c.in_ok-stack_node.ensures ∙ ap (λ (s : List _). stack_after (printed_children (seen_node c.in-Some.next)) (reverse s) l.number) (sym slice) in
+    let found = subst (λ (o : Option (ReportNode × Bor (List _))). FindsIn {E = NoMemory} seen_node (Ok o) (node_at c.args.buffers l.number (reverse c.as_slice.result.now) (c.args.count - l.number - 1) l.rest.now)) c.in-Some.is c.in_ok-next.ensures.found in
+    let seen = subst (λ (o : Option (ReportNode × Bor (List _))). IfSome o (λ x. IsSeenNode x.0)) c.in-Some.is c.in_ok-next.ensures.seen in
+    record {
+      found = ap (λ ns. fronted_lines (seen_nodes ns) (nodes_at c.args.buffers (c.args.count - (l.number + 1)) (l.number + 1) (reverse c.stack_node.new.stack.items) c.in-Some.after.now)) pushed
+          ∙ nodes_step c.args.buffers c.args.count l.number (reverse c.as_slice.result.now) (reverse c.stack_node.new.stack.items) l.items.items _ l.rest.now c.in-Some.next c.in-Some.after lt h found after;
+      seen = subst (All IsSeenNode) (sym pushed) (All-push IsSeenNode l.items.items c.in-Some.next l.invariant.seen seen);
+      long = omega (arith, ap length pushed, length-append l.items.items (c.in-Some.next ∷ []), l.invariant.long);
+    }
+
+pub returns-in_default-clause-found : goal.returns-in_default-clause-found
+returns-in_default-clause-found c =
+    let l = c.loop-number in
+    let lt : l.number < c.args.count = c.loop-number-test.true in
+    let slice = c.as_slice.ensures.value in
+    let h = ap (λ (s : List _). fronted_lines (seen_nodes l.items.items) (nodes_at c.args.buffers (c.args.count - l.number) l.number (reverse s) l.rest.now)) slice ∙ l.invariant.found in
+    let found = subst (λ (o : Option (ReportNode × Bor (List _))). FindsIn {E = NoMemory} seen_node (Ok o) (node_at c.args.buffers l.number (reverse c.as_slice.result.now) (c.args.count - l.number - 1) l.rest.now)) c.in_default.is c.in_ok-next.ensures.found in
+    missed_line (λ (ns : Vec ReportNode Global). seen_nodes ns.items) (l.number + 3) _
+    (nodes_none c.args.buffers c.args.count l.number (reverse c.as_slice.result.now) (seen_nodes l.items.items) _ l.rest.now lt h found)
+
+pub returns-clause-found : goal.returns-clause-found
+returns-clause-found c =
+    let l = c.loop-number in
+    let e : l.number ≡ c.args.count = omega arith in
+    found_lines (λ (ns : Vec ReportNode Global). seen_nodes ns.items) l.items l.rest _
+    (nodes_done c.args.buffers c.args.count l.number (reverse l.stack.items) (seen_nodes l.items.items) _ l.rest.now e l.invariant.found)

@@ -1,0 +1,61 @@
+-- Which numbers, points and nodes a report can print, and which reports there are.
+use Rattle.std.specs.Prelude.{◌≡◌, ℕ, ◌+◌, ◌-◌, ◌*◌, ◌/◌, ◌%◌, ◌^◌, ◌<◌, ◌≤◌, length, map, All, Option, Some, None, IfSome}
+use Rattle.cts_postorder.specs.PostOrder.{IsPostOrder}
+use Rattle.cts_report.specs.Printed.{PrintedPoint, PrintedKind, sink_leaf, pair_node, PrintedNode, PrintedTotals, Printed}
+
+-- a number of at most 38 digits, on both sides of the point
+abbrev pub IsShort : ℕ → Type 0
+IsShort number = number < 10 ^ 38
+
+-- a coordinate in half nm, at most 2·10^8 of them, at its 4 places
+pub record IsPrintedCoordinate (number : ℕ) : Type 0 where
+  pub inside : number ≤ 5 * (2 * 10 ^ 8)
+  pub half : number % 5 ≡ 0
+
+pub record IsPrintedPoint (p : PrintedPoint) : Type 0 where
+  pub x : IsPrintedCoordinate p.x
+  pub y : IsPrintedCoordinate p.y
+
+-- a node's place has x and y both whole or both half, in nm
+pub record IsPrintedPlace (p : PrintedPoint) : Type 0 where
+  pub point : IsPrintedPoint p
+  pub even : (p.x / 5 + p.y / 5) % 2 ≡ 0
+
+-- an id; or a buffer of the library, which has so many, and a residue
+abbrev pub IsPrintedKind : ℕ → PrintedKind → Type 0
+IsPrintedKind buffers (sink_leaf id) = id ≤ 999999999
+IsPrintedKind buffers (pair_node left right buffer residue) = IfSome buffer (λ index. index < buffers) × IsShort residue
+
+pub record IsPrintedNode (buffers : ℕ) (node : PrintedNode) : Type 0 where
+  pub kind : IsPrintedKind buffers node.kind
+  pub place : IsPrintedPlace node.place
+  pub load : IsShort node.load
+  pub delay : IsShort node.delay
+  pub slew : IsShort node.slew
+  pub wire : node.wire ≤ 2 ^ 31 - 1
+  pub few : length node.corners ≤ 65536
+  pub corners : All IsPrintedPoint node.corners
+
+pub record IsPrintedTotals (totals : PrintedTotals) : Type 0 where
+  pub source_load : IsShort totals.source_load
+  pub wire_total : IsShort totals.wire_total
+  pub greatest : IsShort totals.greatest
+  pub least : IsShort totals.least
+  pub skew : IsShort totals.skew
+  pub bound : IsShort totals.bound
+
+-- the numbers of the left and right child
+abbrev pub children_of_kind : PrintedKind → Option (ℕ × ℕ)
+children_of_kind (sink_leaf id) = None
+children_of_kind (pair_node left right buffer residue) = Some (left, right)
+
+abbrev pub printed_children : PrintedNode → Option (ℕ × ℕ)
+printed_children node = children_of_kind node.kind
+
+-- A report: its nodes are those of one tree in post-order, and each of its numbers can be printed. The
+-- library has so many buffers.
+pub record IsReport (buffers : ℕ) (printed : Printed) : Type 0 where
+  pub post_order : IsPostOrder (map printed_children printed.nodes)
+  pub few : length printed.nodes ≤ 131071
+  pub each : All (IsPrintedNode buffers) printed.nodes
+  pub totals : IsPrintedTotals printed.totals
