@@ -14,9 +14,13 @@ use Rattle.cts_top.specs.Text.{TellsSynthesis}
 use Rattle.cts_top.specs.Written.{Answers, IsAnswered, IsAnsweredInPart}
 
 -- what holds of the bytes that were read holds of those that were left
-of_left : (left : Option (List ℕ)) (bytes : List ℕ) (P : List ℕ → Type 0) → IfSome left (λ b. bytes ≡ b) → P bytes → IfSome left P
+pub of_left : (left : Option (List ℕ)) (bytes : List ℕ) (P : List ℕ → Type 0) → IfSome left (λ b. bytes ≡ b) → P bytes → IfSome left P
 of_left None bytes P e p = tt
 of_left (Some b) bytes P e p = subst P e p
+
+on_left : (left : Option (List ℕ)) (P Q : List ℕ → Type 0) → ((b : List ℕ) → P b → Q b) → IfSome left P → IfSome left Q
+on_left None P Q f p = tt
+on_left (Some b) P Q f p = f b p
 
 -- a run that only wrote stops for its output or for want of memory
 does_not_read : (end : Stop) (X : Type 0) → (end ≢ stop.WriteFault → X × (end ≡ stop.NoMemory)) → DoesNotRead end
@@ -62,15 +66,15 @@ answers_no_words (Err end) a e = not_words end _ a.kept e
 
 -- a run that has read an instance
 pub serves_synth : {S K : Type 0} (left : S → Option (List ℕ)) (reads : S → ℕ) (held : K → Option (List ℕ)) (writes : K → ℕ)
-    (source source' : S) (sink sink' : K) (result : Result Answer Stop) (bytes : List ℕ) (i : Parts)
-    → IsAtEnd (left source') → IfSome (left source) (λ b. bytes ≡ b) → reads source ≤ reads source' → Spells bytes i
+    (source source' : S) (sink sink' : K) (result : Result Answer Stop) (i : Parts)
+    → IsAtEnd (left source') → IfSome (left source) (λ b. Spells b i) → reads source ≤ reads source'
     → Answers (TellsSynthesis report_text i) held writes sink sink' result
     → Serves left reads held writes Synth source source' sink sink' result
-serves_synth left reads held writes source source' sink sink' (Ok kind) bytes i at_end was counted spells a = record {
+serves_synth left reads held writes source source' sink sink' (Ok kind) i at_end spells counted a = record {
   done = (
     at_end,
-    of_left (left source) bytes (λ b. IsAnswered (IsRight Synth b) kind (held sink) (held sink')) was
-        (a.done.0, (i, spells, a.done.1), a.done.2),
+    on_left (left source) (λ b. Spells b i) (λ b. IsAnswered (IsRight Synth b) kind (held sink) (held sink'))
+        (λ b s. (a.done.0, (i, s, a.done.1), a.done.2)) spells,
   );
   write_fault = λ e. cc;
   read_fault = λ e. cc;
@@ -80,15 +84,15 @@ serves_synth left reads held writes source source' sink sink' (Ok kind) bytes i 
   source_counted = counted;
   sink_counted = a.counted;
 }
-serves_synth left reads held writes source source' sink sink' (Err end) bytes i at_end was counted spells a =
+serves_synth left reads held writes source source' sink sink' (Err end) i at_end spells counted a =
     let none : DoesNotRead end = does_not_read end _ a.kept in
     record {
       done = tt;
       write_fault = λ e. let p : IsAnsweredInPart (TellsSynthesis report_text i) (held sink) (held sink') = a.in_part e in (
         at_end,
         a.rose e,
-        of_left (left source) bytes (λ b. IsAnsweredInPart (IsRight Synth b) (held sink) (held sink')) was
-            (p.0, p.1, p.2, (i, spells, p.3), p.4),
+        on_left (left source) (λ b. Spells b i) (λ b. IsAnsweredInPart (IsRight Synth b) (held sink) (held sink'))
+            (λ b s. (p.0, p.1, p.2, (i, s, p.3), p.4)) spells,
       );
       read_fault = λ e. absurd (not_a_read end none e);
       explained = free_of (left source) (Explains Synth end) (λ b. unexplained b end none);

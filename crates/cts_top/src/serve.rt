@@ -1,8 +1,11 @@
 //! What each form does.
 
-ghost use Rattle.std.specs.Prelude.{◌≡◌, ◌≤◌, ◌<◌, ◌^◌, [], IsErrOf};
+ghost use Rattle.std.specs.Prelude.{◌≡◌, ◌≤◌, ◌<◌, ◌^◌, [], IfSome, IfOk, IfErr, OnOk, IsErrOf};
+ghost use Rattle.std.specs.Io.KnownBytes.{IsAtEnd};
+ghost use Rattle.cts_io.specs.Faults.{Rose};
+ghost use Rattle.cts_top.specs.Input.{Spells};
 ghost use Rattle.cts_top.specs.Outcome.{Serves};
-ghost use Rattle.cts_top.specs.Right.{IsRight};
+ghost use Rattle.cts_top.specs.Right.{Explains, IsRight};
 ghost use Rattle.cts_top.specs.Words.{IsWithinLimits};
 ghost use Rattle.cts_top.specs.Written.{Answers};
 
@@ -10,6 +13,7 @@ use crate::answer::{Telling, answer_instance};
 use crate::input::read_input;
 use crate::stop::{Answer, Stop, ended};
 use crate::words::Form;
+use cts_instance::Instance;
 use cts_io::{ByteSink, ByteSource, read_all};
 use cts_script::{make_instance, write_instance};
 use std::alloc::Global;
@@ -44,9 +48,22 @@ fn serve_synth<S: ByteSource, K: ByteSink>(
     ensures serves { Serves S.left S.faults K.held K.faults Form.Synth source.old source.new sink.old sink.new result }
     ensures words { IsErrOf result Stop.Words → ⊥ }
 {
-    let bytes = read_all(alloc, source, INPUT_LIMIT)?;
-    let instance = read_input(alloc, &bytes)?;
+    let instance = read_source(alloc, source)?;
     answer_instance(alloc, sink, Telling::Report, &instance)
+}
+
+/// The instance that an input spells, which is read to its end. Its bytes go before the synthesis begins.
+fn read_source<S: ByteSource>(alloc: Global, source: &mut S) -> Result<Instance, Stop>
+    ensures end { OnOk result (IsAtEnd (S.left source.new)) }
+    ensures spells { IfOk result (λ instance. IfSome (S.left source.old) (λ bytes. Spells bytes instance)) }
+    ensures explained { IfErr result (λ stop. IfSome (S.left source.old) (Explains Form.Synth stop)) }
+    ensures words { IsErrOf result Stop.Words → ⊥ }
+    ensures read_fault { IsErrOf result Stop.ReadFault → Rose (S.faults source.old) (S.faults source.new) }
+    ensures write_fault { IsErrOf result Stop.WriteFault → ⊥ }
+    ensures counted { S.faults source.old ≤ S.faults source.new }
+{
+    let bytes = read_all(alloc, source, INPUT_LIMIT)?;
+    read_input(alloc, &bytes)
 }
 
 /// Writes the instance that is made from a seed.

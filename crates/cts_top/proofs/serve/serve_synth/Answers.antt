@@ -3,8 +3,8 @@ use Rattle.cts_top.proofs.serve.serve_synth.Goals as goal
 
 pub returns-clause-serves : goal.returns-clause-serves
 returns-clause-serves g c =
-    serves_synth _ _ _ _ _ _ _ _ c.answer_instance.result _ _ c.in_ok-bytes.ensures.end c.in_ok-bytes.ensures.all
-    c.in_ok-bytes.ensures.counted (rw (← c.deref.ensures.value) c.in_ok-instance.ensures.spells) c.answer_instance.ensures
+    serves_synth _ _ _ _ _ _ _ _ c.answer_instance.result _ c.in_ok-instance.ensures.end c.in_ok-instance.ensures.spells
+    c.in_ok-instance.ensures.counted c.answer_instance.ensures
 
 pub returns-clause-words : goal.returns-clause-words
 returns-clause-words g c = answers_no_words c.answer_instance.result c.answer_instance.ensures
