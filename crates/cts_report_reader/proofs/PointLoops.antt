@@ -85,3 +85,32 @@ finds_in_none view right e = rw e tt
 pub finds_in_some : {T A : Type 0} (view : T → A) (value : T) (left : Bor (List ℕ)) (right : Option (A × List ℕ))
     → right ≡ Some (view value, left.now) → FindsIn {E = NoMemory} view (Ok (Some (value, left))) right
 finds_in_some view value left right e = rw e (refl, refl)
+
+found_point : (p : Half) (left : Bor (List ℕ)) (right : Option (PrintedPoint × List ℕ)) → Finds seen_point (Some (p, left)) right → right ≡ Some (seen_point p, left.now)
+found_point p left None h = absurd h
+found_point p left (Some x) h = ap Some (ap₂ (λ a b. (a, b)) (sym h.0) (sym h.1))
+
+missed_point : (right : Option (PrintedPoint × List ℕ)) → Finds {T = Half} seen_point None right → right ≡ None
+missed_point None h = refl
+missed_point (Some x) h = absurd h
+
+-- one point alone
+no_more : (rest : List ℕ) → points_at 0 rest ≡ Some ([], rest)
+unfolding points_at
+no_more rest = refl
+
+pub one_found : (bytes : List ℕ) (p : PrintedPoint) (rest : List ℕ) → point_at bytes ≡ Some (p, rest) → points_at 1 bytes ≡ Some (p ∷ [], rest)
+unfolding joined
+one_found bytes p rest e = points_suc 0 bytes p rest e ∙ ap (joined p) (no_more rest)
+
+pub one_missed : (bytes : List ℕ) → point_at bytes ≡ None → points_at 1 bytes ≡ None
+one_missed bytes e = points_missed 0 bytes e
+
+pub one_corner_found : (bytes : List ℕ) (p : Half) (left : Bor (List ℕ)) (cs : List Half) → cs ≡ p ∷ [] → Finds seen_point (Some (p, left)) (point_at bytes)
+    → Finds (λ qs. map seen_point qs) (Some (cs, left)) (points_at 1 bytes)
+one_corner_found bytes p left cs is found =
+    let e = one_found bytes (seen_point p) left.now (found_point p left (point_at bytes) found) in
+    rw e (ap (map seen_point) is, refl)
+
+pub one_corner_missed : (bytes : List ℕ) → Finds {T = Half} seen_point None (point_at bytes) → Finds {T = List Half} (λ qs. map seen_point qs) None (points_at 1 bytes)
+one_corner_missed bytes found = rw (one_missed bytes (missed_point (point_at bytes) found)) tt

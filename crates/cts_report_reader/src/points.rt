@@ -80,8 +80,23 @@ pub fn corners(alloc: Global, bytes: &[u8]) -> Result<Option<(Corners, &[u8])>, 
     let Some((count, rest)) = bounded(bytes, b" via ", 0, 65_536) else {
         return Ok(None);
     };
+    if count == 1 {
+        return Ok(one_corner(rest));
+    }
     let Some((items, rest)) = points(alloc, count, rest)? else {
         return Ok(None);
     };
     Ok(Some((Corners::of(items), rest)))
+}
+
+// One corner, as most routes have, takes no memory.
+
+fn one_corner(bytes: &[u8]) -> Option<(Corners, &[u8])>
+    ensures found { Finds (λ cs. map seen_point cs) result (points_at 1 bytes.now) }
+    ensures seen { IfSome result (λ corners. All IsSeen corners.0) }
+{
+    match point(bytes) {
+        Some((corner, rest)) => Some((Corners::one(corner), rest)),
+        None => None,
+    }
 }
