@@ -1,5 +1,5 @@
 -- A place has one nearest free point: at most one by the order, and one by a scan of the die.
-use Rattle.std.proofs.Common.{◌≡◌, ℕ, zero, suc, ◌+◌, ◌<◌, ◌≤◌, ◌⊎◌, inl, inr, ℤ, pos, ◌+ℤ◌, ◌-ℤ◌, ◌*ℤ◌, ◌≤ℤ◌, ◌<ℤ◌, Bool, List, refl, sym, ap, ◌∙◌, subst, below_more, arith}
+use Rattle.std.proofs.Common.{◌≡◌, ℕ, zero, suc, ◌+◌, ◌<◌, ◌≤◌, ◌⊎◌, inl, inr, ℤ, pos, ◌+ℤ◌, ◌-ℤ◌, ◌*ℤ◌, ◌≤ℤ◌, Bool, List, refl, sym, ap, ◌∙◌, subst, arith}
 use Rattle.std.specs.Prelude.{All, unsigned_abs}
 use Rattle.std.proofs.lemmas.Bool.{cases_lt}
 use Rattle.std.proofs.lemmas.Int.{ints, by_lt_z}
@@ -10,10 +10,9 @@ use Rattle.cts_geom.specs.declared.bounds.Die.{Die}
 use Rattle.cts_geom.specs.Points.{spot_at, point_of, distance_of, manhattan_of}
 use Rattle.cts_block.specs.declared.blocks.Block.{Block}
 use Rattle.cts_block.specs.declared.whole.Whole.{Whole}
-use Rattle.cts_block.specs.FreePoints.{IsInDie, IsInside}
-use Rattle.cts_block.specs.NearestFree.{IsFree, IsLeastFree, IsNearestFree, LiesIn, NearestFreeIsOne, HasNearestFree}
+use Rattle.cts_block.specs.FreePoints.{IsInDie}
+use Rattle.cts_block.specs.NearestFree.{IsFree, IsLeastFree, LiesIn, NearestFreeIsOne, HasNearestFree}
 use Rattle.cts_block.specs.Search.{IsFreeAmong, IsAhead, IsObstacle, half_of}
-use Rattle.cts_block.proofs.ColumnLemmas.{IsClear, IsCovered}
 use Rattle.cts_block.proofs.MapLemmas.{free_from_parts, parts_of_free}
 use Rattle.cts_block.proofs.ObstacleLemmas.{clear_or_covered, least_from_first}
 use Rattle.cts_block.proofs.OrderLemmas.{ahead_refl, ahead_trans}

@@ -39,6 +39,7 @@ fn is_strictly_between(low: i64, high: i64, halves: i64) -> bool
     low < rounded_up(halves) && rounded_down(halves) < high
 }
 
+/// Whether the point lies in the closed die.
 pub fn is_in_die(die: &Die, point: Half) -> bool
     requires { IsPointInRange point }
     ensures { IsTrue result ↔ IsInDie die.now point }

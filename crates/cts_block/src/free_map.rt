@@ -38,7 +38,8 @@ impl Model for FreeMap {
 
 impl FreeMap {
     ghost use Rattle.std.specs.Prelude.{◌≡◌, ◌↔◌, All, IfOk, IsTrue};
-    ghost use Rattle.cts_geom.specs.Points.{IsSpotInRange};
+    ghost use Rattle.cts_geom.specs.Points.{IsSpotInRange, point_of};
+    ghost use Rattle.cts_block.specs.FreePoints.{IsOpenToBuffers};
     ghost use Rattle.cts_block.specs.NearestFree.{IsDieInRange, LiesIn, IsFree, IsNearestFree};
 
     /// Prepares blocks that lie in a die.
@@ -68,6 +69,14 @@ impl FreeMap {
         let point = halves(at);
         let index = index_for(&self.for_wires, &self.for_buffers, buffered);
         is_in_die(&self.die, point) && is_clear(index, point)
+    }
+
+    /// Whether this point, in the die or not, lies strictly inside no block of either kind.
+    pub fn is_open_to_buffers(&self, at: Spot) -> bool
+        requires { IsSpotInRange at }
+        ensures { IsTrue result ↔ All (IsOpenToBuffers (point_of at)) self.now.blocks }
+    {
+        is_clear(&self.for_buffers, halves(at))
     }
 
     /// Where a place moves that isn't free: to the nearest free point, as the function

@@ -5,7 +5,7 @@ use Rattle.std.specs.Int.{int_min, int_max}
 use Rattle.std.proofs.lemmas.Int.{ints, clamps, by_lt_z}
 use Rattle.cts_geom.specs.declared.points.Half.{Half}
 use Rattle.cts_route.specs.declared.wall.Wall.{Wall}
-use Rattle.cts_route.specs.Grid.{IsWithin, IsOnSegment}
+use Rattle.cts_tree.specs.Path.{IsWithin, IsOnSegment}
 use Rattle.cts_route.specs.Walls.{IsInWall, MissesWalls, Overlaps, Crosses, IsSpan}
 
 -- a coordinate of the interval that lies strictly between the edges

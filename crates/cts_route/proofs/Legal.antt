@@ -1,6 +1,6 @@
 -- The way of a route over its corners: its steps run along the axes, no point of it is outside the die or inside a block
 -- that stops wires, and it is as long as the path.
-use Rattle.std.proofs.Common.{◌≡◌, ◌≢◌, ℕ, suc, ◌+◌, ◌*◌, ◌<◌, true, false, ℤ, pos, ◌*ℤ◌, ◌≤ℤ◌, ◌<ℤ◌, ◌⊎◌, inl, inr, List, [], ◌∷◌, ◌++◌, length, get_or, refl, sym, ap, ap₂, subst, ◌∙◌, arith}
+use Rattle.std.proofs.Common.{◌≡◌, ◌≢◌, ℕ, suc, ◌+◌, ℤ, pos, ◌*ℤ◌, ◌≤ℤ◌, ◌⊎◌, inl, inr, List, [], ◌∷◌, ◌++◌, refl, sym, ap, subst, ◌∙◌, arith}
 use Rattle.std.specs.List.{All, Contains, flat_map}
 use Rattle.std.proofs.lemmas.Int.{ints, by_lt_z}
 use Rattle.std.proofs.lemmas.List.Elements.{All-append, All-cons, All-nil}
@@ -10,14 +10,13 @@ use Rattle.cts_geom.specs.Points.{manhattan_of}
 use Rattle.cts_block.specs.declared.blocks.Block.{Block}
 use Rattle.cts_block.specs.declared.blocks.Kind.{Kind}
 use Rattle.cts_block.specs.declared.blocks.Kind.TheVariants as kind
-use Rattle.cts_block.specs.FreePoints.{IsInDie, IsFreeForWire, IsBetween}
+use Rattle.cts_block.specs.FreePoints.{IsInDie, IsFreeForWire}
 use Rattle.cts_tree.specs.declared.route.Route.{Route}
-use Rattle.cts_tree.specs.Path.{points_along, path_length, HasAxisSteps, AllAlong, turns_of, Follows}
-use Rattle.cts_tree.specs.Path.{IsWithin as IsBetweenTwo, IsOnSegment as IsOnStep}
+use Rattle.cts_tree.specs.Path.{points_along, path_length, HasAxisSteps, IsWithin, IsOnSegment, AllAlong, turns_of, Follows}
 use Rattle.cts_route.specs.declared.direction.Direction.{Direction}
 use Rattle.cts_route.specs.declared.direction.Direction.TheVariants.{East, West, North, South}
-use Rattle.cts_route.specs.Grid.{IsAhead, IsJoined, IsGridPoint, IsOnSegment, Lines, edges_of, fixed_xs, fixed_ys, lines_of}
-use Rattle.cts_route.specs.Routes.{IsPath, IsRoute}
+use Rattle.cts_route.specs.Grid.{IsAhead, IsJoined, IsGridPoint, edges_of, lines_of}
+use Rattle.cts_route.specs.Routes.{IsPath}
 use Rattle.cts_route.specs.Laws.{HasCornersIn, IsLegalWay, RoutesAreLegal}
 use Rattle.cts_route.proofs.Turns.{goes_straight, goes_round, turns_on, turns_at, turns_of-one}
 
@@ -59,18 +58,18 @@ lengths_add North p q r h k = omega (arith, ints, h.0, h.1, k.0, k.1)
 lengths_add South p q r h k = omega (arith, ints, h.0, h.1, k.0, k.1)
 
 -- a coordinate between a and c is between a and b or between b and c
-parted : (a b c z : ℤ) → IsBetweenTwo a c z → IsBetweenTwo a b z ⊎ IsBetweenTwo b c z
+parted : (a b c z : ℤ) → IsWithin a c z → IsWithin a b z ⊎ IsWithin b c z
 parted a b c z (inl w) =
     by_lt_z z b (λ less. inl (inl (w.0, omega (arith, ints, less)))) (λ not_less. inr (inl (omega (arith, ints, not_less), w.1)))
 parted a b c z (inr w) =
     by_lt_z z b (λ less. inr (inr (w.0, omega (arith, ints, less)))) (λ not_less. inl (inr (omega (arith, ints, not_less), w.1)))
 
-along_line : (a b c z : ℤ) → a ≡ b → b ≡ c → IsBetweenTwo a c z → IsBetweenTwo a b z × IsBetweenTwo b c z
+along_line : (a b c z : ℤ) → a ≡ b → b ≡ c → IsWithin a c z → IsWithin a b z × IsWithin b c z
 along_line a b c z h k (inl w) = (inl (w.0, omega (arith, ints, w.1, k)), inl (omega (arith, ints, w.0, h), w.1))
 along_line a b c z h k (inr w) = (inr (omega (arith, ints, w.0, k), w.1), inr (w.0, omega (arith, ints, w.1, h)))
 
 -- a point of a step over a third point is on one of its two parts
-on_parts : (d : Direction) (p q r s : Half) → IsAhead d p q → IsAhead d q r → IsOnStep p r s → IsOnStep p q s ⊎ IsOnStep q r s
+on_parts : (d : Direction) (p q r s : Half) → IsAhead d p q → IsAhead d q r → IsOnSegment p r s → IsOnSegment p q s ⊎ IsOnSegment q r s
 on_parts East p q r s h k on =
     let y = along_line p.y q.y r.y s.y h.1 k.1 on.y in
     elim (parted p.x q.x r.x s.x on.x) [ inl x ↦ inl (record { x = x; y = y.0 }) | inr x ↦ inr (record { x = x; y = y.1 }) ]
@@ -84,7 +83,7 @@ on_parts South p q r s h k on =
     let x = along_line p.x q.x r.x s.x h.0 k.0 on.x in
     elim (parted p.y q.y r.y s.y on.y) [ inl y ↦ inl (record { x = x.0; y = y }) | inr y ↦ inr (record { x = x.1; y = y }) ]
 
-at_end : (a b : ℤ) → IsBetweenTwo a b b
+at_end : (a b : ℤ) → IsWithin a b b
 at_end a b = by_lt_z b a (λ less. inr (omega (arith, ints, less), omega (arith, ints, less)))
     (λ not_less. inl (omega (arith, ints, not_less), omega (arith, ints, not_less)))
 
@@ -94,7 +93,7 @@ module _ (P : Half → Type 0) where
   record Step (p n : Half) : Type 0 where
     direction : Direction
     ahead : IsAhead direction p n
-    free : (r : Half) → IsOnStep p n r → P r
+    free : (r : Half) → IsOnSegment p n r → P r
 
   Walks : Half → List Half → Half → Type 0
   Walks p [] q = p ≡ q
@@ -240,7 +239,7 @@ module _ (blocks : List Block) (die : Die) (from to : Half) (ordered_x : die.x1 
       let y : IsIn die.y1 die.y2 p.y = among (IsIn die.y1 die.y2) (lines_of blocks die from to).ys p.y lines_y grid.y in
       record { x = record { at_least = x.at_least; at_most = x.at_most }; y = record { at_least = y.at_least; at_most = y.at_most } }
 
-  between : (low high a b c : ℤ) → low ≤ℤ a → a ≤ℤ high → low ≤ℤ b → b ≤ℤ high → IsBetweenTwo a b c → (low ≤ℤ c) × (c ≤ℤ high)
+  between : (low high a b c : ℤ) → low ≤ℤ a → a ≤ℤ high → low ≤ℤ b → b ≤ℤ high → IsWithin a b c → (low ≤ℤ c) × (c ≤ℤ high)
   between low high a b c la ha lb hb (inl w) = (omega (arith, ints, w.0), omega (arith, ints, w.1))
   between low high a b c la ha lb hb (inr w) = (omega (arith, ints, w.0), omega (arith, ints, w.1))
 
@@ -255,7 +254,7 @@ module _ (blocks : List Block) (die : Die) (from to : Half) (ordered_x : die.x1 
         let y = between _ _ p.y n.y r.y p_in.y.at_least p_in.y.at_most n_in.y.at_least n_in.y.at_most on.y in
         record {
           in_die = record { x = record { at_least = x.0; at_most = x.1 }; y = record { at_least = y.0; at_most = y.1 } };
-          clear = j.clear r (record { x = on.x; y = on.y });
+          clear = j.clear r on;
         };
   }
 

@@ -12,7 +12,8 @@ use Rattle.cts_route.specs.declared.direction.Direction.{Direction}
 use Rattle.cts_route.specs.declared.direction.Direction.TheVariants.{East, West, North, South}
 use Rattle.cts_route.specs.declared.graph.Graph.{Graph}
 use Rattle.cts_route.specs.declared.wall.Wall.{Wall}
-use Rattle.cts_route.specs.Grid.{IsAhead, Lines, IsGridPoint, IsWithin, IsClear, IsJoined}
+use Rattle.cts_tree.specs.Path.{IsWithin}
+use Rattle.cts_route.specs.Grid.{IsAhead, Lines, IsGridPoint, IsClear, IsJoined}
 use Rattle.cts_route.specs.LineLists.{line_at, IsAscending}
 use Rattle.cts_route.specs.Search.{IsStep, AreLabels, IsSettled}
 use Rattle.cts_route.specs.Walls.{MissesWalls, AreWallsOf}

@@ -5,7 +5,8 @@ use Rattle.cts_geom.specs.declared.points.Half.{Half}
 use Rattle.cts_block.specs.declared.blocks.Block.{Block}
 use Rattle.cts_route.specs.declared.direction.Direction.{Direction}
 use Rattle.cts_route.specs.declared.direction.Direction.TheVariants.{East, West, North, South}
-use Rattle.cts_route.specs.Grid.{IsAhead, IsWithin, IsOnSegment, IsClear}
+use Rattle.cts_tree.specs.Path.{IsWithin, IsOnSegment}
+use Rattle.cts_route.specs.Grid.{IsAhead, IsClear}
 
 within_front : (a b c r : ℤ) → IsWithin a c b → IsWithin a b r → IsWithin a c r
 within_front a b c r (inl (lo, hi)) (inl (l, h)) = inl (omega (arith, ints), omega (arith, ints))

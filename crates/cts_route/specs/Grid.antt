@@ -1,5 +1,5 @@
 -- The routing grid: its lines, its points, and which neighbouring points are joined. Everything is in half nm.
-use Rattle.std.specs.Prelude.{◌≡◌, ℕ, ◌⊎◌, ℤ, pos, ◌*ℤ◌, ◌≤ℤ◌, ◌<ℤ◌, List, [], ◌∷◌, All, Contains}
+use Rattle.std.specs.Prelude.{◌≡◌, ℕ, ℤ, pos, ◌*ℤ◌, ◌<ℤ◌, List, [], ◌∷◌, All, Contains}
 use Rattle.std.specs.List.{flat_map}
 use Rattle.cts_geom.specs.declared.bounds.Die.{Die}
 use Rattle.cts_geom.specs.declared.points.Half.{Half}
@@ -7,6 +7,7 @@ use Rattle.cts_block.specs.declared.blocks.Block.{Block}
 use Rattle.cts_block.specs.declared.blocks.Kind.{Kind}
 use Rattle.cts_block.specs.declared.blocks.Kind.TheVariants.{Buffer}
 use Rattle.cts_block.specs.FreePoints.{IsOpenToWires}
+use Rattle.cts_tree.specs.Path.{IsOnSegment}
 use Rattle.cts_route.specs.declared.direction.Direction.{Direction}
 use Rattle.cts_route.specs.declared.direction.Direction.TheVariants.{East, West, North, South}
 
@@ -50,15 +51,6 @@ lines_of blocks die from to =
 pub record IsGridPoint (lines : Lines) (p : Half) : Type 0 where
   pub x : Contains lines.xs p.x
   pub y : Contains lines.ys p.y
-
--- c lies between a and b, or is one of them
-abbrev pub IsWithin : ℤ → ℤ → ℤ → Type 0
-IsWithin a b c = ((a ≤ℤ c) × (c ≤ℤ b)) ⊎ ((b ≤ℤ c) × (c ≤ℤ a))
-
--- r is a point of the segment from p to q, which runs along an axis
-pub record IsOnSegment (p q r : Half) : Type 0 where
-  pub x : IsWithin p.x q.x r.x
-  pub y : IsWithin p.y q.y r.y
 
 -- no point of the segment lies strictly inside a block of kind All
 abbrev pub IsClear : List Block → Half → Half → Type 0

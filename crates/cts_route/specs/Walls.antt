@@ -4,8 +4,9 @@ use Rattle.std.specs.Int.{int_min, int_max}
 use Rattle.cts_geom.specs.declared.points.Half.{Half}
 use Rattle.cts_block.specs.declared.blocks.Block.{Block}
 use Rattle.cts_block.specs.FreePoints.{IsOpenToWires}
+use Rattle.cts_tree.specs.Path.{IsOnSegment}
 use Rattle.cts_route.specs.declared.wall.Wall.{Wall}
-use Rattle.cts_route.specs.Grid.{IsOnSegment}
+use Rattle.cts_route.specs.declared.walls.Walls.{Walls}
 
 -- the point lies strictly inside the wall
 pub record IsInWall (wall : Wall) (r : Half) : Type 0 where
@@ -52,3 +53,7 @@ pub record IsNoWall (block : Block) : Type 0 where
 pub record AreWallsOf (blocks : List Block) (walls : List Wall) : Type 0 where
   pub outside : (r : Half) → All (IsOpenToWires r) blocks → IsOutside walls r
   pub open_there : (r : Half) → IsOutside walls r → All (IsOpenToWires r) blocks
+
+-- what is prepared keeps wires out of these blocks
+abbrev pub KeepsOut : List Block → Walls → Type 0
+KeepsOut blocks walls = AreWallsOf blocks walls.walls.items

@@ -21,7 +21,9 @@ mod lines;
 mod table;
 mod walk;
 mod wall;
+mod walls;
 mod window;
 
 pub use end::RouteEnd;
 pub use grid::{Grid, route};
+pub use walls::Walls;
