@@ -1,0 +1,51 @@
+-- The told tree, node by node: what a report prints is what the types of the code hold.
+use Rattle.std.proofs.Common.{◌≡◌, ℕ, ◌*◌, ◌/◌, ℤ, List, [], ◌∷◌, map, refl, sym, ap, ap₂, ◌∙◌, arith}
+use Rattle.std.specs.Prelude.{pos, ◌≤ℤ◌, unsigned_abs}
+use Rattle.std.specs.List.{All}
+use Rattle.std.proofs.lemmas.List.Elements.{All-head, All-tail}
+use Rattle.std.proofs.lemmas.Int.{ints}
+use Rattle.cts_geom.specs.declared.points.Half.{Half}
+use Rattle.cts_geom.specs.declared.points.Spot.{Spot}
+use Rattle.cts_units.specs.declared.params.Sink.{Sink}
+use Rattle.cts_tree.specs.declared.nodes.NodeKind.{NodeKind}
+use Rattle.cts_tree.specs.declared.nodes.TreeNode.{TreeNode}
+use Rattle.cts_report_reader.specs.declared.node.ReportNode.{ReportNode}
+use Rattle.cts_report_reader.specs.Nodes.{seen_kind, seen_node}
+use Rattle.cts_report_reader.specs.Seen.{IsSeen, seen_point}
+use Rattle.cts_check.specs.Told.{told_point, told_place, told_kind, told_node}
+
+pub half_same : (p q : Half) → p.x ≡ q.x → p.y ≡ q.y → p ≡ q
+half_same p q x y =
+    ap (λ (v : ℤ). let h : Half = record { x = v; y = p.y } in h) x
+    ∙ ap (λ (v : ℤ). let h : Half = record { x = q.x; y = v } in h) y
+
+-- a coordinate is told back
+coordinate_again : (x : ℤ) → pos 0 ≤ℤ x → pos (5 * unsigned_abs x / 5) ≡ x
+coordinate_again x h = grind (arith, ints, h)
+
+pub point_again : (p : Half) → IsSeen p → told_point (seen_point p) ≡ p
+point_again p seen =
+    half_same (told_point (seen_point p)) p (coordinate_again p.x (seen.x.0)) (coordinate_again p.y (seen.y.0))
+
+pub corners_again : (ps : List Half) → All IsSeen ps → map told_point (map seen_point ps) ≡ ps
+corners_again [] seen = refl
+corners_again (p ∷ ps) seen =
+    ap₂ (λ q qs. q ∷ qs) (point_again p (All-head IsSeen p ps seen)) (corners_again ps (All-tail IsSeen p ps seen))
+
+-- a node of these parts is the one that is told
+pub node_again : (sinks : List Sink) (node : ReportNode) (kind : NodeKind) (place : Spot) (wire : ℕ) → All IsSeen node.corners
+    → kind ≡ told_kind sinks (seen_kind node.kind) → place ≡ told_place (seen_point node.place) → wire ≡ node.wire
+    → ◌≡◌ {A = TreeNode} (record { kind = kind; place = place; wire = wire; route = record { corners = node.corners; length = 0 } })
+    (told_node sinks (seen_node node))
+node_again sinks node kind place wire seen kind_is place_is wire_is =
+    let made : NodeKind → Spot → ℕ → List Half → TreeNode =
+    λ k p w cs. record { kind = k; place = p; wire = w; route = record { corners = cs; length = 0 } } in
+    ap (λ k. made k place wire node.corners) kind_is
+    ∙ ap (λ p. made (told_kind sinks (seen_kind node.kind)) p wire node.corners) place_is
+    ∙ ap (λ w. made (told_kind sinks (seen_kind node.kind)) (told_place (seen_point node.place)) w node.corners) wire_is
+    ∙ ap (λ cs. made (told_kind sinks (seen_kind node.kind)) (told_place (seen_point node.place)) node.wire cs)
+    (sym (corners_again node.corners seen))
+
+pub unchanged : {A : Type 0} (xs : List A) → map (λ x. x) xs ≡ xs
+unchanged [] = refl
+unchanged (x ∷ xs) = ap (λ ys. x ∷ ys) (unchanged xs)

@@ -1,0 +1,9 @@
+pub mod Told
+pub mod Claims
+pub mod Marks
+pub mod Rules
+pub mod Judgement
+pub mod Ranges
+pub mod Ways
+pub mod Verdict
+pub mod Laws

@@ -1,0 +1,94 @@
+//! The rule on figures: each printed figure is that of its definition.
+
+ghost use Rattle.std.specs.Prelude.{◌≡◌, ◌*◌, ◌^◌, ◌≤◌, ◌↔◌, length, All, IsTrue};
+ghost use Rattle.cts_elmore.specs.Figures.{AreFiguresInRange, IsFigureInRange};
+ghost use Rattle.cts_report.specs.Report.{printed_totals};
+ghost use Rattle.cts_report_reader.specs.Totals.{seen_totals};
+ghost use Rattle.std.specs.Bool.{OnFalse, OnTrue};
+ghost use Rattle.cts_check.specs.Claims.{Agrees, CanBeCompared, IsClaimOf, IsClaimedAt};
+ghost use Rattle.cts_check.specs.Rules.{IsFirstFailing};
+
+use crate::told::Claim;
+use cts_elmore::{Figures, NodeFigure};
+use cts_report_reader::ReportTotals;
+use cts_units::slew_tenths;
+use rayon::prelude::*;
+use std::thread::Threads;
+
+/// A doubled delay of 10^-27 s in 10^-16 ps.
+fn printed_time(delay: u128) -> u128
+    requires { delay ≤ 2 ^ 121 }
+    ensures { result ≡ 5 * delay }
+{
+    5 * delay
+}
+
+/// Whether a node's figures are those that a report prints of it.
+fn is_claim_of(claim: &Claim, figure: &NodeFigure) -> bool
+    requires { IsFigureInRange figure.now }
+    ensures { IsTrue result ↔ IsClaimOf claim.now figure.now }
+{
+    claim.load == u128::from(figure.below)
+        && claim.delay == printed_time(figure.delay)
+        && claim.slew == slew_tenths(figure.stage)
+        && claim
+            .residue
+            .is_none_or(|residue| residue == printed_time(figure.residue))
+}
+
+/// Whether the figures of a whole tree are those that a report prints of it.
+fn are_totals_of(totals: &ReportTotals, figures: &Figures) -> bool
+    requires { AreFiguresInRange figures.now }
+    ensures { IsTrue result ↔ (seen_totals totals.now ≡ printed_totals figures.now) }
+{
+    totals.source_load == u128::from(figures.source_load)
+        && totals.wire_total == u128::from(figures.wire_total)
+        && totals.greatest == printed_time(figures.greatest)
+        && totals.least == printed_time(figures.least)
+        && totals.skew == printed_time(figures.skew)
+        && totals.bound == printed_time(figures.bound)
+        && totals.load_met == figures.load_met
+        && totals.slew_met == figures.slew_met
+}
+
+/// The number of the first node of which a wrong figure is printed. The nodes are looked at on several
+/// threads where there are processors for them.
+fn first_wrong_node(
+    rt: &(impl Threads + Sync),
+    claims: &[Claim],
+    figures: &[NodeFigure],
+) -> Option<usize>
+    requires few { length claims.now ≤ 131071 }
+    requires one_each { length figures.now ≡ length claims.now }
+    requires in_range { All IsFigureInRange figures.now }
+    ensures { IsFirstFailing (IsClaimedAt claims.now figures.now) result }
+{
+    (0..claims.len()).into_par_iter().position_first(
+        rt,
+        |k: usize| -> bool
+            requires { CanBeCompared claims.now figures.now k }
+            ensures { OnTrue result (¬ IsClaimedAt claims.entry.now figures.entry.now k)
+                × OnFalse result (IsClaimedAt claims.entry.now figures.entry.now k) }
+        { !is_claim_of(&claims[k], &figures[k]) },
+    )
+}
+
+/// The first number at which a printed figure is wrong: that of a node, or the number of nodes where
+/// a figure of the whole tree is.
+pub fn first_wrong_figure(
+    rt: &(impl Threads + Sync),
+    claims: &[Claim],
+    totals: &ReportTotals,
+    figures: &Figures,
+) -> Option<u32>
+    requires few { length claims.now ≤ 131071 }
+    requires one_each { length figures.now.nodes ≡ length claims.now }
+    requires in_range { AreFiguresInRange figures.now }
+    ensures { IsFirstFailing (Agrees claims.now totals.now figures.now) result }
+{
+    match first_wrong_node(rt, claims, figures.nodes.items()) {
+        Some(number) => Some(number as u32),
+        None if are_totals_of(totals, figures) => None,
+        None => Some(claims.len() as u32),
+    }
+}

@@ -1,0 +1,124 @@
+//! The tree that a report tells, and what the report says of its nodes beside it.
+
+ghost use Rattle.std.specs.Prelude.{◌≡◌, ◌+◌, ◌/◌, ◌%◌, ◌≤◌, List, length, map, All, IfOk};
+ghost use Rattle.cts_units.specs.Ids.{HasDistinctIds};
+ghost use Rattle.cts_units.specs.declared.params.Sink.{Sink};
+ghost use Rattle.cts_report_reader.specs.Nodes.{seen_kind, seen_node, seen_nodes};
+ghost use Rattle.cts_report_reader.specs.Seen.{IsSeen, seen_point};
+ghost use Rattle.cts_report_reader.specs.Bounds.{IsPrintedPlace};
+ghost use Rattle.cts_check.specs.Claims.{IsTellable, claim_of as spec_claim_of};
+ghost use Rattle.cts_check.specs.Told.{told_kind as spec_told_kind, told_node as spec_told_node, told_nodes, told_place};
+
+use crate::places::{ids_of, place_of};
+use cts_geom::{Half, Spot, spot_of_half};
+use cts_num::NoMemory;
+use cts_report_reader::{ReportKind, ReportNode};
+use cts_tree::{NodeKind, Route, TreeNode};
+use cts_units::Sink;
+use indexmap::IndexSet;
+use std::alloc::Global;
+
+/// The figures that a report prints of a node.
+#[derive(Clone, Copy, Debug, PartialEq, Eq)]
+pub struct Claim {
+    /// The load below it in zF.
+    pub load: u128,
+    /// The residue of a pair in 10^-16 ps.
+    pub residue: Option<u128>,
+    /// The delay at its place in 10^-16 ps.
+    pub delay: u128,
+    /// The slew at its place in 10^-16 ps.
+    pub slew: u128,
+}
+
+/// The figures that a report prints of this node.
+fn claim_of(node: &ReportNode) -> Claim
+    ensures { result ≡ spec_claim_of (seen_node node.now) }
+{
+    Claim {
+        load: node.load,
+        residue: match node.kind {
+            ReportKind::Leaf { .. } => None,
+            ReportKind::Pair { residue, .. } => Some(residue),
+        },
+        delay: node.delay,
+        slew: node.slew,
+    }
+}
+
+/// What a node of a tree is, with the places of the sinks by their ids.
+fn told_kind(ids: &IndexSet<u32>, kind: ReportKind) -> NodeKind
+    requires { length ids.now.keys ≤ 65536 }
+    ensures { (sinks : List Sink) → ids.now.keys ≡ map (λ s. s.id) sinks
+        → result ≡ spec_told_kind sinks (seen_kind kind) }
+{
+    match kind {
+        ReportKind::Leaf { id } => NodeKind::Leaf {
+            id,
+            sink: place_of(ids, id),
+        },
+        ReportKind::Pair {
+            left,
+            right,
+            buffer,
+            ..
+        } => NodeKind::Pair {
+            left,
+            right,
+            buffer,
+        },
+    }
+}
+
+/// The spot of a node's place.
+fn place_at(point: Half) -> Spot
+    requires seen { IsSeen point }
+    requires place { IsPrintedPlace (seen_point point) }
+    ensures { result ≡ told_place (seen_point point) }
+{
+    match spot_of_half(point) {
+        Some(spot) => spot,
+        None => unreachable!(),
+    }
+}
+
+/// A node of a tree. A report does not print how long its route is.
+fn told_node(ids: &IndexSet<u32>, node: ReportNode) -> TreeNode
+    requires few { length ids.now.keys ≤ 65536 }
+    requires node { IsTellable node }
+    ensures { (sinks : List Sink) → ids.now.keys ≡ map (λ s. s.id) sinks
+        → result ≡ spec_told_node sinks (seen_node node) }
+{
+    TreeNode {
+        kind: told_kind(ids, node.kind),
+        place: place_at(node.place),
+        wire: u64::from(node.wire),
+        route: Route {
+            corners: node.corners,
+            length: 0,
+        },
+    }
+}
+
+/// The nodes of the tree that a report tells, by number, and beside them the figures that it prints of
+/// each.
+pub fn told_nodes_of(
+    alloc: Global,
+    sinks: &[Sink],
+    nodes: Vec<ReportNode>,
+) -> Result<(Vec<TreeNode>, Vec<Claim>), NoMemory>
+    requires ids { HasDistinctIds (λ s. s.id) sinks.now }
+    requires few { length sinks.now ≤ 65536 }
+    requires nodes { All IsTellable nodes.items }
+    ensures tree { IfOk result (λ r. r.0.items ≡ told_nodes sinks.now (seen_nodes nodes.items)) }
+    ensures claims { IfOk result (λ r. r.1.items ≡ map spec_claim_of (seen_nodes nodes.items)) }
+{
+    let ids = ids_of(alloc, sinks)?;
+    let mut tree = Vec::with_capacity(alloc, nodes.len())?;
+    let mut claims = Vec::with_capacity(alloc, nodes.len())?;
+    for node in nodes {
+        claims.push(claim_of(&node))?;
+        tree.push(told_node(&ids, node))?;
+    }
+    Ok((tree, claims))
+}
