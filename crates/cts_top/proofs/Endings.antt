@@ -14,9 +14,13 @@ use Rattle.cts_top.specs.declared.stop.Answer.TheVariants as answer
 use Rattle.cts_top.specs.declared.stop.Stop.{Stop}
 use Rattle.cts_top.specs.declared.stop.Stop.TheVariants as stop
 use Rattle.cts_top.specs.declared.words.Form.{Form}
-use Rattle.cts_top.specs.declared.words.Form.TheVariants.{Synth, Make, Job}
+use Rattle.cts_top.specs.declared.words.Form.TheVariants.{Synth, Check, Make, Job}
 use Rattle.cts_top.specs.declared.outcome.Status.TheVariants as status
-use Rattle.cts_top.specs.Input.{Spells, input_of}
+use Rattle.cts_check.specs.Verdict.{IsVerdict}
+use Rattle.cts_check.proofs.Verdicts.{verdict_is_one_lem}
+use Rattle.cts_top.specs.Input.{Spells, SpellsFront, front_of, input_of}
+use Rattle.cts_top.specs.Verdict.{answer_of_verdict}
+use Rattle.cts_top.proofs.Fronts.{front_refuses_all}
 use Rattle.cts_top.specs.Notes.{note_of, stop_note}
 use Rattle.cts_top.specs.Outcome.{IsNote, status_of}
 use Rattle.cts_top.specs.Right.{Explains, IsRight, IsRightKind, OfInput, RefusesInput}
@@ -28,12 +32,16 @@ use Rattle.cts_top.proofs.Valid.{synthesis_same}
 pub on_input : (form : Form) (left : Option (List ℕ)) (P Q : List ℕ → Type 0) → ((b : List ℕ) → P b → Q b) → OfInput form left P → OfInput form left Q
 on_input Synth None P Q f p = tt
 on_input Synth (Some b) P Q f p = f b p
+on_input Check None P Q f p = tt
+on_input Check (Some b) P Q f p = f b p
 on_input (Make seed sinks) left P Q f p = f [] p
 on_input (Job seed sinks) left P Q f p = f [] p
 
 pub of_all : (form : Form) (left : Option (List ℕ)) (Q : List ℕ → Type 0) → ((b : List ℕ) → Q b) → OfInput form left Q
 of_all Synth None Q q = tt
 of_all Synth (Some b) Q q = q b
+of_all Check None Q q = tt
+of_all Check (Some b) Q q = q b
 of_all (Make seed sinks) left Q q = q []
 of_all (Job seed sinks) left Q q = q []
 
@@ -43,6 +51,19 @@ one_instance bytes i j s t = let e : Ok i ≡ Ok j = sym s.read ∙ t.read in cc
 
 refused_spells_none : (bytes : List ℕ) (i : Parts) (r : Refusal) → input_of bytes ≡ Err r → Spells bytes i → ⊥
 refused_spells_none bytes i r e s = let f = sym e ∙ s.read in cc
+
+-- an input has one instance at its front, and one rest
+abbrev Front : Type 0
+Front = Parts × List ℕ
+
+one_front : (bytes : List ℕ) (i j : Parts) (r s : List ℕ) → SpellsFront bytes i r → SpellsFront bytes j s → ◌≡◌ {A = Front} (i, r) (j, s)
+one_front bytes i j r s f g = ok_same (i, r) (j, s) (sym f.read ∙ g.read)
+  where
+    ok_same : (x y : Front) → ◌≡◌ {A = Result Front Refusal} (Ok x) (Ok y) → x ≡ y
+    ok_same x y e = cc
+
+refused_begins_none : (bytes : List ℕ) (i : Parts) (rest : List ℕ) (r : Refusal) → front_of bytes ≡ Err r → SpellsFront bytes i rest → ⊥
+refused_begins_none bytes i rest r e s = let f = sym e ∙ s.read in cc
 
 -- an instance has one synthesis, and so one kind of text
 same_kind : (tell : TreeText) (i : Parts) (kind : Answer) (text : List ℕ) (s : Synthesis) → TellsSynthesis tell i kind text → IsSynthesis i s
@@ -58,6 +79,10 @@ one_kind Synth bytes kind other text right k =
     let same : i ≡ k.0 = one_instance bytes i k.0 right.1 k.1 in
     let there : IsSynthesis i k.2.0 = subst (λ x. IsSynthesis x k.2.0) (sym same) k.2.1 in
     ap (λ a. status_of (Ok a)) (same_kind report_text i kind text k.2.0 right.2 there ∙ sym k.2.2)
+one_kind Check bytes kind other text (i, report, spells, tells) (j, others, begins, (v, is, kind_is)) =
+    let same : ◌≡◌ {A = Front} (i, report) (j, others) = one_front bytes i j report others spells begins in
+    let there : IsVerdict i report v = subst (λ (f : Front). IsVerdict (f.0) (f.1) v) (sym same) is in
+    ap (λ a. status_of (Ok a)) (tells.kind_is ∙ ap answer_of_verdict (verdict_is_one_lem i report tells.verdict v tells.valid tells.is_verdict there) ∙ sym kind_is)
 one_kind (Make seed sinks) bytes kind other text right k = ap (λ a. status_of (Ok a)) (right.0 ∙ sym k)
 one_kind (Job seed sinks) bytes kind other text right k =
     ap (λ a. status_of (Ok a)) (same_kind summary_text (made_parts seed sinks) kind text k.0 right k.1 ∙ sym k.2)
@@ -65,23 +90,27 @@ one_kind (Job seed sinks) bytes kind other text right k =
 -- a stop for its input has no right text
 none_too_long : (form : Form) (bytes : List ℕ) (kind : Answer) → Explains form stop.TooLong bytes → IsRightKind form bytes kind → ⊥
 none_too_long Synth bytes kind x k = omega (arith, x, k.1.within)
+none_too_long Check bytes kind x k = omega (arith, x, k.2.within)
 none_too_long (Make seed sinks) bytes kind x k = x
 none_too_long (Job seed sinks) bytes kind x k = x
 
 none_refused : (form : Form) (bytes : List ℕ) (line : ℕ) (cause : _) (kind : Answer) → Explains form (stop.Refused line cause) bytes
     → IsRightKind form bytes kind → ⊥
 none_refused Synth bytes line cause kind x k = refused_spells_none bytes k.0 (line, cause) x.1 k.1
+none_refused Check bytes line cause kind x k = refused_begins_none bytes k.0 k.1 (line, cause) x.1 k.2
 none_refused (Make seed sinks) bytes line cause kind x k = x
 none_refused (Job seed sinks) bytes line cause kind x k = x
 
 -- the input of a stop that refuses it
 refused_too_long : (form : Form) (bytes : List ℕ) → Explains form stop.TooLong bytes → RefusesInput form bytes
 refused_too_long Synth bytes x = λ i s. omega (arith, x, s.within)
+refused_too_long Check bytes x = λ i rest s. omega (arith, x, s.within)
 refused_too_long (Make seed sinks) bytes x = x
 refused_too_long (Job seed sinks) bytes x = x
 
 refused_line : (form : Form) (bytes : List ℕ) (line : ℕ) (cause : _) → Explains form (stop.Refused line cause) bytes → RefusesInput form bytes
 refused_line Synth bytes line cause x = λ i s. refused_spells_none bytes i (line, cause) x.1 s
+refused_line Check bytes line cause x = λ i rest s. refused_begins_none bytes i rest (line, cause) x.1 s
 refused_line (Make seed sinks) bytes line cause x = x
 refused_line (Job seed sinks) bytes line cause x = x
 
@@ -89,6 +118,7 @@ pub refused_at : (form : Form) (ending : Result Answer Stop) (left : Option (Lis
     → status_of ending ≡ status.Refused → OfInput form left (RefusesInput form)
 refused_at form (Ok answer.Text) left x e = absurd cc
 refused_at form (Ok answer.NoTree) left x e = absurd cc
+refused_at form (Ok answer.No) left x e = absurd cc
 refused_at form (Err stop.Words) left x e = absurd cc
 refused_at form (Err stop.TooLong) left x e = on_input form left (Explains form stop.TooLong) (RefusesInput form) (refused_too_long form) x
 refused_at form (Err (stop.Refused line cause)) left x e =
@@ -120,6 +150,7 @@ complete_at form E (Err stop.NoMemory) left old new d x w r k = of_all form left
 -- an input with a right text is not refused
 not_refused : (form : Form) (bytes : List ℕ) (kind : Answer) (text : List ℕ) → IsRight form bytes kind text → RefusesInput form bytes → ⊥
 not_refused Synth bytes kind text right n = n right.0 right.1
+not_refused Check bytes kind text right n = n right.0 right.1 right.2
 not_refused (Make seed sinks) bytes kind text right n = n
 not_refused (Job seed sinks) bytes kind text right n = n
 
@@ -147,6 +178,7 @@ pub done_at : (form : Form) (E : Type 0) (ending : Result Answer Stop) (left old
     → E × OfInput form left (λ bytes. IsAnswered (IsRight form bytes) answer.Text old new)
 done_at form E (Ok answer.Text) left old new s d = d
 done_at form E (Ok answer.NoTree) left old new s d = absurd cc
+done_at form E (Ok answer.No) left old new s d = absurd cc
 done_at form E (Err stop.Words) left old new s d = absurd cc
 done_at form E (Err stop.TooLong) left old new s d = absurd cc
 done_at form E (Err (stop.Refused line cause)) left old new s d = absurd cc
@@ -159,6 +191,7 @@ pub no_tree_at : (form : Form) (E : Type 0) (ending : Result Answer Stop) (left 
     → E × OfInput form left (λ bytes. IsAnswered (IsRight form bytes) answer.NoTree old new)
 no_tree_at form E (Ok answer.NoTree) left old new s d = d
 no_tree_at form E (Ok answer.Text) left old new s d = absurd cc
+no_tree_at form E (Ok answer.No) left old new s d = absurd cc
 no_tree_at form E (Err stop.Words) left old new s d = absurd cc
 no_tree_at form E (Err stop.TooLong) left old new s d = absurd cc
 no_tree_at form E (Err (stop.Refused line cause)) left old new s d = absurd cc
@@ -166,11 +199,25 @@ no_tree_at form E (Err stop.ReadFault) left old new s d = absurd cc
 no_tree_at form E (Err stop.WriteFault) left old new s d = absurd cc
 no_tree_at form E (Err stop.NoMemory) left old new s d = absurd cc
 
+pub no_at : (form : Form) (E : Type 0) (ending : Result Answer Stop) (left old new : Option (List ℕ)) → status_of ending ≡ status.No
+    → IfOk ending (λ kind. E × OfInput form left (λ bytes. IsAnswered (IsRight form bytes) kind old new))
+    → E × OfInput form left (λ bytes. IsAnswered (IsRight form bytes) answer.No old new)
+no_at form E (Ok answer.NoTree) left old new s d = absurd cc
+no_at form E (Ok answer.Text) left old new s d = absurd cc
+no_at form E (Ok answer.No) left old new s d = d
+no_at form E (Err stop.Words) left old new s d = absurd cc
+no_at form E (Err stop.TooLong) left old new s d = absurd cc
+no_at form E (Err (stop.Refused line cause)) left old new s d = absurd cc
+no_at form E (Err stop.ReadFault) left old new s d = absurd cc
+no_at form E (Err stop.WriteFault) left old new s d = absurd cc
+no_at form E (Err stop.NoMemory) left old new s d = absurd cc
+
 -- the one ending of each status of a failure
 pub stop_at : (ending : Result Answer Stop) → status_of ending ≡ status.ReadFault → IsErrOf ending stop.ReadFault
 stop_at (Err stop.ReadFault) e = refl
 stop_at (Ok answer.Text) e = absurd cc
 stop_at (Ok answer.NoTree) e = absurd cc
+stop_at (Ok answer.No) e = absurd cc
 stop_at (Err stop.Words) e = absurd cc
 stop_at (Err stop.TooLong) e = absurd cc
 stop_at (Err (stop.Refused line cause)) e = absurd cc
@@ -181,6 +228,7 @@ pub write_stop_at : (ending : Result Answer Stop) → status_of ending ≡ statu
 write_stop_at (Err stop.WriteFault) e = refl
 write_stop_at (Ok answer.Text) e = absurd cc
 write_stop_at (Ok answer.NoTree) e = absurd cc
+write_stop_at (Ok answer.No) e = absurd cc
 write_stop_at (Err stop.Words) e = absurd cc
 write_stop_at (Err stop.TooLong) e = absurd cc
 write_stop_at (Err (stop.Refused line cause)) e = absurd cc
@@ -194,10 +242,14 @@ unfolding note_of stop_note
 note_refused form left stop.Words x = refl
 note_refused Synth None stop.TooLong x = inl refl
 note_refused Synth (Some bytes) stop.TooLong x = inl (x, refl)
+note_refused Check None stop.TooLong x = inl refl
+note_refused Check (Some bytes) stop.TooLong x = inl (x, refl)
 note_refused (Make seed sinks) left stop.TooLong x = absurd x
 note_refused (Job seed sinks) left stop.TooLong x = absurd x
 note_refused Synth None (stop.Refused line cause) x = inr (line, cause, refl)
 note_refused Synth (Some bytes) (stop.Refused line cause) x = inr (x.0, line, cause, x.1, refl)
+note_refused Check None (stop.Refused line cause) x = inr (line, cause, refl)
+note_refused Check (Some bytes) (stop.Refused line cause) x = inr (x.0, line, cause, front_refuses_all bytes (line, cause) x.1, refl)
 note_refused (Make seed sinks) left (stop.Refused line cause) x = absurd x
 note_refused (Job seed sinks) left (stop.Refused line cause) x = absurd x
 note_refused form left stop.ReadFault x = refl
@@ -209,6 +261,7 @@ pub note_at : (form : Form) (ending : Result Answer Stop) (left : Option (List �
 unfolding note_of stop_note
 note_at form (Ok answer.Text) left x = refl
 note_at form (Ok answer.NoTree) left x = refl
+note_at form (Ok answer.No) left x = refl
 note_at form (Err end) left x = note_refused form left end x
 
 -- a text that was written where no fault rose

@@ -2,7 +2,7 @@
 use Rattle.std.proofs.Common.{◌≡◌, ◌≢◌, ◌≤◌, ◌↔◌, ℕ, List, [], ◌∷◌, Option, Some, None, codes, map, subst, ap, arith}
 use Rattle.std.specs.Option.{option_zip}
 use Rattle.cts_top.specs.declared.words.Form.{Form}
-use Rattle.cts_top.specs.declared.words.Form.TheVariants.{Synth, Make, Job}
+use Rattle.cts_top.specs.declared.words.Form.TheVariants.{Synth, Check, Make, Job}
 use Rattle.cts_top.specs.Words.{AreMade, AsksFor, IsNumber, IsWithinLimits}
 
 -- a seed and a number of sinks, each found where it is within its limits
@@ -41,6 +41,7 @@ made_zip seed_word sinks_word (Some a) (Some b) p q s n = (
 -- what is asked for is within its limits
 pub asked_within : (words : List (List ℕ)) (form : Form) → AsksFor words form → IsWithinLimits form
 asked_within words Synth a = tt
+asked_within words Check a = tt
 asked_within words (Make seed sinks) a = (a.3.seed_within, a.3.some_sink, a.3.sinks_within)
 asked_within words (Job seed sinks) a = (a.4.seed_within, a.4.some_sink, a.4.sinks_within)
 
@@ -48,11 +49,13 @@ module _ (name s n : List ℕ) (z : Option (ℕ × ℕ)) (parts : (x y : ℕ) �
   -- three words
   pub make_other : name ≢ codes "make" → (form : Form) → (None ≡ Some form) ↔ AsksFor (name ∷ s ∷ n ∷ []) form
   make_other other Synth = (λ e. absurd cc, λ a. absurd (let e = a.1 in cc))
+  make_other other Check = (λ e. absurd cc, λ a. absurd cc)
   make_other other (Make x y) = (λ e. absurd cc, λ a. absurd (other (let e = a.2 in cc)))
   make_other other (Job x y) = (λ e. absurd cc, λ a. absurd (let e = a.3 in cc))
 
   pub make_none : z ≡ None → (form : Form) → (None ≡ Some form) ↔ AsksFor (name ∷ s ∷ n ∷ []) form
   make_none none Synth = (λ e. absurd cc, λ a. absurd (let e = a.1 in cc))
+  make_none none Check = (λ e. absurd cc, λ a. absurd cc)
   make_none none (Make x y) = (
     λ e. absurd cc,
     λ a.
@@ -68,6 +71,7 @@ module _ (name s n : List ℕ) (z : Option (ℕ × ℕ)) (parts : (x y : ℕ) �
   pub make_some : (u v : ℕ) → name ≡ codes "make" → z ≡ Some (u, v) → (form : Form)
       → (Some (Make u v) ≡ Some form) ↔ AsksFor (name ∷ s ∷ n ∷ []) form
   make_some u v is some Synth = (λ e. absurd cc, λ a. absurd (let e = a.1 in cc))
+  make_some u v is some Check = (λ e. absurd cc, λ a. absurd cc)
   make_some u v is some (Make x y) = (
     λ e.
         let first : u ≡ x = cc in
@@ -90,11 +94,13 @@ module _ (name s n : List ℕ) (z : Option (ℕ × ℕ)) (parts : (x y : ℕ) �
     -- four words
     pub job_other : name ≢ codes "job" → (form : Form) → (None ≡ Some form) ↔ AsksFor (name ∷ s ∷ n ∷ w ∷ []) form
     job_other other Synth = (λ e. absurd cc, λ a. absurd (let e = a.1 in cc))
+    job_other other Check = (λ e. absurd cc, λ a. absurd cc)
     job_other other (Make x y) = (λ e. absurd cc, λ a. absurd (let e = a.2 in cc))
     job_other other (Job x y) = (λ e. absurd cc, λ a. absurd (other (let e = a.3 in cc)))
 
     pub job_workers : (IsNumber w 1 → ⊥) → (form : Form) → (None ≡ Some form) ↔ AsksFor (name ∷ s ∷ n ∷ w ∷ []) form
     job_workers other Synth = (λ e. absurd cc, λ a. absurd (let e = a.1 in cc))
+    job_workers other Check = (λ e. absurd cc, λ a. absurd cc)
     job_workers other (Make x y) = (λ e. absurd cc, λ a. absurd (let e = a.2 in cc))
     job_workers other (Job x y) = (
       λ e. absurd cc,
@@ -103,6 +109,7 @@ module _ (name s n : List ℕ) (z : Option (ℕ × ℕ)) (parts : (x y : ℕ) �
 
     pub job_none : z ≡ None → (form : Form) → (None ≡ Some form) ↔ AsksFor (name ∷ s ∷ n ∷ w ∷ []) form
     job_none none Synth = (λ e. absurd cc, λ a. absurd (let e = a.1 in cc))
+    job_none none Check = (λ e. absurd cc, λ a. absurd cc)
     job_none none (Make x y) = (λ e. absurd cc, λ a. absurd (let e = a.2 in cc))
     job_none none (Job x y) = (
       λ e. absurd cc,
@@ -118,6 +125,7 @@ module _ (name s n : List ℕ) (z : Option (ℕ × ℕ)) (parts : (x y : ℕ) �
     pub job_some : (u v : ℕ) → name ≡ codes "job" → IsNumber w 1 → z ≡ Some (u, v) → (form : Form)
         → (Some (Job u v) ≡ Some form) ↔ AsksFor (name ∷ s ∷ n ∷ w ∷ []) form
     job_some u v is one some Synth = (λ e. absurd cc, λ a. absurd (let e = a.1 in cc))
+    job_some u v is one some Check = (λ e. absurd cc, λ a. absurd cc)
     job_some u v is one some (Make x y) = (λ e. absurd cc, λ a. absurd (let e = a.2 in cc))
     job_some u v is one some (Job x y) = (
       λ e.
@@ -137,6 +145,10 @@ module _ (name s n : List ℕ) (z : Option (ℕ × ℕ)) (parts : (x y : ℕ) �
     )
 
 -- words of these bytes
+pub words_one : {A : Type 0} (f : A → List ℕ) (R : List (List ℕ) → Type 0) (xs : List A) (a : A) (p : List ℕ)
+    → xs ≡ a ∷ [] → p ≡ f a → R (p ∷ []) → R (map f xs)
+words_one f R xs a p e g r = subst R (let m : map f xs ≡ f a ∷ [] = ap (map f) e in let t : p ∷ [] ≡ map f xs = cc in t) r
+
 pub words_two : {A : Type 0} (f : A → List ℕ) (R : List (List ℕ) → Type 0) (xs : List A) (a b : A) (p q : List ℕ)
     → xs ≡ a ∷ b ∷ [] → p ≡ f a → q ≡ f b → R (p ∷ q ∷ []) → R (map f xs)
 words_two f R xs a b p q e g h r = subst R (let m : map f xs ≡ f a ∷ f b ∷ [] = ap (map f) e in let t : p ∷ q ∷ [] ≡ map f xs = cc in t) r

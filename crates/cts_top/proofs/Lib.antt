@@ -1,3 +1,4 @@
+pub mod Fronts
 pub mod Endings
 pub mod Inputs
 pub mod Lists

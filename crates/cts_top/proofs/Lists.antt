@@ -1,6 +1,12 @@
 -- Lists of known length, by their items.
 use Rattle.std.proofs.Common.{◌≡◌, List, [], ◌∷◌, length, get_or, arith}
 
+-- a list of one item
+pub one_item : {A : Type 0} (xs : List A) (a : A) → length xs ≡ 1 → a ≡ get_or xs 0 a → xs ≡ a ∷ []
+one_item [] a n p = absurd (omega (arith, n))
+one_item (x ∷ []) a n p = cc
+one_item (x ∷ y ∷ xs) a n p = absurd (omega (arith, n))
+
 -- a list of two items
 pub two_items : {A : Type 0} (xs : List A) (a b : A) → length xs ≡ 2 → a ≡ get_or xs 0 a → b ≡ get_or xs 1 b → xs ≡ a ∷ b ∷ []
 two_items [] a b n p q = absurd (omega (arith, n))

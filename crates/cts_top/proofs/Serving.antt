@@ -6,8 +6,9 @@ use Rattle.cts_report.specs.Report.{report_text}
 use Rattle.cts_top.specs.declared.stop.Answer.{Answer}
 use Rattle.cts_top.specs.declared.stop.Stop.{Stop}
 use Rattle.cts_top.specs.declared.stop.Stop.TheVariants as stop
-use Rattle.cts_top.specs.declared.words.Form.TheVariants.{Synth, Make, Job}
-use Rattle.cts_top.specs.Input.{Spells}
+use Rattle.cts_top.specs.declared.words.Form.TheVariants.{Synth, Check, Make, Job}
+use Rattle.cts_top.specs.Input.{Spells, SpellsFront}
+use Rattle.cts_top.specs.Verdict.{TellsVerdict}
 use Rattle.cts_top.specs.Outcome.{Serves}
 use Rattle.cts_top.specs.Right.{DoesNotRead, Explains, IsRight}
 use Rattle.cts_top.specs.Text.{TellsSynthesis}
@@ -31,13 +32,13 @@ does_not_read stop.ReadFault X k = let e = (k (λ p. cc)).1 in absurd cc
 does_not_read stop.WriteFault X k = tt
 does_not_read stop.NoMemory X k = tt
 
-unexplained : (bytes : List ℕ) (end : Stop) → DoesNotRead end → Explains Synth end bytes
-unexplained bytes stop.Words n = tt
+unexplained : (bytes : List ℕ) (end : Stop) → DoesNotRead end → Explains Synth end bytes × Explains Check end bytes
+unexplained bytes stop.Words n = (tt, tt)
 unexplained bytes stop.TooLong n = absurd n
 unexplained bytes (stop.Refused line cause) n = absurd n
-unexplained bytes stop.ReadFault n = tt
-unexplained bytes stop.WriteFault n = tt
-unexplained bytes stop.NoMemory n = tt
+unexplained bytes stop.ReadFault n = (tt, tt)
+unexplained bytes stop.WriteFault n = (tt, tt)
+unexplained bytes stop.NoMemory n = (tt, tt)
 
 free_of : (left : Option (List ℕ)) (P : List ℕ → Type 0) → ((b : List ℕ) → P b) → IfSome left P
 free_of None P p = tt
@@ -95,7 +96,45 @@ serves_synth left reads held writes source source' sink sink' (Err end) i at_end
             (λ b s. (p.0, p.1, p.2, (i, s, p.3), p.4)) spells,
       );
       read_fault = λ e. absurd (not_a_read end none e);
-      explained = free_of (left source) (Explains Synth end) (λ b. unexplained b end none);
+      explained = free_of (left source) (Explains Synth end) (λ b. (unexplained b end none).0);
+      kept = λ n. (a.kept n).0;
+      others = tt;
+      source_counted = counted;
+      sink_counted = a.counted;
+    }
+
+-- a run that has read an instance and a report
+pub serves_check : {S K : Type 0} (left : S → Option (List ℕ)) (reads : S → ℕ) (held : K → Option (List ℕ)) (writes : K → ℕ)
+    (source source' : S) (sink sink' : K) (result : Result Answer Stop) (i : Parts) (report : List ℕ)
+    → IsAtEnd (left source') → IfSome (left source) (λ b. SpellsFront b i report) → reads source ≤ reads source'
+    → Answers (TellsVerdict i report) held writes sink sink' result
+    → Serves left reads held writes Check source source' sink sink' result
+serves_check left reads held writes source source' sink sink' (Ok kind) i report at_end spells counted a = record {
+  done = (
+    at_end,
+    on_left (left source) (λ b. SpellsFront b i report) (λ b. IsAnswered (IsRight Check b) kind (held sink) (held sink'))
+        (λ b s. (a.done.0, (i, report, s, a.done.1), a.done.2)) spells,
+  );
+  write_fault = λ e. cc;
+  read_fault = λ e. cc;
+  explained = tt;
+  kept = tt;
+  others = tt;
+  source_counted = counted;
+  sink_counted = a.counted;
+}
+serves_check left reads held writes source source' sink sink' (Err end) i report at_end spells counted a =
+    let none : DoesNotRead end = does_not_read end _ a.kept in
+    record {
+      done = tt;
+      write_fault = λ e. let p : IsAnsweredInPart (TellsVerdict i report) (held sink) (held sink') = a.in_part e in (
+        at_end,
+        a.rose e,
+        on_left (left source) (λ b. SpellsFront b i report) (λ b. IsAnsweredInPart (IsRight Check b) (held sink) (held sink'))
+            (λ b s. (p.0, p.1, p.2, (i, report, s, p.3), p.4)) spells,
+      );
+      read_fault = λ e. absurd (not_a_read end none e);
+      explained = free_of (left source) (Explains Check end) (λ b. (unexplained b end none).1);
       kept = λ n. (a.kept n).0;
       others = tt;
       source_counted = counted;

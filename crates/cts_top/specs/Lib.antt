@@ -3,8 +3,10 @@ pub mod Notes
 pub mod Outcome
 pub mod Right
 pub mod Text
+pub mod Verdict
 pub mod Words
 pub mod Written
 pub use Rattle.cts_plain.specs.Synthesis
 pub use Rattle.cts_script.specs.Generator
 pub use Rattle.cts_script.specs.Text as InstanceText
+pub use Rattle.cts_check.specs.Verdict as CheckedVerdict

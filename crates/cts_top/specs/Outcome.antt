@@ -30,6 +30,7 @@ stop_of_text text.NoMemory = stop.NoMemory
 
 abbrev pub status_of : Result Answer Stop → Status
 status_of (Ok answer.Text) = status.Done
+status_of (Ok answer.No) = status.No
 status_of (Ok answer.NoTree) = status.NoTree
 status_of (Err stop.Words) = status.Words
 status_of (Err stop.TooLong) = status.Refused
@@ -41,6 +42,7 @@ status_of (Err stop.NoMemory) = status.NoMemory
 -- the program's exit status
 abbrev pub code_of : Status → ℕ
 code_of status.Done = 0
+code_of status.No = 1
 code_of status.Words = 2
 code_of status.Refused = 3
 code_of status.NoTree = 4
@@ -74,6 +76,7 @@ IsRefusalNote (Some bytes) note =
 -- what the notes get for a status, where these bytes were left before: one line, or nothing
 abbrev pub IsNote : Option (List ℕ) → Status → List ℕ → Type 0
 IsNote left status.Done note = note ≡ []
+IsNote left status.No note = note ≡ []
 IsNote left status.NoTree note = note ≡ []
 IsNote left status.Words note = note ≡ usage_note
 IsNote left status.Refused note = IsRefusalNote left note

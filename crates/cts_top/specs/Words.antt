@@ -3,7 +3,7 @@ use Rattle.std.specs.Prelude.{◌≡◌, ℕ, ◌<◌, ◌≤◌, ◌^◌, List,
 use Rattle.std.specs.Global.{Global}
 use Rattle.cts_num.specs.Reading.{reading_of}
 use Rattle.cts_top.specs.declared.words.Form.{Form}
-use Rattle.cts_top.specs.declared.words.Form.TheVariants.{Synth, Make, Job}
+use Rattle.cts_top.specs.declared.words.Form.TheVariants.{Synth, Check, Make, Job}
 
 -- a word is this number, with no decimal places
 abbrev pub IsNumber : List ℕ → ℕ → Type 0
@@ -17,9 +17,10 @@ pub record AreMade (seed_word sinks_word : List ℕ) (seed sinks : ℕ) : Type 0
   pub some_sink : 1 ≤ sinks
   pub sinks_within : sinks ≤ 65536
 
--- what words of these bytes ask for: `synth 1`, `make SEED N`, or `job SEED N 1`
+-- what words of these bytes ask for: `synth 1`, `check`, `make SEED N`, or `job SEED N 1`
 abbrev pub AsksFor : List (List ℕ) → Form → Type 0
 AsksFor words Synth = (workers : List ℕ) × (words ≡ codes "synth" ∷ workers ∷ []) × IsNumber workers 1
+AsksFor words Check = words ≡ codes "check" ∷ []
 AsksFor words (Make seed sinks) =
     (s : List ℕ) × (n : List ℕ) × (words ≡ codes "make" ∷ s ∷ n ∷ []) × AreMade s n seed sinks
 AsksFor words (Job seed sinks) =
@@ -33,5 +34,6 @@ IsForm words form = AsksFor (map string_bytes words) form
 -- the seed and the number of sinks of a form are within their limits
 abbrev pub IsWithinLimits : Form → Type 0
 IsWithinLimits Synth = Unit
+IsWithinLimits Check = Unit
 IsWithinLimits (Make seed sinks) = (seed < 2 ^ 31) × (1 ≤ sinks) × (sinks ≤ 65536)
 IsWithinLimits (Job seed sinks) = (seed < 2 ^ 31) × (1 ≤ sinks) × (sinks ≤ 65536)

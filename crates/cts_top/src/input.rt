@@ -1,8 +1,8 @@
-//! The instance that an input spells.
+//! The instance that an input spells, whole or at its front.
 
-ghost use Rattle.std.specs.Prelude.{◌≡◌, ◌≤◌, length, IfOk, IfErr, IsErrOf, Ok};
+ghost use Rattle.std.specs.Prelude.{◌≡◌, ◌≤◌, length, drop, IfOk, IfErr, IsErrOf, Ok};
 ghost use Rattle.cts_read.specs.Grammar.{Refuses};
-ghost use Rattle.cts_top.specs.Input.{Spells, input_limit, input_of};
+ghost use Rattle.cts_top.specs.Input.{Spells, SpellsFront, input_limit, input_of};
 ghost use Rattle.cts_top.specs.Right.{Explains};
 
 use crate::stop::Stop;
@@ -33,4 +33,20 @@ pub fn read_input(alloc: Global, bytes: &[u8]) -> Result<Instance, Stop>
     ensures write_fault { IsErrOf result Stop.WriteFault → ⊥ }
 {
     Ok(read_whole(alloc, bytes)?)
+}
+
+/// The instance at the front of an input that is not too long, and how many of the bytes are those of its
+/// lines; or why there is none.
+#[tactic(auto, using(crate::proofs::Fronts::front_refused))]
+pub fn read_front(alloc: Global, bytes: &[u8]) -> Result<(Instance, usize), Stop>
+    requires { length bytes.now ≤ input_limit }
+    ensures spells { IfOk result (λ r. SpellsFront bytes.now r.0 (drop r.1 bytes.now)) }
+    ensures within { IfOk result (λ r. r.1 ≤ length bytes.now) }
+    ensures explained { IfErr result (λ stop. Explains Form.Check stop bytes.now) }
+    ensures words { IsErrOf result Stop.Words → ⊥ }
+    ensures read_fault { IsErrOf result Stop.ReadFault → ⊥ }
+    ensures write_fault { IsErrOf result Stop.WriteFault → ⊥ }
+{
+    let taken = read_instance(alloc, bytes)?;
+    Ok((taken.instance, taken.used))
 }

@@ -2,8 +2,8 @@
 //!
 //! The layer above, the program, may use [`run_alone`], [`end_without_memory`] where it can't even
 //! collect the words, and the statuses. What stands beside them is private: the words (`words`), the
-//! instance of an input (`input`), its synthesis and the text for it (`answer`), and the notes (`stop`,
-//! `notes`).
+//! instance of an input (`input`), its synthesis and the text for it (`answer`), the verdict on a report
+//! (`verdict`), and the notes (`stop`, `notes`).
 #![tactic(auto)]
 
 mod answer;
@@ -13,6 +13,7 @@ mod outcome;
 mod run;
 mod serve;
 mod stop;
+mod verdict;
 mod words;
 
 pub use outcome::{Outcome, Status};

@@ -3,8 +3,10 @@
 /// How a run ended.
 #[derive(Clone, Copy, Debug, PartialEq, Eq)]
 pub enum Status {
-    /// The report was written whole.
+    /// The text was written whole.
     Done,
+    /// The report that was checked is not right; a line that says so was written whole.
+    No,
     /// The words ask for nothing that is served.
     Words,
     /// The input is not served.
@@ -29,6 +31,7 @@ impl Status {
     {
         match self {
             Status::Done => 0,
+            Status::No => 1,
             Status::Words => 2,
             Status::Refused => 3,
             Status::NoTree => 4,

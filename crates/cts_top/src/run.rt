@@ -19,7 +19,8 @@ use std::alloc::Global;
 use std::thread::Threads;
 
 /// Does what the words ask for.
-fn answer<S: ByteSource, K: ByteSink>(
+fn answer<R: Threads + Sync, S: ByteSource, K: ByteSink>(
+    rt: &R,
     alloc: Global,
     words: &[String],
     source: &mut S,
@@ -36,22 +37,25 @@ fn answer<S: ByteSource, K: ByteSink>(
     ensures sink_counted { K.faults sink.old ≤ K.faults sink.new }
 {
     match form_of(words) {
-        Some(form) => serve(alloc, form, source, sink),
+        Some(form) => serve(rt, alloc, form, source, sink),
         None => Err(Stop::Words),
     }
 }
 
 /// Runs the program on its words, its input and its output, and tells the notes why nothing came
-/// out whole where nothing did. The words are `synth 1`, `make SEED N` or `job SEED N 1`.
+/// out whole where nothing did. The words are `synth 1`, `check`, `make SEED N` or `job SEED N 1`.
 ///
 /// - `Done`: the text was written, and nothing else. For `synth 1` it is the report of the instance that
-///   the input spells; for `make` the canonical text of the instance that is made from the seed; for
+///   the input spells; for `check` the line `yes`, since what follows the instance in the input is the
+///   report of a sound tree; for `make` the canonical text of the instance that is made from the seed; for
 ///   `job` the summary of that instance's tree.
+/// - `No`: exactly where what follows the instance is not that; the line that says at which line it is no
+///   text of a report, or which rule it breaks first at which node, was written, and nothing else.
 /// - `NoTree`: the instance has no tree, since a node is beyond the limits or no route reaches it; the
 ///   line that says so was written, and nothing else.
 /// - `Words`: exactly where the words are none of these forms; source and sink are as they were.
-/// - `Refused`: exactly where an input is read that spells no instance, or is longer than 64 MiB; the sink
-///   is as it was.
+/// - `Refused`: exactly where an input is read that spells no instance, or for `check` begins with none, or
+///   is longer than 64 MiB; the sink is as it was.
 /// - `ReadFault`, `WriteFault`: only where the count of faults of source or sink rose in this call.
 ///   After a write fault the sink holds its old bytes and a front of the text.
 /// - `NoMemory`: after the words and before the first write; the sink is as it was.
@@ -59,7 +63,7 @@ fn answer<S: ByteSource, K: ByteSink>(
 /// `make` and `job` leave the source as it is. The notes get at most one line. Where they fail, nothing
 /// else changes.
 pub fn run_alone<R: Threads + Sync, S: ByteSource, K: ByteSink, N: ByteSink>(
-    _rt: &R,
+    rt: &R,
     alloc: Global,
     words: &[String],
     source: &mut S,
@@ -75,6 +79,10 @@ pub fn run_alone<R: Threads + Sync, S: ByteSource, K: ByteSink, N: ByteSink>(
     ensures done { (form : Form) → IsForm words.now form → result.status ≡ Status.Done
         → HasRead S.left form source.old source.new × OfInput form (S.left source.old)
         (λ bytes. IsAnswered (IsRight form bytes) Answer.Text (K.held sink.old) (K.held sink.new)) }
+    // .. or that the report that was read is not right ..
+    ensures no { (form : Form) → IsForm words.now form → result.status ≡ Status.No
+        → HasRead S.left form source.old source.new × OfInput form (S.left source.old)
+        (λ bytes. IsAnswered (IsRight form bytes) Answer.No (K.held sink.old) (K.held sink.new)) }
     // .. or that there is no tree.
     ensures no_tree { (form : Form) → IsForm words.now form → result.status ≡ Status.NoTree
         → HasRead S.left form source.old source.new × OfInput form (S.left source.old)
@@ -88,7 +96,8 @@ pub fn run_alone<R: Threads + Sync, S: ByteSource, K: ByteSink, N: ByteSink>(
     ensures in_part { (form : Form) → IsForm words.now form → result.status ≡ Status.WriteFault
         → HasRead S.left form source.old source.new × OfInput form (S.left source.old)
         (λ bytes. IsAnsweredInPart (IsRight form bytes) (K.held sink.old) (K.held sink.new)) }
-    ensures sink_kept { result.status ≢ Status.Done → result.status ≢ Status.NoTree → result.status ≢ Status.WriteFault
+    ensures sink_kept { result.status ≢ Status.Done → result.status ≢ Status.No → result.status ≢ Status.NoTree
+        → result.status ≢ Status.WriteFault
         → sink.new ≡ sink.old }
 
     ensures source_counted { S.faults source.old ≤ S.faults source.new }
@@ -111,7 +120,7 @@ pub fn run_alone<R: Threads + Sync, S: ByteSource, K: ByteSink, N: ByteSink>(
     ensures note { (Rose (N.faults notes.old) (N.faults notes.new) → ⊥)
         → (text : List ℕ) × IsNote (S.left source.old) result.status text × Appends (N.held notes.old) (N.held notes.new) text }
 {
-    let ending = answer(alloc, words, source, sink);
+    let ending = answer(rt, alloc, words, source, sink);
     // A note that can't be written changes nothing.
     let _ = write_note(notes, &ending);
     Outcome {

@@ -1,39 +1,43 @@
 //! What each form does.
 
-ghost use Rattle.std.specs.Prelude.{◌≡◌, ◌≤◌, ◌<◌, ◌^◌, [], IfSome, IfOk, IfErr, OnOk, IsErrOf};
+ghost use Rattle.std.specs.Prelude.{◌≡◌, ◌≤◌, ◌<◌, ◌^◌, [], length, drop, IfSome, IfOk, IfErr, OnOk, IsErrOf};
 ghost use Rattle.std.specs.Io.KnownBytes.{IsAtEnd};
 ghost use Rattle.cts_io.specs.Faults.{Rose};
-ghost use Rattle.cts_top.specs.Input.{Spells};
+ghost use Rattle.cts_top.specs.Input.{Spells, SpellsFront};
 ghost use Rattle.cts_top.specs.Outcome.{Serves};
 ghost use Rattle.cts_top.specs.Right.{Explains, IsRight};
 ghost use Rattle.cts_top.specs.Words.{IsWithinLimits};
 ghost use Rattle.cts_top.specs.Written.{Answers};
 
 use crate::answer::{Telling, answer_instance};
-use crate::input::read_input;
+use crate::input::{read_front, read_input};
 use crate::stop::{Answer, Stop, ended};
+use crate::verdict::answer_verdict;
 use crate::words::Form;
 use cts_instance::Instance;
 use cts_io::{ByteSink, ByteSource, read_all};
 use cts_script::{make_instance, write_instance};
 use std::alloc::Global;
+use std::thread::Threads;
 
 /// The most bytes of an input that are accepted: 64 MiB.
 const INPUT_LIMIT: usize = 67_108_864;
 
 /// Does what a form asks for.
-pub fn serve<S: ByteSource, K: ByteSink>(
+pub fn serve<R: Threads + Sync, S: ByteSource, K: ByteSink>(
+    rt: &R,
     alloc: Global,
     form: Form,
     source: &mut S,
     sink: &mut K,
 ) -> Result<Answer, Stop>
-    requires { IsWithinLimits form }
+    requires within { IsWithinLimits form }
     ensures serves { Serves S.left S.faults K.held K.faults form source.old source.new sink.old sink.new result }
     ensures words { IsErrOf result Stop.Words → ⊥ }
 {
     match form {
         Form::Synth => serve_synth(alloc, source, sink),
+        Form::Check => serve_check(rt, alloc, source, sink),
         Form::Make { seed, sinks } => serve_make(alloc, sink, seed, sinks),
         Form::Job { seed, sinks } => serve_job(alloc, sink, seed, sinks),
     }
@@ -64,6 +68,40 @@ fn read_source<S: ByteSource>(alloc: Global, source: &mut S) -> Result<Instance,
 {
     let bytes = read_all(alloc, source, INPUT_LIMIT)?;
     read_input(alloc, &bytes)
+}
+
+/// Reads an instance and the report that follows it, and writes the verdict on the report.
+fn serve_check<R: Threads + Sync, S: ByteSource, K: ByteSink>(
+    rt: &R,
+    alloc: Global,
+    source: &mut S,
+    sink: &mut K,
+) -> Result<Answer, Stop>
+    ensures serves { Serves S.left S.faults K.held K.faults Form.Check source.old source.new sink.old sink.new result }
+    ensures words { IsErrOf result Stop.Words → ⊥ }
+{
+    let (instance, bytes, used) = read_front_source(alloc, source)?;
+    answer_verdict(rt, alloc, sink, &instance, &bytes[used..])
+}
+
+/// The instance at the front of an input, which is read to its end, with all its bytes and how many of
+/// them are those of the instance.
+fn read_front_source<S: ByteSource>(
+    alloc: Global,
+    source: &mut S,
+) -> Result<(Instance, Vec<u8>, usize), Stop>
+    ensures end { OnOk result (IsAtEnd (S.left source.new)) }
+    ensures spells { IfOk result (λ r. IfSome (S.left source.old) (λ bytes. SpellsFront bytes r.0 (drop r.2 r.1.items))) }
+    ensures within { IfOk result (λ r. r.2 ≤ length r.1.items) }
+    ensures explained { IfErr result (λ stop. IfSome (S.left source.old) (Explains Form.Check stop)) }
+    ensures words { IsErrOf result Stop.Words → ⊥ }
+    ensures read_fault { IsErrOf result Stop.ReadFault → Rose (S.faults source.old) (S.faults source.new) }
+    ensures write_fault { IsErrOf result Stop.WriteFault → ⊥ }
+    ensures counted { S.faults source.old ≤ S.faults source.new }
+{
+    let bytes = read_all(alloc, source, INPUT_LIMIT)?;
+    let (instance, used) = read_front(alloc, &bytes)?;
+    Ok((instance, bytes, used))
 }
 
 /// Writes the instance that is made from a seed.

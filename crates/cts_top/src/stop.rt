@@ -16,6 +16,8 @@ use thiserror::Error;
 pub enum Answer {
     /// The text that the words ask for.
     Text,
+    /// That the report is not right.
+    No,
     /// That there is no tree.
     NoTree,
 }
@@ -98,6 +100,7 @@ pub fn status_of(ending: &Result<Answer, Stop>) -> Status
 {
     match ending {
         Ok(Answer::Text) => Status::Done,
+        Ok(Answer::No) => Status::No,
         Ok(Answer::NoTree) => Status::NoTree,
         Err(Stop::Words) => Status::Words,
         Err(Stop::TooLong | Stop::Refused { .. }) => Status::Refused,

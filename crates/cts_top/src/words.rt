@@ -10,17 +10,20 @@ use cts_num::read_decimal;
 pub enum Form {
     /// The report of the tree of the instance that the input spells.
     Synth,
+    /// The verdict on the report that follows the instance in the input.
+    Check,
     /// The text of the instance that is made from a seed, with so many sinks.
     Make { seed: u32, sinks: u32 },
     /// The summary of the tree of that instance.
     Job { seed: u32, sinks: u32 },
 }
 
-/// What the words ask for: `synth 1`, `make SEED N` or `job SEED N 1`.
+/// What the words ask for: `synth 1`, `check`, `make SEED N` or `job SEED N 1`.
 pub fn form_of(words: &[String]) -> Option<Form>
     ensures { (form : Form) → (result ≡ Some form) ↔ IsForm words.now form }
 {
     match words {
+        [name] => check(name.as_bytes()),
         [name, workers] => synth(name.as_bytes(), workers.as_bytes()),
         [name, seed, sinks] => make(name.as_bytes(), seed.as_bytes(), sinks.as_bytes()),
         [name, seed, sinks, workers] => job(
@@ -30,6 +33,16 @@ pub fn form_of(words: &[String]) -> Option<Form>
             workers.as_bytes(),
         ),
         _ => None,
+    }
+}
+
+fn check(name: &[u8]) -> Option<Form>
+    ensures { (form : Form) → (result ≡ Some form) ↔ AsksFor (name.now ∷ []) form }
+{
+    if name == b"check".as_slice() {
+        Some(Form::Check)
+    } else {
+        None
     }
 }
 

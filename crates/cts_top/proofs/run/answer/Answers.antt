@@ -4,8 +4,8 @@ use Rattle.cts_top.proofs.Endings.{note_at}
 use Rattle.cts_top.proofs.Forms.{asked_within}
 use Rattle.cts_top.proofs.run.answer.Goals as goal
 
-pub serve-requires : goal.serve-requires
-serve-requires g c = asked_within _ c.in-Some.form ((c.form_of.ensures c.in-Some.form).0 c.in-Some.is)
+pub serve-requires-clause-within : goal.serve-requires-clause-within
+serve-requires-clause-within g c = λ κs ls. asked_within _ c.in-Some.form ((c.form_of.ensures c.in-Some.form).0 c.in-Some.is)
 
 pub returns-in-Some-clause-served : goal.returns-in-Some-clause-served
 returns-in-Some-clause-served g c = (

@@ -1,10 +1,14 @@
 use Rattle.cts_top.specs.Notes.{note_of}
-use Rattle.cts_top.proofs.Endings.{complete_at, done_at, no_tree_at, refused_at, refuses_at, stop_at, whole_at, write_stop_at}
+use Rattle.cts_top.proofs.Endings.{complete_at, done_at, no_at, no_tree_at, refused_at, refuses_at, stop_at, whole_at, write_stop_at}
 use Rattle.cts_top.proofs.run.run_alone.Goals as goal
 
 pub returns-clause-done : goal.returns-clause-done
 returns-clause-done g c = λ form is s.
     done_at form _ c.answer-ending.result _ _ _ (rw (← c.status_of.ensures) s) (c.answer-ending.ensures.serves form is).done
+
+pub returns-clause-no : goal.returns-clause-no
+returns-clause-no g c = λ form is s.
+    no_at form _ c.answer-ending.result _ _ _ (rw (← c.status_of.ensures) s) (c.answer-ending.ensures.serves form is).done
 
 pub returns-clause-no_tree : goal.returns-clause-no_tree
 returns-clause-no_tree g c = λ form is s.

@@ -1,15 +1,20 @@
 use Rattle.std.proofs.Common.{◌≡◌, ◌↔◌, List, ℕ, Some, string_bytes, arith}
 use Rattle.cts_top.specs.declared.words.Form.{Form}
 use Rattle.cts_top.specs.Words.{AsksFor}
-use Rattle.cts_top.proofs.Lists.{two_items, three_items, four_items}
-use Rattle.cts_top.proofs.Forms.{words_two, words_three, words_four}
+use Rattle.cts_top.proofs.Lists.{one_item, two_items, three_items, four_items}
+use Rattle.cts_top.proofs.Forms.{words_one, words_two, words_three, words_four}
 use Rattle.cts_top.proofs.words.form_of.Goals as goal
+
+pub returns-in-len1 : goal.returns-in-len1
+returns-in-len1 c =
+    words_one string_bytes (λ (l : List (List ℕ)). (form : Form) → (c.check.result ≡ Some form) ↔ AsksFor l form) _ _ _
+    (one_item _ c.name-item.result (omega arith) c.name-item.is) c.as_bytes.ensures.value c.check.ensures
 
 pub returns-in-len2 : goal.returns-in-len2
 returns-in-len2 c =
     words_two string_bytes (λ (l : List (List ℕ)). (form : Form) → (c.synth.result ≡ Some form) ↔ AsksFor l form) _ _ _ _ _
-    (two_items _ c.name-item.result c.workers-item.result (omega arith) c.name-item.is c.workers-item.is)
-    c.as_bytes.ensures.value c.as_bytes-in-len2.ensures.value c.synth.ensures
+    (two_items _ c.name-item-then-words-lt3.result c.workers-item.result (omega arith) c.name-item-then-words-lt3.is c.workers-item.is)
+    c.as_bytes-in-len2.ensures.value c.as_bytes-in-len2-2.ensures.value c.synth.ensures
 
 pub returns-in-len3 : goal.returns-in-len3
 returns-in-len3 c =
