@@ -99,9 +99,9 @@ fn read_front_source<S: ByteSource>(
     ensures write_fault { IsErrOf result Stop.WriteFault → ⊥ }
     ensures counted { S.faults source.old ≤ S.faults source.new }
 {
-    let bytes = read_all(alloc, source, INPUT_LIMIT)?;
-    let (instance, used) = read_front(alloc, &bytes)?;
-    Ok((instance, bytes, used))
+    let input = read_all(alloc, source, INPUT_LIMIT)?;
+    let (instance, used) = read_front(alloc, &input)?;
+    Ok((instance, input, used))
 }
 
 /// Writes the instance that is made from a seed.

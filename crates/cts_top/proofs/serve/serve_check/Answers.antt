@@ -1,8 +1,8 @@
-use Rattle.std.proofs.Common.{◌≡◌, drop, ap, subst, ◌∙◌}
+use Rattle.std.proofs.Common.{drop, ap, subst, ◌∙◌}
 use Rattle.std.proofs.lemmas.List.{take_rest}
 use Rattle.cts_top.specs.Verdict.{TellsVerdict}
 use Rattle.cts_top.specs.Written.{Answers}
-use Rattle.cts_top.proofs.Serving.{answers_no_words, serves_check}
+use Rattle.cts_top.proofs.Serving.{serves_check}
 use Rattle.cts_top.proofs.serve.serve_check.Goals as goal
 
 pub returns-clause-serves : goal.returns-clause-serves
