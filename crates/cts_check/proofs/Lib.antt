@@ -13,6 +13,7 @@ pub mod FirstTrue
 pub mod Ranks
 pub mod Order
 pub mod Verdicts
+pub mod Accepted
 pub mod Judging
 pub mod ToldFigures
 pub mod FirstFailing

@@ -70,7 +70,7 @@ same_elements Q (x ∷ xs) (y ∷ ys) long each =
 
 module _ (i : Parts) (valid : IsValid i) where
   -- there is a figure for each node
-  figure_each : (nodes : List TreeNode) → IsPostOrder (map tree_children nodes) → (figures : Figures) → AreFigures i nodes figures
+  pub figure_each : (nodes : List TreeNode) → IsPostOrder (map tree_children nodes) → (figures : Figures) → AreFigures i nodes figures
       → length figures.nodes ≡ length nodes
   unfolding occurrences_of
   figure_each nodes ok figures h =
