@@ -11,6 +11,10 @@
 //! anew: figures are compared as numbers.
 #![tactic(auto)]
 
+mod buffers;
+mod ends;
+mod routes;
 mod verdict;
+mod wires;
 
 pub use verdict::{Rule, Verdict};

@@ -1,0 +1,4 @@
+pub mod FirstFailing
+pub mod LegalSteps
+pub mod NodesAt
+pub mod UpperEnds
