@@ -1,8 +1,9 @@
 //! Routes of wires: shortest paths of a grid round the blocks that stop wires.
 //!
 //! A layer above calls [`route`], or makes one [`Grid`] for a die with its blocks and asks it for many
-//! routes. It cites `specs/Routes.antt` for what a route is and when two points are cut, and
-//! `specs/Grid.antt` for the grid; both range over lists of points and know no table, heap or window.
+//! routes. It asks [`Walls`] which segments are clear of blocks, whoever made them. It cites
+//! `specs/Routes.antt` for what a route is and when two points are cut, and `specs/Grid.antt` for the
+//! grid and for clear segments; both range over lists of points and know no table, heap or window.
 //! `laws` says that there is one route at most, none between points that are cut, and that the way
 //! along x first and then along y is the route where it is clear.
 //!
