@@ -7,3 +7,4 @@ pub mod Unique
 pub mod Sound
 pub mod Uncut
 pub mod Settled
+pub mod FewCorners

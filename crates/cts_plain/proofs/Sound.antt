@@ -68,7 +68,7 @@ module _ (i : Parts) where
     placed_ok : IsPostOrder (map placed_children is.placed)
     placed_ok = placed_post_order i shape over is.placed is.is_placed
 
-    nodes_made : AllZip (IsMadeOf i) (occurrences_of children shape) tree
+    pub nodes_made : AllZip (IsMadeOf i) (occurrences_of children shape) tree
     nodes_made = made i valid shape over is.placed placed_ok is.is_placed tree is.is_balanced
 
     tree_ok : IsPostOrder (map tree_children tree)

@@ -1,5 +1,5 @@
 -- What holds of every synthesis.
-use Rattle.std.specs.Prelude.{◌≡◌, ℕ, List, length, All}
+use Rattle.std.specs.Prelude.{◌≡◌, ◌≤◌, ℕ, List, length, All}
 use Rattle.cts_block.specs.declared.blocks.Kind.TheVariants.{Buffer}
 use Rattle.cts_tree.specs.declared.nodes.TreeNode.{TreeNode}
 use Rattle.cts_instance.specs.declared.parts.Parts.{Parts}
@@ -27,3 +27,10 @@ TreesAreSound =
 abbrev pub NothingIsCutWithoutWalls : Type 0
 NothingIsCutWithoutWalls =
     (i : Parts) (shape : List ShapeNode) (k : ℕ) → All (λ block. block.kind ≡ Buffer) i.blocks → IsSynthesisOver i shape (cut k) → ⊥
+
+-- each route of the tree of a shape has few corners
+abbrev pub TreesHaveFewCorners : Type 0
+TreesHaveFewCorners =
+    (i : Parts) (shape : List ShapeNode) (tree : List TreeNode) → IsValid i → IsShapeOver (length i.sinks) shape
+    → IsTreeOf i shape tree
+    → All (λ node. length node.route.corners ≤ 65536) tree

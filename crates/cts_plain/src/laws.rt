@@ -1,6 +1,6 @@
 //! What holds of every synthesis, as laws: each is the contract of a function that does nothing.
 
-ghost use Rattle.cts_plain.specs.Laws.{NothingIsCutWithoutWalls, SynthesisIsOne, TreesAreSound};
+ghost use Rattle.cts_plain.specs.Laws.{NothingIsCutWithoutWalls, SynthesisIsOne, TreesAreSound, TreesHaveFewCorners};
 
 /// Over one shape there is one synthesis at most.
 pub fn synthesis_is_one()
@@ -10,6 +10,11 @@ pub fn synthesis_is_one()
 /// The tree of a shape is sound, stands in the die, and is made of the instance's sinks and buffers.
 pub fn trees_are_sound()
     ensures { TreesAreSound }
+{}
+
+/// Each route of the tree of a shape has at most 65,536 corners.
+pub fn trees_have_few_corners()
+    ensures { TreesHaveFewCorners }
 {}
 
 /// Where no block stops wires no node is cut.

@@ -31,11 +31,11 @@ use Rattle.cts_route.proofs.Searches.{IsSearch, column_end}
 use Rattle.cts_route.proofs.Steps.{point_at-x, point_at-y}
 
 -- ---- few
-two_edges : (kind : Kind) (low high : ℤ) → length (edges_of kind low high) ≡ 2 * cond (stops_wires kind) 1 0
+pub two_edges : (kind : Kind) (low high : ℤ) → length (edges_of kind low high) ≡ 2 * cond (stops_wires kind) 1 0
 two_edges Buffer low high = refl
 two_edges KindAll low high = refl
 
-edges_count : (edges : Block → List ℤ) (blocks : List Block) → ((b : Block) → length (edges b) ≡ 2 * cond (stops_wires b.kind) 1 0)
+pub edges_count : (edges : Block → List ℤ) (blocks : List Block) → ((b : Block) → length (edges b) ≡ 2 * cond (stops_wires b.kind) 1 0)
     → length (flat_map edges blocks) ≡ 2 * count_by (λ block. stops_wires block.kind) blocks
 edges_count edges [] each = refl
 edges_count edges (b ∷ blocks) each =

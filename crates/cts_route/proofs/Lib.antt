@@ -21,3 +21,4 @@ pub mod Insertions
 pub mod FixedLines
 pub mod WallLists
 pub mod Legal
+pub mod FewCorners

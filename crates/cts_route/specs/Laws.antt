@@ -1,5 +1,5 @@
 -- What holds of every route.
-use Rattle.std.specs.Prelude.{◌≡◌, ◌≢◌, ◌*◌, ◌↔◌, ◌⊎◌, ◌≤ℤ◌, List, [], ◌∷◌, All}
+use Rattle.std.specs.Prelude.{◌≡◌, ◌≢◌, ◌*◌, ◌≤◌, ◌↔◌, ◌⊎◌, ◌≤ℤ◌, List, [], ◌∷◌, length, All, count_by}
 use Rattle.cts_geom.specs.declared.bounds.Die.{Die}
 use Rattle.cts_geom.specs.declared.points.Half.{Half}
 use Rattle.cts_geom.specs.Points.{manhattan_of}
@@ -9,6 +9,7 @@ use Rattle.cts_block.specs.FreePoints.{IsInDie, IsFreeForWire}
 use Rattle.cts_tree.specs.declared.route.Route.{Route}
 use Rattle.cts_tree.specs.Path.{points_along, path_length, HasAxisSteps, AllAlong}
 use Rattle.cts_route.specs.Grid.{IsClear}
+use Rattle.cts_route.specs.Limits.{stops_wires}
 use Rattle.cts_route.specs.Routes.{IsRoute, IsCut}
 
 -- there is one route at most
@@ -71,3 +72,10 @@ RoutesAreLegal =
     (blocks : List Block) (die : Die) (from to : Half) (route : Route) → die.x1 ≤ℤ die.x2 → die.y1 ≤ℤ die.y2
     → All (HasCornersIn die) blocks → IsInDie die from → IsInDie die to → IsRoute blocks die from to route
     → IsLegalWay blocks die from to route
+
+-- where at most 64 blocks stop wires a route has no more corners than its grid can have points
+abbrev pub RoutesHaveFewCorners : Type 0
+RoutesHaveFewCorners =
+    (blocks : List Block) (die : Die) (from to : Half) (route : Route)
+    → count_by (λ block. stops_wires block.kind) blocks ≤ 64 → IsRoute blocks die from to route
+    → length route.corners ≤ 132 * 132

@@ -6,6 +6,7 @@ ghost use Rattle.cts_route.specs.Laws.{
   ClearWayIsRoute,
   RouteWithoutWalls,
   RoutesAreLegal,
+  RoutesHaveFewCorners,
 };
 
 /// There is one route at most.
@@ -32,4 +33,10 @@ pub fn route_without_walls()
 /// the axes, and no point of it is outside the die or inside a block that stops wires.
 pub fn routes_are_legal()
     ensures { RoutesAreLegal }
+{}
+
+/// Where at most 64 blocks stop wires, a route has at most 17,424 corners: it passes no point of its
+/// grid twice.
+pub fn routes_have_few_corners()
+    ensures { RoutesHaveFewCorners }
 {}
