@@ -13,7 +13,7 @@ ghost use Rattle.cts_plain.specs.Synthesis.{IsPlacedBy, IsSynthesis, IsSynthesis
 
 use crate::end::NoTree;
 use cts_elmore::{Figures, measure};
-use cts_embed::{balance, embed};
+use cts_embed::{balance, embed, embed_plan};
 use cts_instance::Instance;
 use cts_merge::{Finished, Steps};
 use cts_topo::{Shape, topology};
@@ -87,7 +87,7 @@ fn place<L: Ledger>(
     let sinks = instance.sinks();
     let shape = topology(alloc, sinks)?;
     let plan = up(alloc, instance.params(), sinks, &shape, steps)?;
-    Ok(embed(alloc, instance, &shape, &plan)?)
+    Ok(embed_plan(alloc, instance, &shape, plan)?)
 }
 
 /// The synthesis of an instance by one thread: its tree with the figures, or why it has none.
