@@ -37,7 +37,7 @@ pub fn balance(alloc: Global, instance: &Instance, placed: Placed) -> Result<Tre
 fn tree_nodes(
     alloc: Global,
     mut nodes: Vec<PlacedNode>,
-    wires: &[u64],
+    wires: &[u32],
 ) -> Result<Vec<TreeNode>, NoMemory>
     requires { vec_len nodes ≡ length wires.now }
     ensures { IfOk result (λ tree. tree.items ≡ with_wires nodes.items wires.now) }
@@ -51,7 +51,7 @@ fn tree_nodes(
         tree.push(TreeNode {
             kind: node.kind,
             place: node.place,
-            wire: wires[number],
+            wire: wires[number] as u64,
             route: node.route,
         })?;
     }
