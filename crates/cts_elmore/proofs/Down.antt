@@ -5,7 +5,7 @@ use Rattle.std.specs.Option.{option_map_or, option_and_then}
 use Rattle.std.proofs.lemmas.Option.{slice_get-get_or}
 use Rattle.cts_units.specs.declared.params.Buffer.{Buffer}
 use Rattle.cts_units.specs.Delay.{wire_delay_of, buffer_delay_of, slew_of}
-use Rattle.cts_units.specs.Choice.{added_delay_of}
+use Rattle.cts_units.specs.Choice.{added_delay_of, seen_load_of}
 use Rattle.cts_units.specs.Limits.{max_delay}
 use Rattle.cts_postorder.specs.BinaryTree.{BinaryTree, tip, fork, label, is_tip}
 use Rattle.cts_postorder.specs.Occurrence.{Occurrence, occurrence}
@@ -15,15 +15,14 @@ use Rattle.cts_tree.specs.declared.nodes.TreeNode.{TreeNode}
 use Rattle.cts_tree.specs.Nodes.{buffer_of}
 use Rattle.cts_instance.specs.declared.parts.Parts.{Parts}
 use Rattle.cts_elmore.specs.declared.figures.NodeFigure.{NodeFigure}
-use Rattle.cts_elmore.specs.declared.subtree.Subtree.{Subtree}
 use Rattle.cts_elmore.specs.declared.descent.Output.{Output}
 use Rattle.cts_elmore.specs.Fits.{NamesBuffer}
-use Rattle.cts_elmore.specs.Loads.{buffer_at, is_buffered, load_below}
+use Rattle.cts_elmore.specs.Loads.{buffer_at, is_buffered, load_below, load_seen}
 use Rattle.cts_elmore.specs.Delays.{wire_delay, buffer_delay, output_delay, source_delay, stage_at}
 use Rattle.cts_elmore.specs.Skew.{greatest_below, residue}
 use Rattle.cts_elmore.specs.Figures.{IsNodeFigure, IsFigureInRange}
 use Rattle.cts_elmore.specs.Outputs.{stage_after, IsOutput, IsPartFigure, LoadIsMet, SlewIsMet}
-use Rattle.cts_elmore.specs.Subtrees.{IsSubtree}
+use Rattle.cts_elmore.specs.Subtrees.{IsKnownBelow}
 use Rattle.cts_elmore.proofs.Paths.{delay_at_root, delay_at_part, stage_at_root, stage_at_part}
 use Rattle.cts_elmore.proofs.Below.{greatest_at_pair}
 use Rattle.cts_elmore.proofs.Rising.{added_at_pair, through_is}
@@ -80,10 +79,10 @@ stage_after_le library (Some index) load stage delay h = by_library (slice_get l
 
 module _ (i : Parts) (root : BinaryTree TreeNode) where
   -- the root
-  pub root_right : (s : Subtree) (delay : ℕ) → IsSubtree i root s → delay ≡ source_delay i root + wire_delay i root
+  pub root_right : (g : NodeFigure) (delay : ℕ) → IsKnownBelow i root g → delay ≡ source_delay i root + wire_delay i root
       → delay + greatest_below i root ≤ max_delay
-      → IsRight i root (occurrence [] root) (record { below = s.below; residue = s.residue; delay = delay; stage = delay })
-  root_right s delay is delay_is soon = record {
+      → IsRight i root (occurrence [] root) (record { below = g.below; residue = g.residue; delay = delay; stage = delay })
+  root_right g delay is delay_is soon = record {
     figure = record {
       below = is.below;
       residue_is = is.residue_is;
@@ -98,13 +97,17 @@ module _ (i : Parts) (root : BinaryTree TreeNode) where
   module _ (l r : BinaryTree TreeNode) (n : TreeNode) (above : List (BinaryTree TreeNode)) (here : NodeFigure) (output : Output)
       (right : IsRight i root (occurrence above (fork l r n)) here)
       (out : IsOutput i.params.library (buffer_of n.kind) here output) where
-    part_right : (t : BinaryTree TreeNode) (s : Subtree) (len : ℕ) (f : NodeFigure) → IsSubtree i t s → (label t).wire ≡ len
-        → IsPartFigure i.params.wire len s output f
+    part_right : (t : BinaryTree TreeNode) (g : NodeFigure) (kind : NodeKind) (len : ℕ) (f : NodeFigure) → IsKnownBelow i t g
+        → (label t).kind ≡ kind → (label t).wire ≡ len → IsPartFigure i.params kind len g output f
         → greatest_below i t + wire_delay i t + buffer_delay i (fork l r n) ≤ greatest_below i (fork l r n)
         → IsRight i root (occurrence (fork l r n ∷ above) t) f
-    part_right t s len f is len_is part deepest =
+    part_right t g kind len f is kind_is len_is part deepest =
         let top : BinaryTree TreeNode = fork l r n in
-        let through : wire_delay_of i.params.wire.r i.params.wire.c len s.seen ≡ wire_delay i t = through_is i t len s.seen len_is is.seen in
+        let seen : seen_load_of i.params.library (buffer_of kind) g.below ≡ load_seen i t =
+        ap (λ k. seen_load_of i.params.library (buffer_of k) g.below) (sym kind_is) ∙ is.seen in
+        let through : wire_delay_of i.params.wire.r i.params.wire.c len (seen_load_of i.params.library (buffer_of kind) g.below)
+        ≡ wire_delay i t =
+        through_is i t len (seen_load_of i.params.library (buffer_of kind) g.below) len_is seen in
         let added : added_delay_of i.params.library (buffer_of n.kind) here.below ≡ buffer_delay i top =
         added_at_pair i l r n here.below right.figure.below in
         let delay : f.delay ≡ here.delay + buffer_delay i top + wire_delay i t =
@@ -130,13 +133,17 @@ module _ (i : Parts) (root : BinaryTree TreeNode) where
           );
         }
 
-    pub left_right : (s : Subtree) (len : ℕ) (f : NodeFigure) → IsSubtree i l s → (label l).wire ≡ len
-        → IsPartFigure i.params.wire len s output f → IsRight i root (occurrence (fork l r n ∷ above) l) f
-    left_right s len f is len_is part = part_right l s len f is len_is part (omega (arith, greatest_at_pair i l r n))
+    pub left_right : (g : NodeFigure) (kind : NodeKind) (len : ℕ) (f : NodeFigure) → IsKnownBelow i l g
+        → (label l).kind ≡ kind → (label l).wire ≡ len → IsPartFigure i.params kind len g output f
+        → IsRight i root (occurrence (fork l r n ∷ above) l) f
+    left_right g kind len f is kind_is len_is part =
+        part_right l g kind len f is kind_is len_is part (omega (arith, greatest_at_pair i l r n))
 
-    pub right_right : (s : Subtree) (len : ℕ) (f : NodeFigure) → IsSubtree i r s → (label r).wire ≡ len
-        → IsPartFigure i.params.wire len s output f → IsRight i root (occurrence (fork l r n ∷ above) r) f
-    right_right s len f is len_is part = part_right r s len f is len_is part (omega (arith, greatest_at_pair i l r n))
+    pub right_right : (g : NodeFigure) (kind : NodeKind) (len : ℕ) (f : NodeFigure) → IsKnownBelow i r g
+        → (label r).kind ≡ kind → (label r).wire ≡ len → IsPartFigure i.params kind len g output f
+        → IsRight i root (occurrence (fork l r n ∷ above) r) f
+    right_right g kind len f is kind_is len_is part =
+        part_right r g kind len f is kind_is len_is part (omega (arith, greatest_at_pair i l r n))
 
 -- whether a kind is a leaf's
 abbrev pub is_leaf : NodeKind → Bool

@@ -11,21 +11,21 @@ use Rattle.cts_postorder.proofs.Zips.{all_zip-at}
 use Rattle.cts_tree.specs.declared.nodes.TreeNode.{TreeNode}
 use Rattle.cts_tree.specs.Nodes.{tree_children}
 use Rattle.cts_instance.specs.declared.parts.Parts.{Parts}
-use Rattle.cts_elmore.specs.declared.subtree.Subtree.{Subtree}
+use Rattle.cts_elmore.specs.declared.figures.NodeFigure.{NodeFigure}
 use Rattle.cts_elmore.specs.declared.drive.Drive.{Drive}
 use Rattle.cts_elmore.specs.Limits.{IsPairOver, IsRootOver, IsOver, IsWithinLimits}
-use Rattle.cts_elmore.specs.Subtrees.{IsSubtree, DriveOrOver}
+use Rattle.cts_elmore.specs.Subtrees.{IsKnownBelow, DriveOrOver}
 
 module _ (i : Parts) (nodes : List TreeNode) (ok : IsPostOrder (map tree_children nodes)) where
   pub first_pair_over : (k : ℕ) → IsLeastFailure tree_children nodes (IsPairOver i) k
       → IsLeastFailure tree_children nodes (IsOver i nodes) k
   first_pair_over k f = failed_before_root tree_children nodes ok (IsPairOver i) (IsRootOver i) k f
 
-  module _ (subtrees : List Subtree) (all : AllZip (IsSubtree i) (trees_of tree_children nodes) subtrees) where
+  module _ (figures : List NodeFigure) (all : AllZip (IsKnownBelow i) (trees_of tree_children nodes) figures) where
     no_pair_over : All (λ t. ¬ IsPairOver i t) (trees_of tree_children nodes)
     no_pair_over = λ k d h.
-        let e : Subtree = record { below = 0; seen = 0; wires = 0; greatest = 0; least = 0; residue = 0; bound = 0 } in
-        (all_zip-at (IsSubtree i) (trees_of tree_children nodes) subtrees k d e all h).not_over
+        let e : NodeFigure = record { below = 0; residue = 0; delay = 0; stage = 0 } in
+        (all_zip-at (IsKnownBelow i) (trees_of tree_children nodes) figures k d e all h).not_over
 
     root_told : (P : BinaryTree TreeNode → Type 0) → IfSome (root_of tree_children nodes) P
         → P (whole_of tree_children nodes ok).tree

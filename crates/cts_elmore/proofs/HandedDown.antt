@@ -1,22 +1,24 @@
 -- The loop of the pass downward: what holds once it has come down to a number.
-use Rattle.std.proofs.Common.{◌≡◌, ℕ, ◌+◌, ◌-◌, ◌*◌, ◌<◌, ◌≤◌, ◌↔◌, Bool, true, false, ◌&&◌, ◌||◌, List, [], ◌∷◌, map, set, drop, replicate, leb, length, get_or, slice_get, Option, Some, None, IsTrue, refl, sym, ap, subst, ◌∙◌, arith}
+use Rattle.std.proofs.Common.{get_or-set_same, get_or-set_other, length-set, ◌≡◌, ℕ, ◌+◌, ◌-◌, ◌*◌, ◌<◌, ◌≤◌, ◌↔◌, Bool, true, false, ◌&&◌, ◌||◌, List, [], ◌∷◌, map, set, drop, leb, length, get_or, slice_get, Option, Some, None, IsTrue, refl, sym, ap, subst, ◌∙◌, arith}
 use Rattle.std.specs.Prelude.{IfSome}
 use Rattle.std.specs.List.{All, AllZip}
 use Rattle.std.specs.Option.{option_and_then}
-use Rattle.std.proofs.lemmas.List.{drop_more, drop_all, get_or_default, get_or-replicate, length-replicate}
+use Rattle.std.proofs.lemmas.List.{drop_more, drop_all, get_or_default}
+use Rattle.std.proofs.lemmas.Option.{get_or_from_slice_get}
 use Rattle.std.proofs.lemmas.Bool.{leb-true, le-leb}
 use Rattle.std.proofs.lemmas.List.Elements.{All-cons, All-head, All-tail, All-nil}
 use Rattle.std.proofs.lemmas.Slice.Zip.{AllZip-long}
 use Rattle.cts_units.specs.declared.params.Params.{Params}
+use Rattle.cts_units.specs.Choice.{seen_load_of}
 use Rattle.cts_units.specs.Delay.{slew_of}
 use Rattle.cts_units.specs.Limits.{max_length, max_load, max_delay}
-use Rattle.cts_postorder.specs.BinaryTree.{BinaryTree, tip, fork, label, size, is_tip}
+use Rattle.cts_postorder.specs.BinaryTree.{BinaryTree, tip, fork, label, is_tip}
 use Rattle.cts_postorder.specs.PostOrder.{IsPostOrder, trees_of, root_of}
 use Rattle.cts_postorder.specs.Occurrence.{Occurrence, occurrence, occurrences_of}
 use Rattle.cts_postorder.proofs.Growth.{length-trees_of, label-tree}
-use Rattle.cts_postorder.proofs.Failures.{size-tree}
+use Rattle.cts_postorder.proofs.Sizes.{size_pos}
 use Rattle.cts_postorder.proofs.Upward.{leaf_here}
-use Rattle.cts_postorder.proofs.Lists.{Whole, whole_of, length-occurrences_of, trees_of-here, IsPair, is_pair}
+use Rattle.cts_postorder.proofs.Lists.{Whole, whole_of, length_pos, length-occurrences_of, trees_of-here, IsPair, is_pair}
 use Rattle.cts_postorder.proofs.Downward.{IsSettled, settled_at_start, settled_here, settled_at_leaf, settled_at_pair, settled_all}
 use Rattle.cts_postorder.proofs.Zips.{all_zip-at, all_zip-all, all_zip-weaker}
 use Rattle.cts_tree.specs.declared.nodes.NodeKind.{NodeKind}
@@ -26,19 +28,18 @@ use Rattle.cts_tree.specs.Nodes.{children_of, buffer_of, tree_children}
 use Rattle.cts_instance.specs.declared.parts.Parts.{Parts}
 use Rattle.cts_instance.specs.Validity.{IsValid}
 use Rattle.cts_elmore.specs.declared.figures.NodeFigure.{NodeFigure}
-use Rattle.cts_elmore.specs.declared.subtree.Subtree.{Subtree}
 use Rattle.cts_elmore.specs.declared.drive.Drive.{Drive}
 use Rattle.cts_elmore.specs.declared.descent.Output.{Output}
 use Rattle.cts_elmore.specs.declared.descent.Descent.{Descent}
 use Rattle.cts_elmore.specs.Fits.{FitsInstance, NamesBuffer}
-use Rattle.cts_elmore.specs.Loads.{buffer_at, is_buffered, load_below, source_load}
+use Rattle.cts_elmore.specs.Loads.{buffer_at, is_buffered, load_below, load_seen, source_load}
 use Rattle.cts_elmore.specs.Delays.{stage_at}
 use Rattle.cts_elmore.specs.Limits.{IsOverAtPair, long_left, long_right, great_load, great_leaf_delay}
 use Rattle.cts_elmore.specs.Figures.{IsNodeFigure, IsFigureInRange}
 use Rattle.cts_elmore.specs.Outputs.{IsOutput, IsPartFigure, LoadIsMet, SlewIsMet, IsDescent}
-use Rattle.cts_elmore.specs.Subtrees.{IsSubtree, IsSubtreeInRange, IsDrive}
-use Rattle.cts_elmore.proofs.Rising.{not_above, subtree_in_range}
-use Rattle.cts_elmore.proofs.Root.{AtRoot, at_root}
+use Rattle.cts_elmore.specs.Subtrees.{IsKnownBelow, IsDrive}
+use Rattle.cts_elmore.proofs.Rising.{not_above, load_seen_le}
+use Rattle.cts_elmore.proofs.Waiting.{all_zip-set}
 use Rattle.cts_elmore.proofs.Down.{IsRight, root_right, left_right, right_right, figure_in_range, is_leaf, load_told, slew_told}
 
 -- one more answer, for one more item at the front
@@ -79,18 +80,44 @@ IsDown i nodes k figures load_met slew_met =
     (root : BinaryTree TreeNode) → root_of tree_children nodes ≡ Some root → Down i nodes root k figures load_met slew_met
 
 module _ (i : Parts) (valid : IsValid i) (nodes : List TreeNode) (ok : IsPostOrder (map tree_children nodes))
-    (fits : FitsInstance i nodes) (subtrees : List Subtree)
-    (all : AllZip (IsSubtree i) (trees_of tree_children nodes) subtrees) where
+    (fits : FitsInstance i nodes) where
   top : Whole tree_children nodes
   top = whole_of tree_children nodes ok
+
+  at_root : slice_get (trees_of tree_children nodes) (length nodes - 1) ≡ Some top.tree
+  unfolding root_of
+  at_root = top.root_is
 
   is_root : (root : BinaryTree TreeNode) → root_of tree_children nodes ≡ Some root → top.tree ≡ root
   is_root root is =
       let names : Some top.tree ≡ Some root = sym top.root_is ∙ is in cc
 
+  -- there are figures of each node
+  pub known_long : (figures : List NodeFigure) → AllZip (IsKnownBelow i) (trees_of tree_children nodes) figures
+      → length figures ≡ length nodes
+  known_long figures known =
+      AllZip-long (IsKnownBelow i) (trees_of tree_children nodes) figures known ∙ length-trees_of tree_children nodes
+
+  -- what is known of a node's figures stays where its delays alone are written
+  still_known : (number : ℕ) (old new : NodeFigure) (figures : List NodeFigure)
+      → AllZip (IsKnownBelow i) (trees_of tree_children nodes) figures → number < length nodes → get_or figures number old ≡ old
+      → new.below ≡ old.below → new.residue ≡ old.residue
+      → AllZip (IsKnownBelow i) (trees_of tree_children nodes) (set figures number new)
+  still_known number old new figures known h is below residue_is =
+      let here : IsKnownBelow i (get_or (trees_of tree_children nodes) number top.tree) old =
+      subst (IsKnownBelow i (get_or (trees_of tree_children nodes) number top.tree)) is
+      (all_zip-at (IsKnownBelow i) (trees_of tree_children nodes) figures number top.tree old known
+      (omega (arith, h, length-trees_of tree_children nodes))) in
+      all_zip-set (IsKnownBelow i) (trees_of tree_children nodes) figures number top.tree new known (record {
+        below = below ∙ here.below;
+        residue_is = residue_is ∙ here.residue_is;
+        seen = ap (seen_load_of i.params.library (buffer_of (label (get_or (trees_of tree_children nodes) number top.tree)).kind)) below ∙ here.seen;
+        not_over = here.not_over;
+      })
+
   -- a number of the loop, at its head, and the figures there
   module _ (m : ℕ) (some : 0 < m) (within : m ≤ length nodes) (figures : List NodeFigure) (b c : Bool)
-      (down : IsDown i nodes m figures b c) (here : NodeFigure) (here_is : here ≡ get_or figures (m - 1) here) where
+      (down : IsDown i nodes m figures b c) (known : AllZip (IsKnownBelow i) (trees_of tree_children nodes) figures) (here : NodeFigure) (here_is : here ≡ get_or figures (m - 1) here) where
     inside : m - 1 < length nodes
     inside = omega arith
 
@@ -182,7 +209,7 @@ module _ (i : Parts) (valid : IsValid i) (nodes : List TreeNode) (ok : IsPostOrd
         let n : TreeNode = get_or nodes (m - 1) e in
         let childless : tree_children n ≡ None = ap children_of kind_is in
         let t_is : (d : BinaryTree TreeNode) → get_or (trees_of tree_children nodes) (m - 1) d ≡ tip n =
-        λ d. leaf_here tree_children (IsSubtree i) nodes (m - 1) e d inside childless in
+        λ d. leaf_here tree_children (IsKnownBelow i) nodes (m - 1) e d inside childless in
         let buffer_is : None ≡ option_and_then (slice_get i.params.library) (buffer_of n.kind) =
         sym (ap (λ kind. option_and_then (slice_get i.params.library) (buffer_of kind)) kind_is) in
         everywhere e n.kind refl (tip n) t_is buffer_is (sym (ap is_leaf kind_is)) load_limit slew_limit load_limit_is slew_limit_is x y
@@ -205,21 +232,20 @@ module _ (i : Parts) (valid : IsValid i) (nodes : List TreeNode) (ok : IsPostOrd
 
       pair_sound : (f : TreeNode) → ¬ IsOverAtPair i (pair_at f).left (pair_at f).right (get_or nodes (m - 1) f)
       pair_sound f =
-          let d : Subtree = record { below = 0; seen = 0; wires = 0; greatest = 0; least = 0; residue = 0; bound = 0 } in
-          (subst (λ t. IsSubtree i t (get_or subtrees (m - 1) d)) ((pair_at f).tree top.tree)
-          (all_zip-at (IsSubtree i) (trees_of tree_children nodes) subtrees (m - 1) top.tree d all
+          (subst (λ t. IsKnownBelow i t (get_or figures (m - 1) here)) ((pair_at f).tree top.tree)
+          (all_zip-at (IsKnownBelow i) (trees_of tree_children nodes) figures (m - 1) top.tree here known
           (omega (arith, inside, length-trees_of tree_children nodes)))).not_over
 
-      left_value : (f : TreeNode) (d : Subtree) → IsSubtree i (pair_at f).left (get_or subtrees left d)
+      left_value : (f : TreeNode) (d : NodeFigure) → IsKnownBelow i (pair_at f).left (get_or figures left d)
       left_value f d =
-          subst (λ t. IsSubtree i t (get_or subtrees left d)) ((pair_at f).left_tree top.tree)
-          (all_zip-at (IsSubtree i) (trees_of tree_children nodes) subtrees left top.tree d all
+          subst (λ t. IsKnownBelow i t (get_or figures left d)) ((pair_at f).left_tree top.tree)
+          (all_zip-at (IsKnownBelow i) (trees_of tree_children nodes) figures left top.tree d known
           (omega (arith, inside, (pair_at f).left_below, length-trees_of tree_children nodes)))
 
-      right_value : (f : TreeNode) (d : Subtree) → IsSubtree i (pair_at f).right (get_or subtrees right d)
+      right_value : (f : TreeNode) (d : NodeFigure) → IsKnownBelow i (pair_at f).right (get_or figures right d)
       right_value f d =
-          subst (λ t. IsSubtree i t (get_or subtrees right d)) ((pair_at f).right_tree top.tree)
-          (all_zip-at (IsSubtree i) (trees_of tree_children nodes) subtrees right top.tree d all
+          subst (λ t. IsKnownBelow i t (get_or figures right d)) ((pair_at f).right_tree top.tree)
+          (all_zip-at (IsKnownBelow i) (trees_of tree_children nodes) figures right top.tree d known
           (omega (arith, inside, (pair_at f).right_below, length-trees_of tree_children nodes)))
 
       left_node : (f g : TreeNode) → (label (pair_at f).left).wire ≡ (get_or nodes left g).wire
@@ -231,6 +257,16 @@ module _ (i : Parts) (valid : IsValid i) (nodes : List TreeNode) (ok : IsPostOrd
       right_node f g =
           ap (λ (t : BinaryTree TreeNode). (label t).wire) (sym ((pair_at f).right_tree top.tree))
           ∙ ap (λ (n : TreeNode). n.wire) (label-tree tree_children nodes right top.tree g (omega (arith, inside, (pair_at f).right_below)))
+
+      left_kind : (f g : TreeNode) → (label (pair_at f).left).kind ≡ (get_or nodes left g).kind
+      left_kind f g =
+          ap (λ (t : BinaryTree TreeNode). (label t).kind) (sym ((pair_at f).left_tree top.tree))
+          ∙ ap (λ (n : TreeNode). n.kind) (label-tree tree_children nodes left top.tree g (omega (arith, inside, (pair_at f).left_below)))
+
+      right_kind : (f g : TreeNode) → (label (pair_at f).right).kind ≡ (get_or nodes right g).kind
+      right_kind f g =
+          ap (λ (t : BinaryTree TreeNode). (label t).kind) (sym ((pair_at f).right_tree top.tree))
+          ∙ ap (λ (n : TreeNode). n.kind) (label-tree tree_children nodes right top.tree g (omega (arith, inside, (pair_at f).right_below)))
 
       right_pair : (f : TreeNode)
           → IsRight i top.tree (occurrence (pair_at f).above (fork (pair_at f).left (pair_at f).right (get_or nodes (m - 1) f))) here
@@ -250,12 +286,6 @@ module _ (i : Parts) (valid : IsValid i) (nodes : List TreeNode) (ok : IsPostOrd
       pub right_within : right < length nodes
       right_within = omega (arith, inside, (pair_at e).right_below)
 
-      pub left_ready : left < length subtrees
-      left_ready = omega (arith, left_within, AllZip-long (IsSubtree i) (trees_of tree_children nodes) subtrees all, length-trees_of tree_children nodes)
-
-      pub right_ready : right < length subtrees
-      right_ready = omega (arith, right_within, AllZip-long (IsSubtree i) (trees_of tree_children nodes) subtrees all, length-trees_of tree_children nodes)
-
       pub left_kept : left < length figures
       left_kept = omega (arith, left_within, (state.settled e).long)
 
@@ -270,29 +300,64 @@ module _ (i : Parts) (valid : IsValid i) (nodes : List TreeNode) (ok : IsPostOrd
       right_short g =
           omega (arith, right_node e g, not_above (label (pair_at e).right).wire max_length (λ above. pair_sound e (long_right above)))
 
-      few : (number : ℕ) (t : BinaryTree TreeNode) → number < length nodes → get_or (trees_of tree_children nodes) number top.tree ≡ t
-          → size t ≤ 131071
-      few number t h is = omega (arith, size-tree tree_children nodes ok number top.tree h, ap size is, fits.few, h)
+      -- the pins of the two parts
+      module _ (params : Params) (params_is : params ≡ i.params) where
+        named : (kind : NodeKind) → NamesBuffer i.params.library kind → NamesBuffer params.library kind
+        named kind = subst (λ (p : Params). NamesBuffer p.library kind) (sym params_is)
 
-      pub left_in_range : (d : Subtree) → IsSubtreeInRange (get_or subtrees left d)
-      left_in_range d =
-          subtree_in_range i valid (pair_at e).left (get_or subtrees left d)
-          (few left (pair_at e).left left_within ((pair_at e).left_tree top.tree)) (left_value e d)
+        pub left_named : (g : TreeNode) → NamesBuffer params.library (get_or nodes left g).kind
+        left_named g = named (get_or nodes left g).kind (fits.buffers left g left_within)
 
-      pub right_in_range : (d : Subtree) → IsSubtreeInRange (get_or subtrees right d)
-      right_in_range d =
-          subtree_in_range i valid (pair_at e).right (get_or subtrees right d)
-          (few right (pair_at e).right right_within ((pair_at e).right_tree top.tree)) (right_value e d)
+        pub right_named : (g : TreeNode) → NamesBuffer params.library (get_or nodes right g).kind
+        right_named g = named (get_or nodes right g).kind (fits.buffers right g right_within)
+
+        seen_small : (t : BinaryTree TreeNode) (f : NodeFigure) (kind : NodeKind) → IsKnownBelow i t f → (label t).kind ≡ kind
+            → seen_load_of params.library (buffer_of kind) f.below ≤ max_load
+        seen_small t f kind is kind_is =
+            let told : seen_load_of params.library (buffer_of kind) f.below ≡ load_seen i t =
+            ap (λ (p : Params). seen_load_of p.library (buffer_of kind) f.below) params_is
+            ∙ ap (λ k. seen_load_of i.params.library (buffer_of k) f.below) (sym kind_is) ∙ is.seen in
+            omega (arith, told, load_seen_le i valid t is.not_over)
+
+        pub left_small : (g : TreeNode) (d : NodeFigure) → d ≡ get_or figures left d
+            → seen_load_of params.library (buffer_of (get_or nodes left g).kind) d.below ≤ max_load
+        left_small g d is =
+            seen_small (pair_at e).left d (get_or nodes left g).kind (subst (IsKnownBelow i (pair_at e).left) (sym is) (left_value e d)) (left_kind e g)
+
+        -- what is known of the right part stays as it is where the left one's figures are written
+        right_stays : (first d : NodeFigure) → get_or (set figures left first) right d ≡ get_or figures right d
+        right_stays first d =
+            get_or-set_other figures left right first d (omega (arith, (pair_at e).left_number, (pair_at e).right_number, size_pos (pair_at e).right))
+
+        pub right_small : (g : TreeNode) (first d : NodeFigure) → d ≡ get_or (set figures left first) right d
+            → seen_load_of params.library (buffer_of (get_or nodes right g).kind) d.below ≤ max_load
+        right_small g first d is =
+            seen_small (pair_at e).right d (get_or nodes right g).kind
+            (subst (IsKnownBelow i (pair_at e).right) (sym (is ∙ right_stays first d)) (right_value e d)) (right_kind e g)
 
       module _ (params : Params) (params_is : params ≡ i.params) (output : Output)
-          (output_is : IsOutput params.library buffer here output) (g h : TreeNode) (d u : Subtree) (first second : NodeFigure)
-          (first_is : IsPartFigure params.wire (get_or nodes left g).wire (get_or subtrees left d) output first)
-          (second_is : IsPartFigure params.wire (get_or nodes right h).wire (get_or subtrees right u) output second) where
+          (output_is : IsOutput params.library buffer here output) (g h y z : TreeNode) (first second d u : NodeFigure)
+          (d_is : d ≡ get_or figures left d) (u_is : u ≡ get_or (set figures left first) right u)
+          (first_is : IsPartFigure params (get_or nodes left g).kind (get_or nodes left y).wire d output first)
+          (second_is : IsPartFigure params (get_or nodes right h).kind (get_or nodes right z).wire u output second) where
         output_named : (f : TreeNode) → IsOutput i.params.library (buffer_of (get_or nodes (m - 1) f).kind) here output
         output_named f =
             subst (λ (x : Option ℕ). IsOutput i.params.library x here output)
             (sym (ap (λ (n : TreeNode). buffer_of n.kind) (get_or_default nodes (m - 1) f e inside) ∙ ap buffer_of kind_is))
             (subst (λ (x : Params). IsOutput x.library buffer here output) params_is output_is)
+
+        first_part : IsPartFigure i.params (get_or nodes left g).kind (get_or nodes left y).wire (get_or figures left d) output first
+        first_part =
+            subst (λ (x : Params). IsPartFigure x (get_or nodes left g).kind (get_or nodes left y).wire (get_or figures left d) output first)
+            params_is
+            (subst (λ (x : NodeFigure). IsPartFigure params (get_or nodes left g).kind (get_or nodes left y).wire x output first) d_is first_is)
+
+        second_part : IsPartFigure i.params (get_or nodes right h).kind (get_or nodes right z).wire (get_or figures right u) output second
+        second_part =
+            subst (λ (x : Params). IsPartFigure x (get_or nodes right h).kind (get_or nodes right z).wire (get_or figures right u) output second)
+            params_is
+            (subst (λ (x : NodeFigure). IsPartFigure params (get_or nodes right h).kind (get_or nodes right z).wire x output second)
+            (u_is ∙ right_stays params params_is first u) second_is)
 
         handed : (f : TreeNode)
             → IsSettled tree_children nodes f (IsRight i top.tree) (m - 1) (set (set figures left first) right second)
@@ -300,12 +365,17 @@ module _ (i : Parts) (valid : IsValid i) (nodes : List TreeNode) (ok : IsPostOrd
             let v : IsPair tree_children nodes (m - 1) (left, right) (get_or nodes (m - 1) f) = pair_at f in
             settled_at_pair tree_children (IsRight i top.tree) nodes f (m - 1) (left, right) figures first second (parts_named f) v inside
             (left_right i top.tree v.left v.right (get_or nodes (m - 1) f) v.above here output (right_pair f) (output_named f)
-            (get_or subtrees left d) (get_or nodes left g).wire first (left_value f d) (left_node f g)
-            (subst (λ (x : Params). IsPartFigure x.wire (get_or nodes left g).wire (get_or subtrees left d) output first) params_is first_is))
+            (get_or figures left d) (get_or nodes left g).kind (get_or nodes left y).wire first (left_value f d) (left_kind f g) (left_node f y) first_part)
             (right_right i top.tree v.left v.right (get_or nodes (m - 1) f) v.above here output (right_pair f) (output_named f)
-            (get_or subtrees right u) (get_or nodes right h).wire second (right_value f u) (right_node f h)
-            (subst (λ (x : Params). IsPartFigure x.wire (get_or nodes right h).wire (get_or subtrees right u) output second) params_is second_is))
+            (get_or figures right u) (get_or nodes right h).kind (get_or nodes right z).wire second (right_value f u) (right_kind f h) (right_node f z) second_part)
             (state.settled f)
+
+        -- what is known from below stays
+        pub known_at_pair : AllZip (IsKnownBelow i) (trees_of tree_children nodes) (set (set figures left first) right second)
+        known_at_pair =
+            let one : AllZip (IsKnownBelow i) (trees_of tree_children nodes) (set figures left first) =
+            still_known left d first figures known left_within (sym d_is) first_is.below first_is.residue in
+            still_known right u second (set figures left first) one right_within (sym u_is) second_is.below second_is.residue
 
         pub down_at_pair : (load_limit slew_limit : ℕ) → load_limit ≡ i.load_limit → slew_limit ≡ i.slew_limit → (x y : Bool)
             → (IsTrue x ↔ LoadIsMet load_limit (get_or nodes (m - 1) e).kind here.below)
@@ -320,21 +390,18 @@ module _ (i : Parts) (valid : IsValid i) (nodes : List TreeNode) (ok : IsPostOrd
             x y load_met slew_met (set (set figures left first) right second) handed)
 
   -- before the first step
-  pub down_at_start : (drive : Drive) → IfSome (root_of tree_children nodes) (λ root. IsDrive i root drive) → (z : Subtree)
-      → (limit : ℕ) → limit ≡ i.load_limit → (figures : List NodeFigure)
-      → figures ≡ replicate (length nodes) (record {
-        below = (get_or subtrees (length nodes - 1) z).below;
-        residue = (get_or subtrees (length nodes - 1) z).residue;
-        delay = drive.delay;
-        stage = drive.delay;
-      })
-      → IsDown i nodes (length nodes) figures (leb drive.load limit) true
-  down_at_start drive drive_is z limit limit_is figures filled = λ root root_is.
-      subst (λ r. Down i nodes r (length nodes) figures (leb drive.load limit) true) (is_root root root_is) (record {
-        settled = λ e. settled_at_start tree_children (IsRight i top.tree) nodes ok e (length nodes) figures top.tree top.root_is (omega arith)
-            (ap length filled ∙ length-replicate (length nodes) first)
+  pub down_at_start : (figures : List NodeFigure) → AllZip (IsKnownBelow i) (trees_of tree_children nodes) figures
+      → (drive : Drive) → IfSome (root_of tree_children nodes) (λ root. IsDrive i root drive) → (g : NodeFigure)
+      → get_or figures (length nodes - 1) g ≡ g → (limit : ℕ) → limit ≡ i.load_limit
+      → IsDown i nodes (length nodes)
+      (set figures (length nodes - 1) (record { below = g.below; residue = g.residue; delay = drive.delay; stage = drive.delay }))
+      (leb drive.load limit) true
+  down_at_start figures known drive drive_is g g_is limit limit_is = λ root root_is.
+      subst (λ r. Down i nodes r (length nodes) (set figures (length nodes - 1) first) (leb drive.load limit) true) (is_root root root_is) (record {
+        settled = λ e. settled_at_start tree_children (IsRight i top.tree) nodes ok e (length nodes) (set figures (length nodes - 1) first) top.tree
+            top.root_is (omega arith) (length-set figures (length nodes - 1) first ∙ long)
             (λ v. subst (IsRight i top.tree (occurrence [] top.tree)) (sym (at_last v))
-            (root_right i top.tree (get_or subtrees (length nodes - 1) z) drive.delay value driven.delay
+            (root_right i top.tree g drive.delay value driven.delay
             (not_above _ max_delay (λ above. driven.not_over (great_leaf_delay (omega (arith, above, driven.delay)))))));
         load = (
           (λ yes. (
@@ -352,28 +419,39 @@ module _ (i : Parts) (valid : IsValid i) (nodes : List TreeNode) (ok : IsPostOrd
       driven : IsDrive i top.tree drive
       driven = subst (λ o. IfSome o (λ root. IsDrive i root drive)) top.root_is drive_is
 
-      at : AtRoot i nodes subtrees
-      at = at_root i nodes ok subtrees all
+      some : 0 < length nodes
+      some = length_pos tree_children nodes ok
+
+      long : length figures ≡ length nodes
+      long = known_long figures known
 
       first : NodeFigure
-      first = record {
-        below = (get_or subtrees (length nodes - 1) z).below;
-        residue = (get_or subtrees (length nodes - 1) z).residue;
-        delay = drive.delay;
-        stage = drive.delay;
-      }
+      first = record { below = g.below; residue = g.residue; delay = drive.delay; stage = drive.delay }
 
-      value : IsSubtree i top.tree (get_or subtrees (length nodes - 1) z)
-      value = subst (λ t. IsSubtree i t (get_or subtrees (length nodes - 1) z)) (sym (is_root at.root at.root_is)) (at.value z)
+      value : IsKnownBelow i top.tree g
+      value =
+          subst (λ t. IsKnownBelow i t g) (get_or_from_slice_get (trees_of tree_children nodes) (length nodes - 1) top.tree top.tree at_root)
+          (subst (IsKnownBelow i (get_or (trees_of tree_children nodes) (length nodes - 1) top.tree)) g_is
+          (all_zip-at (IsKnownBelow i) (trees_of tree_children nodes) figures (length nodes - 1) top.tree g known
+          (omega (arith, some, length-trees_of tree_children nodes))))
 
-      at_last : (v : NodeFigure) → get_or figures (length nodes - 1) v ≡ first
-      at_last v = ap (λ fs. get_or fs (length nodes - 1) v) filled ∙ get_or-replicate (length nodes) (length nodes - 1) first v (omega (arith, at.some))
+      at_last : (v : NodeFigure) → get_or (set figures (length nodes - 1) first) (length nodes - 1) v ≡ first
+      at_last v = get_or-set_same figures (length nodes - 1) first v (omega (arith, some, long))
 
       none_left_trees : drop (length nodes) (trees_of tree_children nodes) ≡ []
       none_left_trees = drop_all (length nodes) (trees_of tree_children nodes) (omega (arith, length-trees_of tree_children nodes))
 
       none_left_occurrences : drop (length nodes) (occurrences_of tree_children nodes) ≡ []
       none_left_occurrences = drop_all (length nodes) (occurrences_of tree_children nodes) (omega (arith, length-occurrences_of tree_children nodes ok))
+
+  -- the root's figures are written, and what is known stays
+  pub known_at_start : (figures : List NodeFigure) → AllZip (IsKnownBelow i) (trees_of tree_children nodes) figures
+      → (g : NodeFigure) → get_or figures (length nodes - 1) g ≡ g → (delay : ℕ)
+      → AllZip (IsKnownBelow i) (trees_of tree_children nodes)
+      (set figures (length nodes - 1) (record { below = g.below; residue = g.residue; delay = delay; stage = delay }))
+  known_at_start figures known g g_is delay =
+      still_known (length nodes - 1) g (record { below = g.below; residue = g.residue; delay = delay; stage = delay }) figures known
+      (omega (arith, length_pos tree_children nodes ok)) g_is refl refl
 
   -- at the end
   pub down_at_end : (m : ℕ) → m ≡ 0 → (descent : Descent)

@@ -35,16 +35,12 @@ no_pair_over i nodes sound k = λ f.
     let is : get_or trees k f.tree ≡ f.tree = get_or_from_slice_get trees k f.tree f.tree f.found in
     sound k f.tree (slice_get_within trees k f.tree f.found) (inl (subst (IsPairOver i) (sym is) f.fails))
 
-module _ (i : Parts) (nodes : List TreeNode) (ok : IsPostOrder (map tree_children nodes)) (subtrees : List Subtree)
-    (all : AllZip (IsSubtree i) (trees_of tree_children nodes) subtrees) where
-  at : AtRoot i nodes subtrees
-  at = at_root i nodes ok subtrees all
+module _ (i : Parts) (nodes : List TreeNode) (ok : IsPostOrder (map tree_children nodes)) where
+  at : AtRoot nodes
+  at = at_root nodes ok
 
   pub some_node : 0 < length nodes
   some_node = at.some
-
-  pub root_ready : length nodes - 1 < length subtrees
-  root_ready = at.ready
 
   -- and the root isn't either
   pub driven : IsWithinLimits i nodes → ¬ IfSome (root_of tree_children nodes) (λ root. DriveOrOver i root None)
@@ -57,13 +53,13 @@ module _ (i : Parts) (nodes : List TreeNode) (ok : IsPostOrder (map tree_childre
       sound (length nodes - 1) at.root (slice_get_within trees (length nodes - 1) at.root found)
       (inr (at.root_is ∙ ap Some (sym is), subst (IsRootOver i) (sym is) (subst (λ o. IfSome o (λ root. DriveOrOver i root None)) at.root_is over)))
 
-  module _ (drive : Drive) (told : IfSome (root_of tree_children nodes) (λ root. DriveOrOver i root (Some drive))) (z : Subtree)
-      (e : TreeNode) where
+  module _ (s : Subtree) (root_known : IfSome (root_of tree_children nodes) (λ t. IsSubtree i t s)) (drive : Drive)
+      (told : IfSome (root_of tree_children nodes) (λ root. DriveOrOver i root (Some drive))) (e : TreeNode) where
     drive_is : IsDrive i at.root drive
     drive_is = subst (λ o. IfSome o (λ root. IsDrive i root drive)) at.root_is told
 
-    abbrev s : Subtree
-    s = get_or subtrees (length nodes - 1) z
+    value : IsSubtree i at.root s
+    value = subst (λ o. IfSome o (λ t. IsSubtree i t s)) at.root_is root_known
 
     abbrev wire : ℕ
     wire = (get_or nodes (length nodes - 1) e).wire
@@ -75,7 +71,7 @@ module _ (i : Parts) (nodes : List TreeNode) (ok : IsPostOrder (map tree_childre
     wires_small fits =
         omega (
           arith,
-          (at.value z).few_wires,
+          value.few_wires,
           at.size_is,
           fits.few,
           wire_is,
@@ -86,13 +82,13 @@ module _ (i : Parts) (nodes : List TreeNode) (ok : IsPostOrder (map tree_childre
     greatest_small =
         omega (
           arith,
-          (at.value z).greatest,
+          value.greatest,
           drive_is.delay,
           not_above _ max_delay (λ above. drive_is.not_over (great_leaf_delay above)),
         )
 
     pub least_small : s.least ≤ s.greatest
-    least_small = omega (arith, (at.value z).greatest, (at.value z).least, least_le_greatest i at.root)
+    least_small = omega (arith, value.greatest, value.least, least_le_greatest i at.root)
 
     -- the figures of the whole tree, over the nodes under another name
     pub figures_are : (tree : List TreeNode) → nodes ≡ tree → (descent : Descent)
@@ -118,11 +114,11 @@ module _ (i : Parts) (nodes : List TreeNode) (ok : IsPostOrder (map tree_childre
           figures_of = record {
             each_node = subst (AllZip (IsNodeFigure i at.root) (occurrences [] at.root)) (sym listed_is) down.each_node;
             source_load_is = drive_is.load;
-            wire_total = ap (λ w. s.wires + w) (sym wire_is) ∙ (at.value z).wires;
-            greatest = omega (arith, drive_is.delay, (at.value z).greatest, greatest_delay i at.root);
-            least = omega (arith, drive_is.delay, (at.value z).least, least_delay i at.root);
-            skew_is = omega (arith, (at.value z).greatest, (at.value z).least, greatest_delay i at.root, least_delay i at.root);
-            bound_is = (at.value z).bound_is;
+            wire_total = ap (λ w. s.wires + w) (sym wire_is) ∙ value.wires;
+            greatest = omega (arith, drive_is.delay, value.greatest, greatest_delay i at.root);
+            least = omega (arith, drive_is.delay, value.least, least_delay i at.root);
+            skew_is = omega (arith, value.greatest, value.least, greatest_delay i at.root, least_delay i at.root);
+            bound_is = value.bound_is;
             load_met = down.load_met;
             slew_met = down.slew_met;
           };
@@ -149,7 +145,7 @@ module _ (i : Parts) (nodes : List TreeNode) (ok : IsPostOrder (map tree_childre
           greatest_within = greatest_small;
           least_within = omega (arith, greatest_small, least_small);
           skew_within = omega (arith, greatest_small);
-          bound_within = omega (arith, (at.value z).small_bound, at.size_is, fits.few);
+          bound_within = omega (arith, value.small_bound, at.size_is, fits.few);
         }
 
     pub one_each : (descent : Descent) → IfSome (root_of tree_children nodes) (λ root. IsDescent i root descent)

@@ -2,15 +2,19 @@
 use Rattle.std.proofs.Common.{◌≡◌, ℕ, ◌+◌, ◌<◌, ◌≤◌, List, [], ◌∷◌, ◌++◌, map, take, length, get_or, Option, Some, None, refl, sym, ap, subst, ◌∙◌, arith}
 use Rattle.std.specs.Prelude.{IfSome, IfNone, IsSomeAnd, slice_get}
 use Rattle.std.specs.Option.{option_map_or, option_and_then}
-use Rattle.std.proofs.lemmas.Option.{slice_get-get_or, slice_get_within}
+use Rattle.std.proofs.lemmas.Option.{slice_get-get_or, slice_get_within, get_or_from_slice_get}
 use Rattle.std.specs.List.{AllZip}
 use Rattle.cts_units.specs.declared.params.Params.{Params}
 use Rattle.cts_units.specs.declared.params.Sink.{Sink}
 use Rattle.cts_units.specs.Limits.{max_length}
-use Rattle.cts_postorder.specs.BinaryTree.{fork, label}
+use Rattle.cts_units.specs.Choice.{seen_load_of}
+use Rattle.cts_postorder.specs.BinaryTree.{BinaryTree, tip, fork, label, size}
 use Rattle.cts_postorder.specs.PostOrder.{IsPostOrder, trees_of}
 use Rattle.cts_postorder.specs.Pass.{IsLeastFailure}
-use Rattle.cts_postorder.proofs.Upward.{UpAtPair, up_at_leaf, up_at_pair, up_long, least_failure}
+use Rattle.cts_postorder.proofs.Growth.{length-trees_of, label-tree}
+use Rattle.cts_postorder.proofs.Failures.{size-tree}
+use Rattle.cts_postorder.proofs.Lists.{IsPair, is_pair}
+use Rattle.cts_postorder.proofs.Upward.{up_more, leaf_here, least_failure}
 use Rattle.cts_tree.specs.declared.nodes.NodeKind.TheVariants.{Leaf, Pair}
 use Rattle.cts_tree.specs.declared.nodes.TreeNode.{TreeNode}
 use Rattle.cts_tree.specs.Nodes.{children_of, tree_children, buffer_of, leaf_sink}
@@ -21,8 +25,16 @@ use Rattle.cts_elmore.specs.declared.subtree.Branch.{Branch}
 use Rattle.cts_elmore.specs.Fits.{FitsInstance, NamesSink}
 use Rattle.cts_elmore.specs.Loads.{sink_load}
 use Rattle.cts_elmore.specs.Limits.{IsOverAtPair, long_left, long_right, IsPairOver}
-use Rattle.cts_elmore.specs.Subtrees.{IsSubtree, IsSubtreeInRange, IsBranch, PairOrOver}
+use Rattle.cts_elmore.specs.declared.figures.NodeFigure.{NodeFigure}
+use Rattle.cts_elmore.specs.Waiting.{StandsAt, AreWaiting}
+use Rattle.cts_elmore.specs.Subtrees.{IsSubtree, IsSubtreeInRange, IsKnownBelow, IsBranch, PairOrOver}
 use Rattle.cts_elmore.proofs.Rising.{subtree_in_range, leaf_is, pair_is, pair_over}
+use Rattle.cts_elmore.proofs.Waiting.{AtPair, waiting_at_leaf, waiting_at_pair, two_wait}
+
+pub slice_get_none : {X : Type 0} (xs : List X) (k : ℕ) → k < length xs → ¬ (slice_get xs k ≡ None)
+slice_get_none [] k h none = omega arith
+slice_get_none (x ∷ xs) k h none =
+    let found : slice_get (x ∷ xs) k ≡ Some (get_or (x ∷ xs) k x) = slice_get-get_or (x ∷ xs) k x h in cc
 
 pub if_none : {A : Type 0} {P : Type 0} (o : Option A) → P → IfNone o P
 if_none None p = p
@@ -35,34 +47,55 @@ sink_within sinks id sink names = by_found (slice_get sinks sink) refl names
     by_found None e none = absurd none
     by_found (Some s) e some = slice_get_within sinks sink s e
 
--- An instance, the nodes of a tree that fits it, and the subtrees before number k.
+-- what stands at a number that has a node
+pub stands : {N V : Type 0} (kids : N → Option (ℕ × ℕ)) (R : BinaryTree N → V → Type 0) (nodes : List N) (number : ℕ)
+    (t : BinaryTree N) (v : V) → slice_get (trees_of kids nodes) number ≡ Some t → R t v → StandsAt kids nodes R number v
+stands kids R nodes number t v found is = subst (λ o. IfSome o (λ u. R u v)) (sym found) is
+
+pub stood : {N V : Type 0} (kids : N → Option (ℕ × ℕ)) (R : BinaryTree N → V → Type 0) (nodes : List N) (number : ℕ)
+    (t : BinaryTree N) (v : V) → slice_get (trees_of kids nodes) number ≡ Some t → StandsAt kids nodes R number v → R t v
+stood kids R nodes number t v found is = subst (λ o. IfSome o (λ u. R u v)) found is
+
+-- An instance, the nodes of a tree that fits it, and the subtrees that wait at number k.
 module _ (i : Parts) (valid : IsValid i) (nodes : List TreeNode) (ok : IsPostOrder (map tree_children nodes))
-    (fits : FitsInstance i nodes) (k : ℕ) (h : k < length nodes) (subtrees : List Subtree)
-    (before : AllZip (IsSubtree i) (take k (trees_of tree_children nodes)) subtrees) where
-  -- the subtrees up to the number, with one more
-  abbrev pub Next : Subtree → Type 0
-  Next s = AllZip (IsSubtree i) (take (k + 1) (trees_of tree_children nodes)) (subtrees ++ s ∷ [])
+    (fits : FitsInstance i nodes) (k : ℕ) (h : k < length nodes) (waiting : List Subtree)
+    (before : AreWaiting tree_children nodes (IsSubtree i) k waiting) where
+  abbrev trees : List (BinaryTree TreeNode)
+  trees = trees_of tree_children nodes
 
-  abbrev pub Fails : Type 0
-  Fails = IsLeastFailure tree_children nodes (IsPairOver i) k
+  abbrev pub Here : Subtree → Type 0
+  Here s = StandsAt tree_children nodes (IsSubtree i) k s
 
-  pub leaf_next : (id sink : ℕ) (e : TreeNode) → (get_or nodes k e).kind ≡ Leaf id sink → (sinks : List Sink) → sinks ≡ i.sinks
-      → (d : Sink) (s : Subtree)
-      → s ≡ record { below = (get_or sinks sink d).cap; seen = (get_or sinks sink d).cap; wires = 0; greatest = 0; least = 0; residue = 0; bound = 0 }
-      → Next s
-  leaf_next id sink e here sinks sinks_are d s is =
-      let names : NamesSink i.sinks (Leaf id sink) = subst (NamesSink i.sinks) here (fits.sinks k e h) in
-      let cap : (get_or sinks sink d).cap ≡ sink_load i (get_or nodes k e) =
-      ap (λ (ss : List Sink). (get_or ss sink d).cap) sinks_are
-      ∙ ap (λ o. option_map_or (λ (x : Sink). x.cap) o 0) (sym (slice_get-get_or i.sinks sink d (sink_within i.sinks id sink names)))
-      ∙ ap (λ kind. option_map_or (λ (x : Sink). x.cap) (option_and_then (slice_get i.sinks) (leaf_sink kind)) 0) (sym here) in
-      up_at_leaf tree_children (IsSubtree i) nodes k e subtrees s h (ap children_of here) before
-      (leaf_is i (get_or nodes k e) s (get_or sinks sink d).cap cap is)
+  abbrev pub Over : Type 0
+  Over = IfSome (slice_get (trees_of tree_children nodes) k) (IsPairOver i)
+
+  -- a leaf
+  module _ (id sink : ℕ) (e : TreeNode) (here : (get_or nodes k e).kind ≡ Leaf id sink) where
+    pub leaf_here_is : (sinks : List Sink) → sinks ≡ i.sinks → (d : Sink) (s : Subtree)
+        → s ≡ record { below = (get_or sinks sink d).cap; seen = (get_or sinks sink d).cap; wires = 0; greatest = 0; least = 0; residue = 0; bound = 0 }
+        → Here s
+    leaf_here_is sinks sinks_are d s is =
+        let names : NamesSink i.sinks (Leaf id sink) = subst (NamesSink i.sinks) here (fits.sinks k e h) in
+        let cap : (get_or sinks sink d).cap ≡ sink_load i (get_or nodes k e) =
+        ap (λ (ss : List Sink). (get_or ss sink d).cap) sinks_are
+        ∙ ap (λ o. option_map_or (λ (x : Sink). x.cap) o 0) (sym (slice_get-get_or i.sinks sink d (sink_within i.sinks id sink names)))
+        ∙ ap (λ kind. option_map_or (λ (x : Sink). x.cap) (option_and_then (slice_get i.sinks) (leaf_sink kind)) 0) (sym here) in
+        let tree : get_or trees k (tip e) ≡ tip (get_or nodes k e) =
+        leaf_here tree_children (IsSubtree i) nodes k e (tip e) h (ap children_of here) in
+        stands tree_children (IsSubtree i) nodes k (tip (get_or nodes k e)) s
+        (slice_get-get_or trees k (tip e) (omega (arith, h, length-trees_of tree_children nodes)) ∙ ap Some tree)
+        (leaf_is i (get_or nodes k e) s (get_or sinks sink d).cap cap (ap buffer_of here) is)
+
+    pub leaf_next : (s : Subtree) → Here s → AreWaiting tree_children nodes (IsSubtree i) (k + 1) (waiting ++ s ∷ [])
+    leaf_next s is = waiting_at_leaf tree_children nodes (IsSubtree i) k e h waiting before (ap children_of here) s is
 
   -- a pair, by the numbers of its parts
   module _ (left right : ℕ) (buffer : Option ℕ) (e : TreeNode) (here : (get_or nodes k e).kind ≡ Pair left right buffer) where
-    at_pair : UpAtPair tree_children nodes (IsSubtree i) k (left, right) (get_or nodes k e) subtrees
-    at_pair = up_at_pair tree_children (IsSubtree i) nodes ok k e (left, right) subtrees h (ap children_of here) before
+    at_pair : IsPair tree_children nodes k (left, right) (get_or nodes k e)
+    at_pair = is_pair tree_children nodes ok k e (left, right) h (ap children_of here)
+
+    abbrev t : BinaryTree TreeNode
+    t = fork at_pair.left at_pair.right (get_or nodes k e)
 
     pub left_within : left < length nodes
     left_within = omega (arith, at_pair.left_below)
@@ -70,47 +103,69 @@ module _ (i : Parts) (valid : IsValid i) (nodes : List TreeNode) (ok : IsPostOrd
     pub right_within : right < length nodes
     right_within = omega (arith, at_pair.right_below)
 
-    pub left_ready : left < length subtrees
-    left_ready = omega (arith, at_pair.left_below, up_long tree_children (IsSubtree i) nodes k subtrees (omega arith) before)
+    pub two_ready : 2 ≤ length waiting
+    two_ready = two_wait tree_children nodes (IsSubtree i) k e h waiting before (left, right) (ap children_of here)
 
-    pub right_ready : right < length subtrees
-    right_ready = omega (arith, at_pair.right_below, up_long tree_children (IsSubtree i) nodes k subtrees (omega arith) before)
+    found : (number : ℕ) (u : BinaryTree TreeNode) → number < length nodes → ((d : BinaryTree TreeNode) → get_or trees number d ≡ u)
+        → slice_get trees number ≡ Some u
+    found number u w is =
+        slice_get-get_or trees number (tip e) (omega (arith, w, length-trees_of tree_children nodes)) ∙ ap Some (is (tip e))
 
-    pub left_in_range : (d : Subtree) → IsSubtreeInRange (get_or subtrees left d)
-    left_in_range d =
-        subtree_in_range i valid at_pair.left (get_or subtrees left d) (omega (arith, at_pair.left_size, fits.few)) (at_pair.left_value d)
+    small : (number : ℕ) (u : BinaryTree TreeNode) → number < length nodes → ((d : BinaryTree TreeNode) → get_or trees number d ≡ u)
+        → size u ≤ 131071
+    small number u w is =
+        omega (arith, size-tree tree_children nodes ok number (tip e) w, ap size (is (tip e)), fits.few, w)
 
-    pub right_in_range : (d : Subtree) → IsSubtreeInRange (get_or subtrees right d)
-    right_in_range d =
-        subtree_in_range i valid at_pair.right (get_or subtrees right d) (omega (arith, at_pair.right_size, fits.few)) (at_pair.right_value d)
+    -- the values of the two parts
+    module _ (rest : List Subtree) (first second : Subtree) (taken : waiting ≡ rest ++ first ∷ second ∷ []) where
+      values : AtPair tree_children nodes (IsSubtree i) k (left, right) rest first second
+      values =
+          waiting_at_pair tree_children nodes (IsSubtree i) k e h waiting before (left, right) (ap children_of here) rest first second taken
 
-    -- a pair that is over the limits is the first
-    fails : IsOverAtPair i at_pair.left at_pair.right (get_or nodes k e) → Fails
-    fails over =
-        least_failure tree_children (IsSubtree i) (IsPairOver i) (λ t s is. is.not_over) nodes subtrees k
-        (fork at_pair.left at_pair.right (get_or nodes k e)) before at_pair.here over
+      left_value : IsSubtree i at_pair.left first
+      left_value =
+          stood tree_children (IsSubtree i) nodes left at_pair.left first (found left at_pair.left left_within at_pair.left_tree) values.left_value
 
-    left_wire : (m : TreeNode) → (label at_pair.left).wire ≡ (get_or nodes left m).wire
-    left_wire m = ap (λ (x : TreeNode). x.wire) (at_pair.left_label m)
+      right_value : IsSubtree i at_pair.right second
+      right_value =
+          stood tree_children (IsSubtree i) nodes right at_pair.right second (found right at_pair.right right_within at_pair.right_tree) values.right_value
 
-    right_wire : (m : TreeNode) → (label at_pair.right).wire ≡ (get_or nodes right m).wire
-    right_wire m = ap (λ (x : TreeNode). x.wire) (at_pair.right_label m)
+      pub left_in_range : IsSubtreeInRange first
+      left_in_range = subtree_in_range i valid at_pair.left first (small left at_pair.left left_within at_pair.left_tree) left_value
 
-    pub over_by_left : (m : TreeNode) → max_length < (get_or nodes left m).wire → Fails
-    over_by_left m long = fails (long_left (omega (arith, long, left_wire m)))
+      pub right_in_range : IsSubtreeInRange second
+      right_in_range = subtree_in_range i valid at_pair.right second (small right at_pair.right right_within at_pair.right_tree) right_value
 
-    pub over_by_right : (m : TreeNode) → max_length < (get_or nodes right m).wire → Fails
-    over_by_right m long = fails (long_right (omega (arith, long, right_wire m)))
+      pub pair_waits : (s : Subtree) → Here s → AreWaiting tree_children nodes (IsSubtree i) (k + 1) (rest ++ s ∷ [])
+      pair_waits s is = values.next s is
 
-    module _ (m n : TreeNode) where
-      module _ (params : Params) (params_is : params ≡ i.params) (x y : Subtree) (p q : Branch)
-          (p_is : IsBranch params.wire (get_or nodes left m).wire (get_or subtrees left x) p)
-          (q_is : IsBranch params.wire (get_or nodes right n).wire (get_or subtrees right y) q) where
-        first : IsBranch i.params.wire (get_or nodes left m).wire (get_or subtrees left x) p
-        first = subst (λ (w : Params). IsBranch w.wire (get_or nodes left m).wire (get_or subtrees left x) p) params_is p_is
+      fails : IsOverAtPair i at_pair.left at_pair.right (get_or nodes k e) → Over
+      fails over = subst (λ o. IfSome o (IsPairOver i)) (sym (found k t h at_pair.tree)) over
 
-        second : IsBranch i.params.wire (get_or nodes right n).wire (get_or subtrees right y) q
-        second = subst (λ (w : Params). IsBranch w.wire (get_or nodes right n).wire (get_or subtrees right y) q) params_is q_is
+      left_wire : (m : TreeNode) → (label at_pair.left).wire ≡ (get_or nodes left m).wire
+      left_wire m =
+          ap (λ (u : BinaryTree TreeNode). (label u).wire) (sym (at_pair.left_tree (tip e)))
+          ∙ ap (λ (x : TreeNode). x.wire) (label-tree tree_children nodes left (tip e) m left_within)
+
+      right_wire : (m : TreeNode) → (label at_pair.right).wire ≡ (get_or nodes right m).wire
+      right_wire m =
+          ap (λ (u : BinaryTree TreeNode). (label u).wire) (sym (at_pair.right_tree (tip e)))
+          ∙ ap (λ (x : TreeNode). x.wire) (label-tree tree_children nodes right (tip e) m right_within)
+
+      pub over_by_left : (m : TreeNode) → max_length < (get_or nodes left m).wire → Over
+      over_by_left m long = fails (long_left (omega (arith, long, left_wire m)))
+
+      pub over_by_right : (m : TreeNode) → max_length < (get_or nodes right m).wire → Over
+      over_by_right m long = fails (long_right (omega (arith, long, right_wire m)))
+
+      module _ (m n : TreeNode) (params : Params) (params_is : params ≡ i.params) (p q : Branch)
+          (p_is : IsBranch params.wire (get_or nodes left m).wire first p)
+          (q_is : IsBranch params.wire (get_or nodes right n).wire second q) where
+        left_branch : IsBranch i.params.wire (get_or nodes left m).wire first p
+        left_branch = subst (λ (w : Params). IsBranch w.wire (get_or nodes left m).wire first p) params_is p_is
+
+        right_branch : IsBranch i.params.wire (get_or nodes right n).wire second q
+        right_branch = subst (λ (w : Params). IsBranch w.wire (get_or nodes right n).wire second q) params_is q_is
 
         named : (result : Option Subtree) → PairOrOver params.library buffer p q result
             → PairOrOver i.params.library (buffer_of (get_or nodes k e).kind) p q result
@@ -118,19 +173,58 @@ module _ (i : Parts) (valid : IsValid i) (nodes : List TreeNode) (ok : IsPostOrd
             subst (λ (b : Option ℕ). PairOrOver i.params.library b p q result) (sym (ap buffer_of here))
             (subst (λ (w : Params). PairOrOver w.library buffer p q result) params_is is)
 
-        pub pair_next : (get_or nodes left m).wire ≤ max_length → (get_or nodes right n).wire ≤ max_length → (result : Option Subtree)
-            → PairOrOver params.library buffer p q result → IfSome result Next
-        pair_next left_short right_short None is = tt
-        pair_next left_short right_short (Some s) is =
-            at_pair.next s
-            (pair_is i at_pair.left at_pair.right (get_or nodes k e) (get_or subtrees left x) (get_or subtrees right y)
-            (at_pair.left_value x) (at_pair.right_value y) (get_or nodes left m).wire (get_or nodes right n).wire (left_wire m) (right_wire n) p q first second s
-            (named (Some s) is) left_short right_short)
+        pub pair_here : (get_or nodes left m).wire ≤ max_length → (get_or nodes right n).wire ≤ max_length → (result : Option Subtree)
+            → PairOrOver params.library buffer p q result → IfSome result Here
+        pair_here left_short right_short None is = tt
+        pair_here left_short right_short (Some s) is =
+            stands tree_children (IsSubtree i) nodes k t s (found k t h at_pair.tree)
+            (pair_is i at_pair.left at_pair.right (get_or nodes k e) first second left_value right_value (get_or nodes left m).wire
+            (get_or nodes right n).wire (left_wire m) (right_wire n) p q left_branch right_branch s (named (Some s) is) left_short right_short)
 
-        pub pair_fails : (result : Option Subtree) → PairOrOver params.library buffer p q result → IfNone result Fails
+        pub pair_next : (get_or nodes left m).wire ≤ max_length → (get_or nodes right n).wire ≤ max_length → (result : Option Subtree)
+            → PairOrOver params.library buffer p q result
+            → IfSome result (λ s. AreWaiting tree_children nodes (IsSubtree i) (k + 1) (rest ++ s ∷ []))
+        pair_next left_short right_short None is = tt
+        pair_next left_short right_short (Some s) is = pair_waits s (pair_here left_short right_short (Some s) is)
+
+        pub pair_fails : (result : Option Subtree) → PairOrOver params.library buffer p q result → IfNone result Over
         pair_fails None is =
             fails
-            (pair_over i at_pair.left at_pair.right (get_or nodes k e) (get_or subtrees left x) (get_or subtrees right y)
-            (at_pair.left_value x) (at_pair.right_value y) (get_or nodes left m).wire (get_or nodes right n).wire (left_wire m) (right_wire n) p q first second
-            (named None is))
+            (pair_over i at_pair.left at_pair.right (get_or nodes k e) first second left_value right_value (get_or nodes left m).wire
+            (get_or nodes right n).wire (left_wire m) (right_wire n) p q left_branch right_branch (named None is))
         pair_fails (Some s) is = tt
+
+-- what is known of the nodes up to a number, with one more; and the least number that fails
+module _ (i : Parts) (nodes : List TreeNode) (k : ℕ) (h : k < length nodes) (figures : List NodeFigure)
+    (known : AllZip (IsKnownBelow i) (take k (trees_of tree_children nodes)) figures) where
+  pub known_next : (s : Subtree) → StandsAt tree_children nodes (IsSubtree i) k s → (f : NodeFigure) → f.below ≡ s.below
+      → f.residue ≡ s.residue
+      → AllZip (IsKnownBelow i) (take (k + 1) (trees_of tree_children nodes)) (figures ++ f ∷ [])
+  known_next s here f below residue_is = by_found (slice_get (trees_of tree_children nodes) k) refl here
+    where
+      by_found : (o : Option (BinaryTree TreeNode)) → slice_get (trees_of tree_children nodes) k ≡ o
+          → IfSome o (λ t. IsSubtree i t s)
+          → AllZip (IsKnownBelow i) (take (k + 1) (trees_of tree_children nodes)) (figures ++ f ∷ [])
+      by_found None none is =
+          let some : k < length (trees_of tree_children nodes) = omega (arith, h, length-trees_of tree_children nodes) in
+          absurd (slice_get_none (trees_of tree_children nodes) k some none)
+      by_found (Some t) found is =
+          up_more tree_children (IsKnownBelow i) nodes k t t figures f h (get_or_from_slice_get (trees_of tree_children nodes) k t t found) known
+          (record {
+            below = below ∙ is.below;
+            residue_is = residue_is ∙ is.residue_is;
+            seen = ap (seen_load_of i.params.library (buffer_of (label t).kind)) below ∙ sym is.seen_by_kind ∙ is.seen;
+            not_over = is.not_over;
+          })
+
+  pub first_failure : IfSome (slice_get (trees_of tree_children nodes) k) (IsPairOver i)
+      → IsLeastFailure tree_children nodes (IsPairOver i) k
+  first_failure over = by_found (slice_get (trees_of tree_children nodes) k) refl over
+    where
+      by_found : (o : Option (BinaryTree TreeNode)) → slice_get (trees_of tree_children nodes) k ≡ o → IfSome o (IsPairOver i)
+          → IsLeastFailure tree_children nodes (IsPairOver i) k
+      by_found None none fails =
+          let some : k < length (trees_of tree_children nodes) = omega (arith, h, length-trees_of tree_children nodes) in
+          absurd (slice_get_none (trees_of tree_children nodes) k some none)
+      by_found (Some t) found fails =
+          least_failure tree_children (IsKnownBelow i) (IsPairOver i) (λ u f is. is.not_over) nodes figures k t known found fails

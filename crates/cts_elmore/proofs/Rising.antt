@@ -111,13 +111,15 @@ module _ (i : Parts) (valid : IsValid i) where
 
 module _ (i : Parts) where
   -- a leaf
-  pub leaf_is : (n : TreeNode) (s : Subtree) (cap : ℕ) → cap ≡ sink_load i n
+  pub leaf_is : (n : TreeNode) (s : Subtree) (cap : ℕ) → cap ≡ sink_load i n → buffer_of n.kind ≡ None
       → s ≡ record { below = cap; seen = cap; wires = 0; greatest = 0; least = 0; residue = 0; bound = 0 }
       → IsSubtree i (tip n) s
   unfolding load_below residue labels label size
-  leaf_is n s cap load_is is = record {
+  leaf_is n s cap load_is unbuffered is = record {
     below = ap (λ (x : Subtree). x.below) is ∙ load_is;
     seen = ap (λ (x : Subtree). x.seen) is ∙ load_is;
+    seen_by_kind = ap (λ (x : Subtree). x.seen) is ∙ ap (λ (x : Subtree). x.below) (sym is)
+        ∙ ap (λ b. seen_load_of i.params.library b s.below) (sym unbuffered);
     wires = ap (λ (x : Subtree). x.wires + n.wire) is;
     greatest = ap (λ (x : Subtree). x.greatest) is ∙ sym (greatest_at_tip i n);
     least = ap (λ (x : Subtree). x.least) is ∙ sym (least_at_tip i n);
@@ -181,6 +183,7 @@ module _ (i : Parts) (l r : BinaryTree TreeNode) (n : TreeNode) (a b : Subtree) 
       record {
         below = below;
         seen = s_is.seen ∙ seen_at_pair i l r n (p.load + q.load) branch_load;
+        seen_by_kind = s_is.seen ∙ ap (seen_load_of i.params.library (buffer_of n.kind)) (sym s_is.below);
         wires = omega (arith, wires, s_is.wires, p_is.wires, q_is.wires, a_is.wires, b_is.wires, left_is, right_is);
         greatest = greatest_is;
         least = least ∙ ap₂ (λ x y. min x y + buffer_delay i (fork l r n)) (branch_least.0) (branch_least.1)

@@ -1,17 +1,14 @@
 -- The root of a tree, at its last number, and what the source drives there.
 use Rattle.std.proofs.Common.{◌≡◌, ℕ, ◌+◌, ◌-◌, ◌*◌, ◌<◌, ◌≤◌, inl, inr, List, map, length, get_or, Option, Some, None, sym, ap, ap₂, subst, ◌∙◌, arith}
 use Rattle.std.specs.Prelude.{IfSome, MatchOption}
-use Rattle.std.specs.List.{AllZip}
 use Rattle.std.proofs.lemmas.Option.{get_or_from_slice_get}
-use Rattle.std.proofs.lemmas.Slice.Zip.{AllZip-long}
 use Rattle.cts_units.specs.declared.params.Params.{Params}
 use Rattle.cts_units.specs.Delay.{wire_delay_of}
 use Rattle.cts_units.specs.Limits.{max_length, max_load, max_delay}
 use Rattle.cts_postorder.specs.BinaryTree.{BinaryTree, label, size}
 use Rattle.cts_postorder.specs.PostOrder.{IsPostOrder, trees_of, root_of}
-use Rattle.cts_postorder.proofs.Growth.{length-trees_of, label-tree}
+use Rattle.cts_postorder.proofs.Growth.{label-tree}
 use Rattle.cts_postorder.proofs.Lists.{Whole, whole_of, length_pos}
-use Rattle.cts_postorder.proofs.Zips.{all_zip-at}
 use Rattle.cts_tree.specs.declared.nodes.TreeNode.{TreeNode}
 use Rattle.cts_tree.specs.Nodes.{tree_children}
 use Rattle.cts_instance.specs.declared.parts.Parts.{Parts}
@@ -24,36 +21,32 @@ use Rattle.cts_elmore.specs.Subtrees.{IsSubtree, IsDriveThrough, IsDriveOver, Dr
 use Rattle.cts_elmore.proofs.Rising.{through_is}
 
 -- what stands at the last number
-pub record AtRoot (i : Parts) (nodes : List TreeNode) (subtrees : List Subtree) : Type 0 where
+pub record AtRoot (nodes : List TreeNode) : Type 0 where
   pub root : BinaryTree TreeNode
   pub root_is : root_of tree_children nodes ≡ Some root
   pub some : 0 < length nodes
-  pub ready : length nodes - 1 < length subtrees
   pub node : (e : TreeNode) → label root ≡ get_or nodes (length nodes - 1) e
-  pub value : (d : Subtree) → IsSubtree i root (get_or subtrees (length nodes - 1) d)
   pub size_is : size root ≡ length nodes
 
-module _ (i : Parts) (nodes : List TreeNode) (ok : IsPostOrder (map tree_children nodes)) where
-  pub at_root : (subtrees : List Subtree) → AllZip (IsSubtree i) (trees_of tree_children nodes) subtrees
-      → AtRoot i nodes subtrees
+module _ (nodes : List TreeNode) (ok : IsPostOrder (map tree_children nodes)) where
+  pub at_root : AtRoot nodes
   unfolding root_of
-  at_root subtrees all =
+  at_root =
       let w : Whole tree_children nodes = whole_of tree_children nodes ok in
-      let trees : List (BinaryTree TreeNode) = trees_of tree_children nodes in
       let last : ℕ = length nodes - 1 in
       let some : 0 < length nodes = length_pos tree_children nodes ok in
-      let long : length trees ≡ length nodes = length-trees_of tree_children nodes in
-      let here : get_or trees last w.tree ≡ w.tree = get_or_from_slice_get trees last w.tree w.tree w.root_is in
+      let here : get_or (trees_of tree_children nodes) last w.tree ≡ w.tree =
+      get_or_from_slice_get (trees_of tree_children nodes) last w.tree w.tree w.root_is in
       record {
         root = w.tree;
         root_is = w.root_is;
         some = some;
-        ready = omega (arith, AllZip-long (IsSubtree i) trees subtrees all);
         node = λ e. ap label (sym here) ∙ label-tree tree_children nodes last w.tree e (omega arith);
-        value = λ d. subst (λ t. IsSubtree i t (get_or subtrees last d)) here
-            (all_zip-at (IsSubtree i) trees subtrees last w.tree d all (omega arith));
         size_is = w.size_is;
       }
+
+  pub root_told : (P : BinaryTree TreeNode → Type 0) → IfSome (root_of tree_children nodes) P → P at_root.root
+  root_told P p = subst (λ o. IfSome o P) at_root.root_is p
 
   -- what is told of the root is told of the tree at the last number
   pub if_root : (P : BinaryTree TreeNode → Type 0) (root : BinaryTree TreeNode) → root_of tree_children nodes ≡ Some root

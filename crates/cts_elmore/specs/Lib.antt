@@ -3,6 +3,7 @@ pub mod Loads
 pub mod Delays
 pub mod Skew
 pub mod Limits
+pub mod Waiting
 pub mod Subtrees
 pub mod Outputs
 pub mod Figures

@@ -2,17 +2,17 @@
 use Rattle.std.specs.Prelude.{◌≡◌, ℕ, ◌+◌, ◌*◌, ◌≤◌, ◌↔◌, List, [], slice_get, All, Option, Some, None, IsTrue}
 use Rattle.std.specs.List.{AllZip}
 use Rattle.std.specs.Option.{option_map_or}
-use Rattle.cts_units.specs.declared.params.Wire.{Wire}
+use Rattle.cts_units.specs.declared.params.Params.{Params}
 use Rattle.cts_units.specs.declared.params.Buffer.{Buffer}
 use Rattle.cts_units.specs.Delay.{wire_delay_of, slew_of}
-use Rattle.cts_units.specs.Choice.{added_delay_of}
+use Rattle.cts_units.specs.Choice.{added_delay_of, seen_load_of}
 use Rattle.cts_postorder.specs.BinaryTree.{BinaryTree}
 use Rattle.cts_postorder.specs.Occurrence.{occurrences}
 use Rattle.cts_tree.specs.declared.nodes.TreeNode.{TreeNode}
+use Rattle.cts_tree.specs.Nodes.{buffer_of}
 use Rattle.cts_tree.specs.declared.nodes.NodeKind.{NodeKind}
 use Rattle.cts_tree.specs.declared.nodes.NodeKind.TheVariants.{Leaf, Pair}
 use Rattle.cts_elmore.specs.declared.figures.NodeFigure.{NodeFigure}
-use Rattle.cts_elmore.specs.declared.subtree.Subtree.{Subtree}
 use Rattle.cts_elmore.specs.declared.descent.Output.{Output}
 use Rattle.cts_elmore.specs.declared.descent.Descent.{Descent}
 use Rattle.cts_elmore.specs.Limits.{MeetsLoadLimit, MeetsSlewLimit}
@@ -29,11 +29,17 @@ pub record IsOutput (library : List Buffer) (buffer : Option ℕ) (here : NodeFi
   pub delay : output.delay ≡ here.delay + added_delay_of library buffer here.below
   pub stage : output.stage ≡ stage_after library buffer here.below here.stage
 
-pub record IsPartFigure (wire : Wire) (length : ℕ) (part : Subtree) (output : Output) (figure : NodeFigure) : Type 0 where
+-- the figures of a part of a pair: what was known of it, and the pair's delays with that of the part's wire
+pub record IsPartFigure (params : Params) (kind : NodeKind) (length : ℕ) (part : NodeFigure) (output : Output)
+    (figure : NodeFigure) : Type 0 where
   pub below : figure.below ≡ part.below
   pub residue : figure.residue ≡ part.residue
-  pub delay : figure.delay ≡ output.delay + wire_delay_of wire.r wire.c length part.seen
-  pub stage : figure.stage ≡ output.stage + wire_delay_of wire.r wire.c length part.seen
+  pub delay : figure.delay
+      ≡ output.delay
+      + wire_delay_of params.wire.r params.wire.c length (seen_load_of params.library (buffer_of kind) part.below)
+  pub stage : figure.stage
+      ≡ output.stage
+      + wire_delay_of params.wire.r params.wire.c length (seen_load_of params.library (buffer_of kind) part.below)
 
 -- a buffer drives no more than the limit
 abbrev pub LoadIsMet : ℕ → NodeKind → ℕ → Type 0

@@ -1,5 +1,5 @@
 -- What a pass upward keeps of each subtree, and of a subtree with the wire above it.
-use Rattle.std.specs.Prelude.{◌≡◌, ℕ, ◌+◌, ◌*◌, ◌^◌, ◌<◌, ◌≤◌, ◌⊎◌, List, min, max, sum_by, Option, MatchOption}
+use Rattle.std.specs.Prelude.{◌≡◌, ℕ, ◌+◌, ◌*◌, ◌^◌, ◌<◌, ◌≤◌, ◌⊎◌, List, min, max, sum_by, Option, IfSome, MatchOption}
 use Rattle.std.specs.Int.{abs_diff}
 use Rattle.std.specs.List.{AllZip}
 use Rattle.cts_units.specs.declared.params.Wire.{Wire}
@@ -8,11 +8,12 @@ use Rattle.cts_units.specs.Delay.{wire_delay_of}
 use Rattle.cts_units.specs.Choice.{added_delay_of, seen_load_of}
 use Rattle.cts_units.specs.Limits.{max_length, max_load, max_delay}
 use Rattle.cts_postorder.specs.BinaryTree.{BinaryTree, label, labels, size}
-use Rattle.cts_postorder.specs.PostOrder.{trees_of}
+use Rattle.cts_postorder.specs.PostOrder.{root_of, trees_of}
 use Rattle.cts_postorder.specs.Pass.{IsLeastFailure}
 use Rattle.cts_tree.specs.declared.nodes.TreeNode.{TreeNode}
-use Rattle.cts_tree.specs.Nodes.{tree_children}
+use Rattle.cts_tree.specs.Nodes.{buffer_of, tree_children}
 use Rattle.cts_instance.specs.declared.parts.Parts.{Parts}
+use Rattle.cts_elmore.specs.declared.figures.NodeFigure.{NodeFigure}
 use Rattle.cts_elmore.specs.declared.subtree.Subtree.{Subtree}
 use Rattle.cts_elmore.specs.declared.drive.Drive.{Drive}
 use Rattle.cts_elmore.specs.declared.subtree.Branch.{Branch}
@@ -27,6 +28,7 @@ use Rattle.cts_elmore.specs.Limits.{IsPairOver, IsRootOver}
 pub record IsSubtree (i : Parts) (t : BinaryTree TreeNode) (s : Subtree) : Type 0 where
   pub below : s.below ≡ load_below i t
   pub seen : s.seen ≡ load_seen i t
+  pub seen_by_kind : s.seen ≡ seen_load_of i.params.library (buffer_of (label t).kind) s.below
   pub wires : s.wires + (label t).wire ≡ sum_by (λ node. node.wire) (labels t)
   pub greatest : s.greatest ≡ greatest_below i t
   pub least : s.least ≡ least_below i t
@@ -78,9 +80,20 @@ PairOrOver library buffer a b result =
     ((max_load < a.load + b.load) ⊎ (max_delay < max a.greatest b.greatest + added_delay_of library buffer (a.load + b.load)))
     (IsPair library buffer a b)
 
--- what a pass upward over a tree answers: the values of every subtree, or the least number of a pair that is over the limits
+-- What a pass upward says of a node's figures: all but the delays from the source. What is seen of the subtree is told by
+-- the node's kind and the load.
+pub record IsKnownBelow (i : Parts) (t : BinaryTree TreeNode) (figure : NodeFigure) : Type 0 where
+  pub below : figure.below ≡ load_below i t
+  pub residue_is : figure.residue ≡ residue i t
+  pub seen : seen_load_of i.params.library (buffer_of (label t).kind) figure.below ≡ load_seen i t
+  pub not_over : ¬ IsPairOver i t
+
+-- what a pass upward over a tree answers: the root's values and what is known of every node, or the least number of a pair that
+-- is over the limits
 abbrev pub IsGathered : Parts → List TreeNode → Gathered → Type 0
-IsGathered i nodes (Within subtrees) = AllZip (IsSubtree i) (trees_of tree_children nodes) subtrees.items
+IsGathered i nodes (Within root figures) =
+    IfSome (root_of tree_children nodes) (λ t. IsSubtree i t root)
+    × AllZip (IsKnownBelow i) (trees_of tree_children nodes) figures.items
 IsGathered i nodes (Over node) = IsLeastFailure tree_children nodes (IsPairOver i) node
 
 -- what a source drives through a root's wire, within the limits

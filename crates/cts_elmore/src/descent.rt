@@ -1,22 +1,20 @@
 //! A pass downward: the figures of each node, from those of the pair above it.
 
-ghost use Rattle.std.specs.Prelude.{◌≡◌, ◌+◌, ◌^◌, ◌<◌, ◌≤◌, ◌↔◌, length, map, All, IfOk, IfSome, IsTrue};
+ghost use Rattle.std.specs.Prelude.{◌≡◌, ◌+◌, ◌^◌, ◌<◌, ◌≤◌, ◌↔◌, length, map, All, IfSome, IsTrue};
 ghost use Rattle.std.specs.List.{AllZip};
-ghost use Rattle.cts_units.specs.Limits.{IsBuffer, IsWire, max_delay, max_length, max_load};
+ghost use Rattle.cts_units.specs.Choice.{seen_load_of};
+ghost use Rattle.cts_units.specs.Limits.{IsBuffer, IsParams, max_delay, max_length, max_load};
 ghost use Rattle.cts_postorder.specs.PostOrder.{IsPostOrder, root_of, trees_of};
-ghost use Rattle.cts_tree.specs.Nodes.{tree_children};
-ghost use Rattle.cts_elmore.specs.Fits.{FitsInstance};
+ghost use Rattle.cts_tree.specs.Nodes.{buffer_of, tree_children};
+ghost use Rattle.cts_elmore.specs.Fits.{FitsInstance, NamesBuffer};
 ghost use Rattle.cts_elmore.specs.Outputs.{IsDescent, IsOutput, IsPartFigure, LoadIsMet, SlewIsMet};
-ghost use Rattle.cts_elmore.specs.Subtrees.{IsDrive, IsSubtree, IsSubtreeInRange};
+ghost use Rattle.cts_elmore.specs.Subtrees.{IsDrive, IsKnownBelow};
 
 use crate::drive::{Drive, resistance_delay};
 use crate::figures::NodeFigure;
-use crate::subtree::Subtree;
 use cts_instance::Instance;
-use cts_num::NoMemory;
 use cts_tree::{NodeKind, TreeNode};
-use cts_units::{Buffer, Wire, buffer_delay, slew_tenths, wire_delay};
-use std::alloc::Global;
+use cts_units::{Buffer, Params, buffer_delay, slew_tenths, wire_delay};
 
 /// What a node hands down to its parts: doubled delays in 10^-27 s, below its buffer if it has one.
 #[derive(Clone, Copy)]
@@ -51,16 +49,39 @@ fn output_of(library: &[Buffer], buffer: Option<u16>, here: &NodeFigure) -> Outp
     }
 }
 
-/// The figures of a part of a pair with this output, below a wire of `length` nm.
-fn part_figure(wire: Wire, length: u64, part: &Subtree, output: &Output) -> NodeFigure
-    requires wire { IsWire wire }
+/// The load that is seen from above a node of this kind.
+fn seen_load(library: &[Buffer], kind: NodeKind, below: u64) -> u64
+    requires kind { NamesBuffer library.now kind }
+    ensures { result ≡ seen_load_of library.now (buffer_of kind) below }
+{
+    match kind {
+        NodeKind::Pair {
+            buffer: Some(index),
+            ..
+        } => library[index as usize].cin,
+        NodeKind::Leaf { .. } | NodeKind::Pair { buffer: None, .. } => below,
+    }
+}
+
+/// The figures of a part of a pair with this output, below a wire of `length` nm, of which the pass upward
+/// has known the load and the residue.
+fn part_figure(
+    params: &Params,
+    kind: NodeKind,
+    length: u64,
+    part: &NodeFigure,
+    output: &Output,
+) -> NodeFigure
+    requires params { IsParams params.now }
+    requires kind { NamesBuffer params.now.library kind }
     requires length { length ≤ max_length }
-    requires part { IsSubtreeInRange part.now }
+    requires seen { seen_load_of params.now.library (buffer_of kind) part.now.below ≤ max_load }
     requires delay { output.now.delay ≤ 2 ^ 119 }
     requires stage { output.now.stage ≤ 2 ^ 119 }
-    ensures { IsPartFigure wire length part.now output.now result }
+    ensures { IsPartFigure params.now kind length part.now output.now result }
 {
-    let through = wire_delay(wire, length, part.seen);
+    let seen = seen_load(params.library.items(), kind, part.below);
+    let through = wire_delay(params.wire, length, seen);
     NodeFigure {
         below: part.below,
         residue: part.residue,
@@ -105,31 +126,28 @@ pub struct Descent {
     pub slew_met: bool,
 }
 
-/// The figures of the nodes of a tree with these subtrees, which the source drives so.
+/// The figures of the nodes of a tree that the source drives so, from what is known of them from below.
 pub fn descend(
-    alloc: Global,
     instance: &Instance,
     nodes: &[TreeNode],
-    subtrees: &[Subtree],
+    mut figures: Vec<NodeFigure>,
     drive: Drive,
-) -> Result<Descent, NoMemory>
+) -> Descent
     requires post_order { IsPostOrder (map tree_children nodes.now) }
     requires fits { FitsInstance instance.now nodes.now }
-    requires subtrees { AllZip (IsSubtree instance.now) (trees_of tree_children nodes.now) subtrees.now }
+    requires known { AllZip (IsKnownBelow instance.now) (trees_of tree_children nodes.now) figures.items }
     requires drive { IfSome (root_of tree_children nodes.now) (λ root. IsDrive instance.now root drive) }
-    ensures { IfOk result (λ descent.
-        IfSome (root_of tree_children nodes.now) (λ root. IsDescent instance.now root descent)) }
+    ensures { IfSome (root_of tree_children nodes.now) (λ root. IsDescent instance.now root result) }
 {
     let params = instance.params();
     let last = nodes.len() - 1;
-    let root = subtrees[last];
-    let top = NodeFigure {
+    let root = figures[last];
+    figures[last] = NodeFigure {
         below: root.below,
         residue: root.residue,
         delay: drive.delay,
         stage: drive.delay,
     };
-    let mut figures = vec![in alloc; top; nodes.len()]?;
     let mut load_met = drive.load <= instance.load_limit();
     let mut slew_met = true;
     for number in (0..nodes.len()).rev() {
@@ -145,13 +163,25 @@ pub fn descend(
         {
             let (left, right) = (left as usize, right as usize);
             let output = output_of(params.library.items(), buffer, &here);
-            figures[left] = part_figure(params.wire, nodes[left].wire, &subtrees[left], &output);
-            figures[right] = part_figure(params.wire, nodes[right].wire, &subtrees[right], &output);
+            figures[left] = part_figure(
+                params,
+                nodes[left].kind,
+                nodes[left].wire,
+                &figures[left],
+                &output,
+            );
+            figures[right] = part_figure(
+                params,
+                nodes[right].kind,
+                nodes[right].wire,
+                &figures[right],
+                &output,
+            );
         }
     }
-    Ok(Descent {
+    Descent {
         figures,
         load_met,
         slew_met,
-    })
+    }
 }

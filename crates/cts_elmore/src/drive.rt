@@ -1,9 +1,8 @@
 //! What resistances drive: the source, and the outputs of buffers.
 
 ghost use Rattle.std.specs.Prelude.{◌≡◌, ◌+◌, ◌*◌, ◌^◌, ◌<◌, ◌≤◌, map, IfSome, MatchOption};
-ghost use Rattle.std.specs.List.{AllZip};
 ghost use Rattle.cts_units.specs.Limits.{IsWire, max_load};
-ghost use Rattle.cts_postorder.specs.PostOrder.{IsPostOrder, root_of, trees_of};
+ghost use Rattle.cts_postorder.specs.PostOrder.{IsPostOrder, root_of};
 ghost use Rattle.cts_tree.specs.Nodes.{tree_children};
 ghost use Rattle.cts_elmore.specs.Fits.{FitsInstance};
 ghost use Rattle.cts_elmore.specs.Subtrees.{DriveOrOver, IsDriveOver, IsDriveThrough, IsSubtree, IsSubtreeInRange};
@@ -65,18 +64,17 @@ fn drive_through(resistance: u64, wire: Wire, length: u64, root: &Subtree) -> Op
     Some(Drive { load, delay })
 }
 
-/// What the source drives, or `None` exactly where the root is over the limits.
-pub fn drive_root(instance: &Instance, nodes: &[TreeNode], subtrees: &[Subtree]) -> Option<Drive>
+/// What the source drives through the root's wire, or `None` exactly where the root is over the limits.
+pub fn drive_root(instance: &Instance, nodes: &[TreeNode], root: &Subtree) -> Option<Drive>
     requires post_order { IsPostOrder (map tree_children nodes.now) }
     requires fits { FitsInstance instance.now nodes.now }
-    requires subtrees { AllZip (IsSubtree instance.now) (trees_of tree_children nodes.now) subtrees.now }
-    ensures { IfSome (root_of tree_children nodes.now) (λ root. DriveOrOver instance.now root result) }
+    requires root { IfSome (root_of tree_children nodes.now) (λ t. IsSubtree instance.now t root.now) }
+    ensures { IfSome (root_of tree_children nodes.now) (λ t. DriveOrOver instance.now t result) }
 {
-    let last = nodes.len() - 1;
     drive_through(
         instance.source_r(),
         instance.params().wire,
-        nodes[last].wire,
-        &subtrees[last],
+        nodes[nodes.len() - 1].wire,
+        root,
     )
 }

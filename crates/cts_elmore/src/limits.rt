@@ -27,7 +27,7 @@ pub fn within(alloc: Global, instance: &Instance, tree: &Tree) -> Result<Option<
     let nodes = tree.nodes();
     match gather(alloc, instance, nodes)? {
         Gathered::Over { node } => Ok(Some(node)),
-        Gathered::Within(subtrees) => match drive_root(instance, nodes, subtrees.as_slice()) {
+        Gathered::Within { root, .. } => match drive_root(instance, nodes, &root) {
             Some(_) => Ok(None),
             None => Ok(Some((nodes.len() - 1) as u32)),
         },

@@ -30,21 +30,18 @@ pub fn measure(alloc: Global, instance: &Instance, tree: &Tree) -> Result<Figure
     ensures in_range { IfOk result AreFiguresInRange }
 {
     let nodes = tree.nodes();
-    let subtrees = match gather(alloc, instance, nodes)? {
-        Gathered::Within(subtrees) => subtrees,
+    let (root, figures) = match gather(alloc, instance, nodes)? {
+        Gathered::Within { root, figures } => (root, figures),
         Gathered::Over { .. } => unreachable!(),
     };
-    let subtrees = subtrees.as_slice();
-    let Some(drive) = drive_root(instance, nodes, subtrees) else {
+    let Some(drive) = drive_root(instance, nodes, &root) else {
         unreachable!()
     };
-    let descent = descend(alloc, instance, nodes, subtrees, drive)?;
-    let last = nodes.len() - 1;
-    let root = subtrees[last];
+    let descent = descend(instance, nodes, figures, drive);
     Ok(Figures {
         nodes: NodeFigures::of(descent.figures),
         source_load: drive.load,
-        wire_total: root.wires + nodes[last].wire,
+        wire_total: root.wires + nodes[nodes.len() - 1].wire,
         greatest: drive.delay + root.greatest,
         least: drive.delay + root.least,
         skew: root.greatest - root.least,

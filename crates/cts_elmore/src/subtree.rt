@@ -1,15 +1,15 @@
 //! A pass upward: what is known of each subtree when the pair above it is reached.
 
-ghost use Rattle.std.specs.Prelude.{◌≡◌, ◌+◌, ◌<◌, ◌≤◌, ◌++◌, ◌∷◌, [], map, take, length, IfSome, IfNone, IfOk, MatchOption};
-ghost use Rattle.std.specs.List.{AllZip};
+ghost use Rattle.std.specs.Prelude.{◌≡◌, ◌+◌, ◌<◌, ◌≤◌, ◌++◌, ◌∷◌, [], map, length, vec_len, slice_get, IfSome, IfNone, IfOk, MatchOption};
 ghost use Rattle.cts_units.specs.Limits.{IsParams, IsWire, max_length};
 ghost use Rattle.cts_postorder.specs.PostOrder.{IsPostOrder, trees_of};
-ghost use Rattle.cts_postorder.specs.Pass.{IsLeastFailure};
 ghost use Rattle.cts_tree.specs.Nodes.{tree_children};
 ghost use Rattle.cts_elmore.specs.Fits.{FitsInstance};
 ghost use Rattle.cts_elmore.specs.Limits.{IsPairOver};
 ghost use Rattle.cts_elmore.specs.Subtrees.{IsBranch, IsBranchInRange, IsSubtree, IsSubtreeInRange, IsGathered, PairOrOver};
+ghost use Rattle.cts_elmore.specs.Waiting.{AreWaiting, StandsAt};
 
+use crate::figures::NodeFigure;
 use cts_instance::Instance;
 use cts_num::NoMemory;
 use cts_tree::{NodeKind, TreeNode};
@@ -116,21 +116,33 @@ fn pair(params: &Params, a: &Branch, b: &Branch, buffer: Option<u16>) -> Option<
     })
 }
 
-/// The subtree at a number, by those before it, or `None` exactly where it is a pair that is over
-/// the limits.
+/// The two latest of the subtrees that wait, the earlier one first. They leave the list.
+fn take_pair(waiting: &mut Vec<Subtree>) -> (Subtree, Subtree)
+    requires two { 2 ≤ vec_len waiting.old }
+    ensures { waiting.old.items ≡ waiting.new.items ++ result.0 ∷ result.1 ∷ [] }
+{
+    let (Some(second), Some(first)) = (waiting.pop(), waiting.pop()) else {
+        unreachable!()
+    };
+    (first, second)
+}
+
+/// The subtree at a number, by those that wait for the pair above them, or `None` exactly where it is a
+/// pair that is over the limits. A pair's parts no longer wait.
 fn subtree_at(
     instance: &Instance,
     nodes: &[TreeNode],
     number: usize,
-    subtrees: &[Subtree],
+    waiting: &mut Vec<Subtree>,
 ) -> Option<Subtree>
     requires post_order { IsPostOrder (map tree_children nodes.now) }
     requires fits { FitsInstance instance.now nodes.now }
     requires number { number < length nodes.now }
-    requires before { AllZip (IsSubtree instance.now) (take number (trees_of tree_children nodes.now)) subtrees.now }
-    ensures next { IfSome result (λ s. AllZip (IsSubtree instance.now)
-        (take (number + 1) (trees_of tree_children nodes.now)) (subtrees.now ++ s ∷ [])) }
-    ensures over { IfNone result (IsLeastFailure tree_children nodes.now (IsPairOver instance.now) number) }
+    requires before { AreWaiting tree_children nodes.now (IsSubtree instance.now) number waiting.old.items }
+    ensures here { IfSome result (StandsAt tree_children nodes.now (IsSubtree instance.now) number) }
+    ensures next { IfSome result (λ s.
+        AreWaiting tree_children nodes.now (IsSubtree instance.now) (number + 1) (waiting.new.items ++ s ∷ [])) }
+    ensures over { IfNone result (IfSome (slice_get (trees_of tree_children nodes.now) number) (IsPairOver instance.now)) }
 {
     let params = instance.params();
     match nodes[number].kind {
@@ -140,9 +152,9 @@ fn subtree_at(
             right,
             buffer,
         } => {
-            let (left, right) = (left as usize, right as usize);
-            let a = through_wire(params.wire, nodes[left].wire, &subtrees[left])?;
-            let b = through_wire(params.wire, nodes[right].wire, &subtrees[right])?;
+            let (first, second) = take_pair(waiting);
+            let a = through_wire(params.wire, nodes[left as usize].wire, &first)?;
+            let b = through_wire(params.wire, nodes[right as usize].wire, &second)?;
             pair(params, &a, &b, buffer)
         }
     }
@@ -151,28 +163,41 @@ fn subtree_at(
 /// What a pass upward comes to.
 #[derive(Drop)]
 pub enum Gathered {
-    /// Each subtree, by number.
-    Within(Vec<Subtree>),
+    /// The root's subtree, and the figures of each node by number, whose delays are still to come.
+    Within {
+        root: Subtree,
+        figures: Vec<NodeFigure>,
+    },
     /// The least number of a pair that is over the limits.
-    Over { node: u32 },
+    Over {
+        node: u32,
+    },
 }
 
-/// The subtrees of a tree, or its first pair that is over the limits.
+/// The figures of a tree that are known from below, or its first pair that is over the limits.
 pub fn gather(alloc: Global, instance: &Instance, nodes: &[TreeNode]) -> Result<Gathered, NoMemory>
     requires post_order { IsPostOrder (map tree_children nodes.now) }
     requires fits { FitsInstance instance.now nodes.now }
     ensures { IfOk result (IsGathered instance.now nodes.now) }
 {
-    let mut subtrees = Vec::with_capacity(alloc, nodes.len())?;
+    let mut figures = Vec::with_capacity(alloc, nodes.len())?;
+    let mut waiting = Vec::new(alloc);
     for number in 0..nodes.len() {
-        match subtree_at(instance, nodes, number, subtrees.as_slice()) {
-            Some(subtree) => subtrees.push(subtree)?,
-            None => {
-                return Ok(Gathered::Over {
-                    node: number as u32,
-                });
-            }
-        }
+        let Some(subtree) = subtree_at(instance, nodes, number, &mut waiting) else {
+            return Ok(Gathered::Over {
+                node: number as u32,
+            });
+        };
+        waiting.push(subtree)?;
+        figures.push(NodeFigure {
+            below: subtree.below,
+            residue: subtree.residue,
+            delay: 0,
+            stage: 0,
+        })?;
     }
-    Ok(Gathered::Within(subtrees))
+    let Some(root) = waiting.pop() else {
+        unreachable!()
+    };
+    Ok(Gathered::Within { root, figures })
 }

@@ -1,8 +1,10 @@
 -- The lengths of the wires, handed down from each pair to its two parts.
-use Rattle.std.proofs.Common.{◌≡◌, ℕ, ◌+◌, ◌-◌, ◌<◌, ◌≤◌, inl, inr, List, map, set, length, get_or, Option, Some, refl, sym, ap, subst, ◌∙◌, arith, get_or-set_same, length-set}
+use Rattle.std.proofs.Common.{◌≡◌, ℕ, ◌+◌, ◌-◌, ◌^◌, ◌<◌, ◌≤◌, inl, inr, List, map, set, length, get_or, Option, Some, refl, sym, ap, subst, ◌∙◌, arith, get_or-set_same, length-set}
 use Rattle.std.specs.List.{AllZip}
 use Rattle.std.proofs.lemmas.List.{get_or_default}
 use Rattle.std.proofs.lemmas.Slice.Zip.{AllZip-long}
+use Rattle.cts_units.specs.declared.params.Sink.{Sink}
+use Rattle.cts_units.specs.declared.params.Params.{Params}
 use Rattle.cts_postorder.specs.BinaryTree.{BinaryTree, tip, fork}
 use Rattle.cts_postorder.specs.PostOrder.{IsPostOrder, trees_of}
 use Rattle.cts_postorder.proofs.Growth.{length-trees_of}
@@ -17,6 +19,12 @@ use Rattle.cts_embed.specs.declared.node.NodeBalance.{NodeBalance}
 use Rattle.cts_embed.specs.Balance.{IsBalance}
 use Rattle.cts_embed.specs.BalancedTree.{IsWireLength, IsWireOf}
 use Rattle.cts_embed.proofs.Root.{root_label}
+
+-- both wires of a pair are within the limit
+pair_small : (params : Params) (sinks : List Sink) (l r : BinaryTree PlacedNode) (n : PlacedNode) (b : NodeBalance)
+    → IsBalance params sinks (fork l r n) b → (b.left_wire ≤ 2 ^ 31 - 1) × (b.right_wire ≤ 2 ^ 31 - 1)
+unfolding IsBalance
+pair_small params sinks l r n b is = (is.4.left_within, is.4.right_within)
 
 module _ (parts : Parts) (nodes : List PlacedNode) (ok : IsPostOrder (map placed_children nodes)) where
   -- before the first step the root's length stands at the end
@@ -82,6 +90,15 @@ module _ (parts : Parts) (nodes : List PlacedNode) (ok : IsPostOrder (map placed
 
         children_within : IsPair placed_children nodes (number - 1) (l, r) (get_or nodes (number - 1) e0)
         children_within = is_pair placed_children nodes ok (number - 1) e0 (l, r) (omega arith) (ap children_of here)
+
+        pub wires_small : (d : NodeBalance) → ((get_or balances (number - 1) d).left_wire ≤ 2 ^ 31 - 1)
+            × ((get_or balances (number - 1) d).right_wire ≤ 2 ^ 31 - 1)
+        wires_small d =
+            pair_small parts.params parts.sinks children_within.left children_within.right (get_or nodes (number - 1) e0)
+            (get_or balances (number - 1) d)
+            (subst (λ u. IsBalance parts.params parts.sinks u (get_or balances (number - 1) d)) (children_within.tree (tip e0))
+            (all_zip-at (IsBalance parts.params parts.sinks) (trees_of placed_children nodes) balances (number - 1) (tip e0) d all
+            (omega (arith, length-trees_of placed_children nodes))))
 
         pub left_within : l < length out
         left_within = omega (arith, children_within.left_below, (settled e0).long)

@@ -9,6 +9,8 @@ pub mod Assembled
 pub mod FreePlaces
 pub mod NodeKinds
 pub mod Grounds
+pub mod Fronts
+pub mod Wired
 pub mod Starts
 pub mod Stands
 pub mod PlacedFits

@@ -1,5 +1,5 @@
 -- What the balance makes of the whole placed tree.
-use Rattle.std.proofs.Common.{◌≡◌, ◌-◌, ◌<◌, List, map, length, get_or, Some, sym, ap, subst, ◌∙◌, arith}
+use Rattle.std.proofs.Common.{◌≡◌, ◌-◌, ◌^◌, ◌<◌, ◌≤◌, List, map, length, get_or, Some, sym, ap, subst, ◌∙◌, arith}
 use Rattle.std.specs.List.{AllZip}
 use Rattle.std.proofs.lemmas.Slice.Zip.{AllZip-long}
 use Rattle.std.proofs.lemmas.Option.{get_or_from_slice_get}
@@ -91,3 +91,9 @@ module _ (parts : Parts) (nodes : List PlacedNode) (ok : IsPostOrder (map placed
       whole = whole;
       over = subst (λ (n : PlacedNode). ¬ IsRootWithin parts n.route.length b) root_node over;
     }
+
+-- the route to the root of a tree that is within the limits is no longer than a wire may be
+pub root_wire_small : (parts : Parts) (nodes : List PlacedNode) → IsPostOrder (map placed_children nodes)
+    → IsBalancedWithin parts nodes → (e : PlacedNode) → (get_or nodes (length nodes - 1) e).route.length ≤ 2 ^ 31 - 1
+root_wire_small parts nodes ok b e =
+    omega (arith, b.within.wire, ap (λ (n : PlacedNode). n.route.length) (root_label nodes ok e b.root b.whole.whole))

@@ -7,6 +7,7 @@ ghost use Rattle.cts_embed.specs.Fitting.{Fits};
 ghost use Rattle.cts_embed.specs.WithWires.{with_wires};
 
 use crate::end::BalanceEnd;
+use crate::room::give_back;
 use crate::wires::wires_of;
 use cts_instance::Instance;
 use cts_num::NoMemory;
@@ -31,23 +32,29 @@ pub fn balance(alloc: Global, instance: &Instance, placed: Placed) -> Result<Tre
     Ok(Tree::of(tree))
 }
 
-/// The nodes of a tree: each placed node with the length of its wire.
+/// The nodes of a tree: each placed node with the length of its wire. The placed nodes go as they are
+/// read, from the last one on, so that they and the tree never have their whole room at once.
 fn tree_nodes(
     alloc: Global,
-    nodes: Vec<PlacedNode>,
-    wires: &[u64],
+    mut nodes: Vec<PlacedNode>,
+    wires: &[u32],
 ) -> Result<Vec<TreeNode>, NoMemory>
     requires { vec_len nodes ≡ length wires.now }
     ensures { IfOk result (λ tree. tree.items ≡ with_wires nodes.items wires.now) }
 {
     let mut tree = Vec::with_capacity(alloc, wires.len())?;
-    for (node, wire) in nodes.into_iter().zip(wires) {
+    for number in (0..wires.len()).rev() {
+        let Some(node) = nodes.pop() else {
+            unreachable!()
+        };
+        give_back(&mut nodes);
         tree.push(TreeNode {
             kind: node.kind,
             place: node.place,
-            wire: *wire,
+            wire: wires[number] as u64,
             route: node.route,
         })?;
     }
+    tree.as_mut_slice().reverse();
     Ok(tree)
 }

@@ -11,6 +11,7 @@ ghost use Rattle.cts_embed.specs.PlacedTree.{IsPlacedNode, IsPlacedTree};
 
 use crate::end::EmbedEnd;
 use crate::placing::{ground_of, place_node, source_place};
+use crate::room::give_back;
 use cts_instance::Instance;
 use cts_merge::Finished;
 use cts_route::RouteEnd;
@@ -18,15 +19,15 @@ use cts_topo::{Shape, ShapeNode};
 use cts_tree::{Placed, PlacedNode};
 use std::alloc::Global;
 
-/// The placed nodes of a shape, from the root down.
+/// The placed nodes of a shape, from the root down. The plan goes as they are placed.
 fn place_nodes(
     alloc: Global,
     instance: &Instance,
     nodes: &[ShapeNode],
-    plan: &[Finished],
+    mut plan: Vec<Finished>,
 ) -> Result<Vec<PlacedNode>, EmbedEnd>
     requires shape { IsShapeOver (length instance.now.sinks) nodes.now }
-    requires plan { IsPlan instance.now.params instance.now.sinks nodes.now plan.now }
+    requires plan { IsPlan instance.now.params instance.now.sinks nodes.now plan.items }
     ensures placed { IfOk result (λ placed.
         AllZip (IsPlacedNode instance.now) (occurrences_of children nodes.now) (reverse placed.items)) }
     ensures fits { IfOk result (λ placed. Fits instance.now (reverse placed.items)) }
@@ -36,12 +37,16 @@ fn place_nodes(
     let mut starts = vec![in alloc; source_place(instance); nodes.len()]?;
     let mut placed = Vec::with_capacity(alloc, nodes.len())?;
     for number in (0..nodes.len()).rev() {
+        let Some(finished) = plan.pop() else {
+            unreachable!()
+        };
+        give_back(&mut plan);
         let node = match place_node(
             alloc,
             instance,
             &ground,
             nodes[number],
-            &plan[number],
+            &finished,
             starts[number],
         ) {
             Ok(node) => node,
@@ -85,6 +90,25 @@ pub fn embed(
 ) -> Result<Placed, EmbedEnd>
     requires shape { IsShapeOver (length instance.now.sinks) shape.now }
     requires plan { IsPlan instance.now.params instance.now.sinks shape.now plan.now }
+    ensures placed { IfOk result (IsPlacedTree instance.now shape.now) }
+    ensures fits { IfOk result (Fits instance.now) }
+    ensures ends { IfErr result (EmbedEnds instance.now shape.now) }
+{
+    let mut own = Vec::with_capacity(alloc, plan.len())?;
+    own.extend_from_slice(plan)?;
+    embed_plan(alloc, instance, shape, own)
+}
+
+/// The placed tree of a shape by its plan, as [`embed`] gives it. Nobody reads the plan after it: the room
+/// of its nodes is given back as they are placed.
+pub fn embed_plan(
+    alloc: Global,
+    instance: &Instance,
+    shape: &Shape,
+    plan: Vec<Finished>,
+) -> Result<Placed, EmbedEnd>
+    requires shape { IsShapeOver (length instance.now.sinks) shape.now }
+    requires plan { IsPlan instance.now.params instance.now.sinks shape.now plan.items }
     ensures placed { IfOk result (IsPlacedTree instance.now shape.now) }
     ensures fits { IfOk result (Fits instance.now) }
     ensures ends { IfErr result (EmbedEnds instance.now shape.now) }

@@ -1,6 +1,6 @@
 //! From the plan of a shape to its tree: places and routes from the root down, and then the wires balanced upward.
 //!
-//! A layer above hands the plan of a shape to [`embed`] and takes the placed tree; it cites `specs/Places.antt` for where
+//! A layer above hands the plan of a shape to [`embed`], or to [`embed_plan`] where nobody reads it afterwards, and takes the placed tree; it cites `specs/Places.antt` for where
 //! a node stands and `specs/PlacedTree.antt` for the tree of the same form whose nodes are told one by one, each by its
 //! subtree and the pairs above it. It hands a placed tree to [`balance`] and takes the tree, or the least node that is
 //! beyond; it cites `specs/Balance.antt`, which tells by a recursion on the tree what the balance makes of each node, and
@@ -15,11 +15,12 @@ mod ground;
 pub mod laws;
 mod node;
 mod placing;
+mod room;
 mod upward;
 mod wires;
 
 pub use balancing::balance;
-pub use embedding::embed;
+pub use embedding::{embed, embed_plan};
 pub use end::{BalanceEnd, EmbedEnd};
 pub use node::NodeBalance;
 

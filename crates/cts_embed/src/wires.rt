@@ -21,7 +21,7 @@ pub(crate) fn wires_of(
     alloc: Global,
     instance: &Instance,
     nodes: &[PlacedNode],
-) -> Result<Vec<u64>, BalanceEnd>
+) -> Result<Vec<u32>, BalanceEnd>
     requires post_order { IsPostOrder (map placed_children nodes.now) }
     requires fits { Fits instance.now nodes.now }
     ensures within { IfOk result (λ _. IsBalancedWithin instance.now nodes.now) }
@@ -33,11 +33,11 @@ pub(crate) fn wires_of(
     let balances = balances.as_slice();
     let last = nodes.len() - 1;
     let mut wires = vec![in alloc; 0; nodes.len()]?;
-    wires[last] = nodes[last].route.length;
+    wires[last] = nodes[last].route.length as u32;
     for number in (0..nodes.len()).rev() {
         if let NodeKind::Pair { left, right, .. } = nodes[number].kind {
-            wires[left as usize] = balances[number].left_wire;
-            wires[right as usize] = balances[number].right_wire;
+            wires[left as usize] = balances[number].left_wire as u32;
+            wires[right as usize] = balances[number].right_wire as u32;
         }
     }
     Ok(wires)

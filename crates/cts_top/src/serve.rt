@@ -66,8 +66,12 @@ fn read_source<S: ByteSource>(alloc: Global, source: &mut S) -> Result<Instance,
     ensures write_fault { IsErrOf result Stop.WriteFault → ⊥ }
     ensures counted { S.faults source.old ≤ S.faults source.new }
 {
-    let bytes = read_all(alloc, source, INPUT_LIMIT)?;
-    read_input(alloc, &bytes)
+    let mut bytes = read_all(alloc, source, INPUT_LIMIT)?;
+    let read = read_input(alloc, &bytes);
+    // The room of a long input goes back to the system, and is not kept for the lists that come after it.
+    bytes.clear();
+    bytes.shrink_to(1);
+    read
 }
 
 /// Reads an instance and the report that follows it, and writes the verdict on the report.

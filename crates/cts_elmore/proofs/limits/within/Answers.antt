@@ -1,12 +1,12 @@
 use Rattle.std.proofs.Common.{◌-◌, List, length, sym, subst, map, refl, arith}
-use Rattle.std.specs.List.{AllZip}
-use Rattle.cts_postorder.specs.PostOrder.{IsPostOrder, trees_of}
+use Rattle.cts_postorder.specs.PostOrder.{IsPostOrder}
 use Rattle.cts_postorder.specs.Pass.{IsLeastFailure}
 use Rattle.cts_postorder.proofs.Lists.{length_pos}
 use Rattle.cts_tree.specs.declared.nodes.TreeNode.{TreeNode}
 use Rattle.cts_tree.specs.Nodes.{tree_children}
 use Rattle.cts_elmore.specs.Limits.{IsOver, IsWithinLimits}
-use Rattle.cts_elmore.specs.Subtrees.{IsSubtree, IsGathered}
+use Rattle.cts_elmore.specs.declared.subtree.Gathered.TheVariants.{Within}
+use Rattle.cts_elmore.specs.Subtrees.{IsGathered}
 use Rattle.cts_elmore.proofs.Ends.{first_pair_over, root_over, none_over}
 use Rattle.cts_elmore.proofs.limits.within.Goals as goal
 
@@ -23,10 +23,10 @@ pub returns-in-Some : goal.returns-in-Some
 returns-in-Some c =
     let ok : IsPostOrder (map tree_children c.nodes-nodes.result.now) =
     subst (λ (nodes : List TreeNode). IsPostOrder (map tree_children nodes)) (sym c.nodes-nodes.ensures.nodes) c.nodes-nodes.ensures.post_order in
-    let all : AllZip (IsSubtree c.args.instance.now) (trees_of tree_children c.nodes-nodes.result.now) c.in-Within.subtrees.items =
+    let all : IsGathered c.args.instance.now c.nodes-nodes.result.now (Within c.in-Within.root c.in-Within.figures) =
     subst (IsGathered c.args.instance.now c.nodes-nodes.result.now) c.in-Within.is c.in_ok-node.ensures in
     subst (IsWithinLimits c.args.instance.now) c.nodes-nodes.ensures.nodes
-    (none_over c.args.instance.now c.nodes-nodes.result.now ok c.in-Within.subtrees.items all c.in-Some.field-0 c.in-Some.ensures)
+    (none_over c.args.instance.now c.nodes-nodes.result.now ok c.in-Within.figures.items (all.1) c.in-Some.field-0 c.in-Some.ensures)
 
 pub overflow_sub-result : goal.overflow_sub-result
 overflow_sub-result c =
@@ -38,8 +38,8 @@ pub returns : goal.returns
 returns c =
     let ok : IsPostOrder (map tree_children c.nodes-nodes.result.now) =
     subst (λ (nodes : List TreeNode). IsPostOrder (map tree_children nodes)) (sym c.nodes-nodes.ensures.nodes) c.nodes-nodes.ensures.post_order in
-    let all : AllZip (IsSubtree c.args.instance.now) (trees_of tree_children c.nodes-nodes.result.now) c.in-Within.subtrees.items =
+    let all : IsGathered c.args.instance.now c.nodes-nodes.result.now (Within c.in-Within.root c.in-Within.figures) =
     subst (IsGathered c.args.instance.now c.nodes-nodes.result.now) c.in-Within.is c.in_ok-node.ensures in
     subst (λ (nodes : List TreeNode). IsLeastFailure tree_children nodes (IsOver c.args.instance.now nodes) (length c.nodes-nodes.result.now - 1))
     c.nodes-nodes.ensures.nodes
-    (root_over c.args.instance.now c.nodes-nodes.result.now ok c.in-Within.subtrees.items all c.in-None.ensures (length c.nodes-nodes.result.now - 1) refl)
+    (root_over c.args.instance.now c.nodes-nodes.result.now ok c.in-Within.figures.items (all.1) c.in-None.ensures (length c.nodes-nodes.result.now - 1) refl)

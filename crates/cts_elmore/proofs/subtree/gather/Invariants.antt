@@ -2,8 +2,11 @@ use Rattle.std.proofs.Common.{take}
 use Rattle.std.specs.List.{AllZip}
 use Rattle.cts_postorder.specs.PostOrder.{trees_of}
 use Rattle.cts_tree.specs.Nodes.{tree_children}
-use Rattle.cts_elmore.specs.Subtrees.{IsSubtree}
+use Rattle.cts_elmore.specs.Subtrees.{IsSubtree, IsKnownBelow}
+use Rattle.cts_elmore.specs.Waiting.{AreWaiting}
 use Rattle.cts_elmore.proofs.subtree.gather.Given as goal
 
 abbrev pub invariant-loop-number : goal.invariant-loop-number
-invariant-loop-number l = AllZip (IsSubtree l.instance) (take l.number (trees_of tree_children l.nodes)) l.subtrees.items
+invariant-loop-number l =
+    AreWaiting tree_children l.nodes (IsSubtree l.instance) l.number l.waiting.items
+    × AllZip (IsKnownBelow l.instance) (take l.number (trees_of tree_children l.nodes)) l.figures.items

@@ -1,23 +1,30 @@
-use Rattle.std.proofs.Common.{◌≡◌, ℕ, map, length, arith, ap, sym, ◌∙◌}
-use Rattle.std.proofs.lemmas.Iterator.{YieldsList-from_zip, YieldsList-from_slice}
-use Rattle.std.proofs.lemmas.Iterator.Adapters.{YieldsList-from_vec}
-use Rattle.std.proofs.lemmas.Iterator.Consumers.{YieldsList-end}
-use Rattle.std.proofs.lemmas.Simd.{map-map}
-use Rattle.cts_tree.specs.declared.nodes.PlacedNode.{PlacedNode}
-use Rattle.cts_embed.specs.WithWires.{with_wire}
+use Rattle.std.proofs.Common.{◌≡◌, length, reverse, sym, ap, ◌∙◌, arith, take_all}
+use Rattle.cts_embed.proofs.Fronts.{front_long, popped, shorter}
+use Rattle.cts_embed.proofs.Wired.{wired_at_start, wired_more}
 use Rattle.cts_embed.proofs.balancing.tree_nodes.Goals as goal
 
-pub returns : goal.returns
-returns c =
-    let gives = c.into_iter-node-iterator.ensures.into_iter_gives in
-    let nodes_left : c.into_iter-node-iterator.result.a.rest.items ≡ c.args.nodes.items = cc in
-    let nodes_long : c.into_iter-node-iterator.result.a.rest.len ≡ length c.args.nodes.items =
-    omega (arith, ap length nodes_left, c.into_iter-node-iterator.result.a.rest.ok.0) in
-    let wires_left : c.into_iter-node-iterator.result.b.rest.now ≡ c.args.wires.now = cc in
-    let ends = YieldsList-end
-    (YieldsList-from_zip {s = c.into_iter-node-iterator.result}
-    (YieldsList-from_vec {s = c.into_iter-node-iterator.result.a} c.args.nodes.items nodes_left nodes_long) (YieldsList-from_slice {s = c.into_iter-node-iterator.result.b} c.args.wires.now wires_left))
-    c.loop-node.yielded c.loop-node.node-iterator c.loop-node.yielded_by c.next.result c.next.new.self c.in-None.is c.next.ensures.steps in
-    c.loop-node.invariant
-    ∙ sym (map-map (λ (p : PlacedNode × ℕ). with_wire (p.0) (p.1)) (λ p. (p.0, p.1.now)) c.loop-node.yielded)
-    ∙ ap (map (λ (p : PlacedNode × ℕ). with_wire (p.0) (p.1))) (ends.0)
+pub loop-number-init : goal.loop-number-init
+loop-number-init c =
+    let long : length c.args.nodes.items ≡ length c.args.wires.now = omega (arith, c.args.nodes.ok.0, c.requires) in (
+      sym (take_all (length c.args.wires.now) c.args.nodes.items (omega (arith, long))),
+      wired_at_start c.args.nodes.items c.args.wires.now long c.in_ok-tree.tree.items c.in_ok-tree.ensures.items,
+    )
+
+pub loop-number-preserved : goal.loop-number-preserved
+loop-number-preserved c =
+    let long : length c.args.nodes.items ≡ length c.args.wires.now = omega (arith, c.args.nodes.ok.0, c.requires) in
+    let front : length c.loop-number.nodes.items ≡ c.loop-number.number =
+    front_long c.args.nodes.items c.loop-number.nodes.items c.loop-number.number c.loop-number-test.true
+    (omega (arith, long, c.loop-number.auto.number)) (c.loop-number.invariant.0) in (
+      c.give_back.ensures
+          ∙ shorter c.args.nodes.items c.loop-number.nodes.items c.loop-number.number c.loop-number-test.true
+          (omega (arith, long, c.loop-number.auto.number)) (c.loop-number.invariant.0) c.loop-number.nodes.len c.loop-number.nodes.ok.0
+          c.pop.new.self.items c.in-Some.ensures.rest,
+      ap reverse c.in_ok-push.ensures.items
+          ∙ wired_more c.args.nodes.items c.args.wires.now long c.loop-number.number c.loop-number-test.true c.loop-number.auto.number
+          c.loop-number.tree.items (c.loop-number.invariant.1) c.in-Some.node _
+          (popped c.args.nodes.items c.loop-number.nodes.items c.loop-number.number c.loop-number-test.true
+          (omega (arith, long, c.loop-number.auto.number)) (c.loop-number.invariant.0) c.loop-number.nodes.len c.loop-number.nodes.ok.0
+          c.in-Some.node c.in-Some.node
+          (c.in-Some.ensures.value c.in-Some.node (omega (arith, c.loop-number-test.true, c.loop-number.nodes.ok.0, front)))),
+    )

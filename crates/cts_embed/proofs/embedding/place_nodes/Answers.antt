@@ -12,7 +12,8 @@ use Rattle.cts_embed.specs.declared.end.EmbedEnd.{EmbedEnd}
 use Rattle.cts_embed.specs.declared.end.EmbedEnd.TheVariants.{NoMemory}
 use Rattle.cts_embed.specs.Ends.{EmbedEnds}
 use Rattle.cts_embed.specs.PlacedTree.{IsPlacedNode}
-use Rattle.cts_embed.proofs.Starts.{starts_begin, number_in_starts, number_in_plan, from_in_range, placed_more, starts_at_leaf, starts_at_pair, left_within, right_within, all_placed, none_placed}
+use Rattle.cts_embed.proofs.Fronts.{IsFrontOfPlan, front_at_start, plan_front_long, plan_popped, front_next}
+use Rattle.cts_embed.proofs.Starts.{plan_long, starts_begin, number_in_starts, from_in_range, placed_more, starts_at_leaf, starts_at_pair, left_within, right_within, all_placed, none_placed}
 use Rattle.cts_embed.proofs.Stands.{cut_read, names_at, region_at, placed_read}
 use Rattle.cts_topo.proofs.Counts.{length-shape}
 use Rattle.cts_embed.proofs.Cuts.{greatest_cut}
@@ -21,25 +22,21 @@ use Rattle.cts_embed.proofs.embedding.place_nodes.Goals as goal
 
 pub loop-number-init : goal.loop-number-init
 loop-number-init c = (
-  starts_begin c.args.instance.now c.args.nodes.now c.requires.shape.post_order c.args.plan.now c.requires.plan c.in_ok-starts.starts.items
+  front_at_start c.args.instance.now c.args.nodes.now c.args.plan.items c.requires.plan (plan_long c.args.instance.now c.args.nodes.now c.requires.shape.post_order c.args.plan.items c.requires.plan),
+  starts_begin c.args.instance.now c.args.nodes.now c.requires.shape.post_order c.args.plan.items c.requires.plan c.in_ok-starts.starts.items
       (sym (c.in_ok-starts.starts.ok.0) ∙ c.in_ok-starts.ensures.len)
       (λ k v h. ap (λ vs. get_or vs k v) (c.in_ok-starts.ensures.items_if_clones_equal (λ y e. e))
       ∙ get_or-replicate (length c.args.nodes.now) k c.source_place.result v h ∙ c.source_place.ensures.place),
   none_placed c.args.instance.now c.args.nodes.now c.requires.shape.post_order c.in_ok-placed.placed.items c.in_ok-placed.ensures.items,
 )
 
-pub bounds-plan-number : goal.bounds-plan-number
-bounds-plan-number c =
-    number_in_plan c.args.instance.now c.args.nodes.now c.requires.shape.post_order c.args.plan.now c.requires.plan c.loop-number.number
-    c.loop-number.starts.items c.loop-number-test.true c.loop-number.auto.number (c.loop-number.invariant.0)
-
 pub index-requires : goal.index-requires
 index-requires c =
     omega (
       arith,
       c.loop-number.starts.ok.0,
-      number_in_starts c.args.instance.now c.args.nodes.now c.requires.shape.post_order c.args.plan.now c.requires.plan c.loop-number.number
-          c.loop-number.starts.items c.loop-number-test.true c.loop-number.auto.number (c.loop-number.invariant.0),
+      number_in_starts c.args.instance.now c.args.nodes.now c.requires.shape.post_order (c.loop-number.invariant.0).plan (c.loop-number.invariant.0).is_plan c.loop-number.number
+          c.loop-number.starts.items c.loop-number-test.true c.loop-number.auto.number (c.loop-number.invariant.1),
     )
 
 pub place_node-requires-clause-names : goal.place_node-requires-clause-names
@@ -49,25 +46,30 @@ place_node-requires-clause-names c =
 
 pub place_node-requires-clause-region : goal.place_node-requires-clause-region
 place_node-requires-clause-region c =
-    region_at c.args.instance.now c.args.nodes.now c.args.plan.now c.source_place.ensures.valid c.requires.plan (c.loop-number.number - 1)
-    c.index-plan-number.result c.index-plan-number.result (omega (arith, c.loop-number-test.true, c.loop-number.auto.number))
-    c.index-plan-number.is
+    region_at c.args.instance.now c.args.nodes.now (c.loop-number.invariant.0).plan c.source_place.ensures.valid (c.loop-number.invariant.0).is_plan (c.loop-number.number - 1)
+    c.in-Some.finished c.in-Some.finished (omega (arith, c.loop-number-test.true, c.loop-number.auto.number)) (plan_popped c.args.instance.now c.args.nodes.now c.loop-number.number c.loop-number-test.true c.loop-number.auto.number
+    c.loop-number.plan.items (c.loop-number.invariant.0) c.loop-number.plan.len c.loop-number.plan.ok.0 c.in-Some.finished c.in-Some.finished
+    (c.in-Some.ensures.value c.in-Some.finished (omega (
+      arith,
+      c.loop-number-test.true,
+      c.loop-number.plan.ok.0,
+      plan_front_long c.args.instance.now c.args.nodes.now c.loop-number.number c.loop-number-test.true c.loop-number.auto.number
+          c.loop-number.plan.items (c.loop-number.invariant.0),
+    ))))
 
 pub place_node-requires-clause-from : goal.place_node-requires-clause-from
 place_node-requires-clause-from c =
     subst IsSpotInRange (sym c.index.ensures)
-    (from_in_range c.args.instance.now c.args.nodes.now c.requires.shape.post_order c.args.plan.now c.requires.plan c.loop-number.number
-    c.loop-number.starts.items c.loop-number-test.true c.loop-number.auto.number (c.loop-number.invariant.0)
-    c.source_place.ensures.valid c.index.result.now)
+    (from_in_range c.args.instance.now c.args.nodes.now c.requires.shape.post_order (c.loop-number.invariant.0).plan (c.loop-number.invariant.0).is_plan c.loop-number.number
+    c.loop-number.starts.items c.loop-number-test.true c.loop-number.auto.number (c.loop-number.invariant.1) c.source_place.ensures.valid c.index.result.now)
 
 pub index_mut-requires : goal.index_mut-requires
 index_mut-requires c =
     omega (
       arith,
       c.loop-number.starts.ok.0,
-      left_within c.args.instance.now c.args.nodes.now c.requires.shape.post_order c.args.plan.now c.requires.plan c.loop-number.number
-          c.loop-number.starts.items c.loop-number-test.true c.loop-number.auto.number (c.loop-number.invariant.0)
-          (Leaf 0) c.index-plan-number.result c.index.result.now c.in-Pair.left c.in-Pair.right c.in-Pair.is,
+      left_within c.args.instance.now c.args.nodes.now c.requires.shape.post_order (c.loop-number.invariant.0).plan (c.loop-number.invariant.0).is_plan c.loop-number.number
+          c.loop-number.starts.items c.loop-number-test.true c.loop-number.auto.number (c.loop-number.invariant.1) (Leaf 0) c.in-Some.finished c.index.result.now c.in-Pair.left c.in-Pair.right c.in-Pair.is,
     )
 
 pub index_mut-requires-in-Pair : goal.index_mut-requires-in-Pair
@@ -75,51 +77,73 @@ index_mut-requires-in-Pair c =
     omega (
       arith,
       c.loop-number.starts.ok.0,
-      right_within c.args.instance.now c.args.nodes.now c.requires.shape.post_order c.args.plan.now c.requires.plan c.loop-number.number
-          c.loop-number.starts.items c.loop-number-test.true c.loop-number.auto.number (c.loop-number.invariant.0)
-          (Leaf 0) c.index-plan-number.result c.index.result.now c.in-Pair.left c.in-Pair.right c.in-Pair.is,
+      right_within c.args.instance.now c.args.nodes.now c.requires.shape.post_order (c.loop-number.invariant.0).plan (c.loop-number.invariant.0).is_plan c.loop-number.number
+          c.loop-number.starts.items c.loop-number-test.true c.loop-number.auto.number (c.loop-number.invariant.1) (Leaf 0) c.in-Some.finished c.index.result.now c.in-Pair.left c.in-Pair.right c.in-Pair.is,
     )
 
 pub loop-number-preserved-in-Pair : goal.loop-number-preserved-in-Pair
 loop-number-preserved-in-Pair c = (
-  starts_at_pair c.args.instance.now c.args.nodes.now c.requires.shape.post_order c.args.plan.now c.requires.plan c.loop-number.number
-      c.loop-number.starts.items c.loop-number-test.true c.loop-number.auto.number (c.loop-number.invariant.0)
-      (Leaf 0) c.index-plan-number.result c.index.result.now c.in-Pair.left c.in-Pair.right c.in-Pair.is c.in-Ok.node
-      (placed_read c.args.instance.now (get_or c.args.nodes.now (c.loop-number.number - 1) (Leaf 0)) c.index-plan-number.result _
-      c.index.result.now _ c.in-Ok.node c.index-plan-number.is c.index.ensures c.in-Ok.ensures.placed),
+  subst (IsFrontOfPlan c.args.instance.now c.args.nodes.now (c.loop-number.number - 1)) (sym c.give_back.ensures)
+      (front_next c.args.instance.now c.args.nodes.now c.loop-number.number c.loop-number-test.true c.loop-number.auto.number
+      c.loop-number.plan.items (c.loop-number.invariant.0) c.loop-number.plan.len c.loop-number.plan.ok.0 c.pop.new.self.items c.in-Some.ensures.rest),
+  starts_at_pair c.args.instance.now c.args.nodes.now c.requires.shape.post_order (c.loop-number.invariant.0).plan (c.loop-number.invariant.0).is_plan c.loop-number.number
+      c.loop-number.starts.items c.loop-number-test.true c.loop-number.auto.number (c.loop-number.invariant.1) (Leaf 0) c.in-Some.finished c.index.result.now c.in-Pair.left c.in-Pair.right c.in-Pair.is c.in-Ok.node (placed_read c.args.instance.now (get_or c.args.nodes.now (c.loop-number.number - 1) (Leaf 0)) c.in-Some.finished _
+      c.index.result.now _ c.in-Ok.node (plan_popped c.args.instance.now c.args.nodes.now c.loop-number.number c.loop-number-test.true c.loop-number.auto.number
+      c.loop-number.plan.items (c.loop-number.invariant.0) c.loop-number.plan.len c.loop-number.plan.ok.0 c.in-Some.finished c.in-Some.finished
+      (c.in-Some.ensures.value c.in-Some.finished (omega (
+        arith,
+        c.loop-number-test.true,
+        c.loop-number.plan.ok.0,
+        plan_front_long c.args.instance.now c.args.nodes.now c.loop-number.number c.loop-number-test.true c.loop-number.auto.number
+            c.loop-number.plan.items (c.loop-number.invariant.0),
+      )))) c.index.ensures c.in-Ok.ensures.placed),
   subst (λ items. AllZip (IsPlacedNode c.args.instance.now) (drop (c.loop-number.number - 1) (occurrences_of children c.args.nodes.now)) (reverse items))
       (sym c.in_ok-push.ensures.items)
-      (placed_more c.args.instance.now c.args.nodes.now c.requires.shape.post_order c.args.plan.now c.requires.plan c.loop-number.number
-      c.loop-number.starts.items c.loop-number-test.true c.loop-number.auto.number (c.loop-number.invariant.0) (Leaf 0)
-      c.index-plan-number.result c.index.result.now c.in-Ok.node c.loop-number.placed.items (c.loop-number.invariant.1)
-      (placed_read c.args.instance.now (get_or c.args.nodes.now (c.loop-number.number - 1) (Leaf 0)) c.index-plan-number.result _
-      c.index.result.now _ c.in-Ok.node c.index-plan-number.is c.index.ensures c.in-Ok.ensures.placed)),
+      (placed_more c.args.instance.now c.args.nodes.now c.requires.shape.post_order (c.loop-number.invariant.0).plan (c.loop-number.invariant.0).is_plan c.loop-number.number
+      c.loop-number.starts.items c.loop-number-test.true c.loop-number.auto.number (c.loop-number.invariant.1) (Leaf 0) c.in-Some.finished c.index.result.now c.in-Ok.node c.loop-number.placed.items (c.loop-number.invariant.2) (placed_read c.args.instance.now (get_or c.args.nodes.now (c.loop-number.number - 1) (Leaf 0)) c.in-Some.finished _
+      c.index.result.now _ c.in-Ok.node (plan_popped c.args.instance.now c.args.nodes.now c.loop-number.number c.loop-number-test.true c.loop-number.auto.number
+      c.loop-number.plan.items (c.loop-number.invariant.0) c.loop-number.plan.len c.loop-number.plan.ok.0 c.in-Some.finished c.in-Some.finished
+      (c.in-Some.ensures.value c.in-Some.finished (omega (
+        arith,
+        c.loop-number-test.true,
+        c.loop-number.plan.ok.0,
+        plan_front_long c.args.instance.now c.args.nodes.now c.loop-number.number c.loop-number-test.true c.loop-number.auto.number
+            c.loop-number.plan.items (c.loop-number.invariant.0),
+      )))) c.index.ensures c.in-Ok.ensures.placed)),
 )
 
 pub loop-number-preserved : goal.loop-number-preserved
 loop-number-preserved c = (
-  starts_at_leaf c.args.instance.now c.args.nodes.now c.requires.shape.post_order c.args.plan.now c.requires.plan c.loop-number.number
-      c.loop-number.starts.items c.loop-number-test.true c.loop-number.auto.number (c.loop-number.invariant.0)
-      (Leaf 0) c.index-plan-number.result c.index.result.now c.in_default.field-0 c.in_default.is,
+  subst (IsFrontOfPlan c.args.instance.now c.args.nodes.now (c.loop-number.number - 1)) (sym c.give_back.ensures)
+      (front_next c.args.instance.now c.args.nodes.now c.loop-number.number c.loop-number-test.true c.loop-number.auto.number
+      c.loop-number.plan.items (c.loop-number.invariant.0) c.loop-number.plan.len c.loop-number.plan.ok.0 c.pop.new.self.items c.in-Some.ensures.rest),
+  starts_at_leaf c.args.instance.now c.args.nodes.now c.requires.shape.post_order (c.loop-number.invariant.0).plan (c.loop-number.invariant.0).is_plan c.loop-number.number
+      c.loop-number.starts.items c.loop-number-test.true c.loop-number.auto.number (c.loop-number.invariant.1) (Leaf 0) c.in-Some.finished c.index.result.now c.in_default-nodes.field-0 c.in_default-nodes.is,
   subst (λ items. AllZip (IsPlacedNode c.args.instance.now) (drop (c.loop-number.number - 1) (occurrences_of children c.args.nodes.now)) (reverse items))
       (sym c.in_ok-push.ensures.items)
-      (placed_more c.args.instance.now c.args.nodes.now c.requires.shape.post_order c.args.plan.now c.requires.plan c.loop-number.number
-      c.loop-number.starts.items c.loop-number-test.true c.loop-number.auto.number (c.loop-number.invariant.0) (Leaf 0)
-      c.index-plan-number.result c.index.result.now c.in-Ok.node c.loop-number.placed.items (c.loop-number.invariant.1)
-      (placed_read c.args.instance.now (get_or c.args.nodes.now (c.loop-number.number - 1) (Leaf 0)) c.index-plan-number.result _
-      c.index.result.now _ c.in-Ok.node c.index-plan-number.is c.index.ensures c.in-Ok.ensures.placed)),
+      (placed_more c.args.instance.now c.args.nodes.now c.requires.shape.post_order (c.loop-number.invariant.0).plan (c.loop-number.invariant.0).is_plan c.loop-number.number
+      c.loop-number.starts.items c.loop-number-test.true c.loop-number.auto.number (c.loop-number.invariant.1) (Leaf 0) c.in-Some.finished c.index.result.now c.in-Ok.node c.loop-number.placed.items (c.loop-number.invariant.2) (placed_read c.args.instance.now (get_or c.args.nodes.now (c.loop-number.number - 1) (Leaf 0)) c.in-Some.finished _
+      c.index.result.now _ c.in-Ok.node (plan_popped c.args.instance.now c.args.nodes.now c.loop-number.number c.loop-number-test.true c.loop-number.auto.number
+      c.loop-number.plan.items (c.loop-number.invariant.0) c.loop-number.plan.len c.loop-number.plan.ok.0 c.in-Some.finished c.in-Some.finished
+      (c.in-Some.ensures.value c.in-Some.finished (omega (
+        arith,
+        c.loop-number-test.true,
+        c.loop-number.plan.ok.0,
+        plan_front_long c.args.instance.now c.args.nodes.now c.loop-number.number c.loop-number-test.true c.loop-number.auto.number
+            c.loop-number.plan.items (c.loop-number.invariant.0),
+      )))) c.index.ensures c.in-Ok.ensures.placed)),
 )
 
 pub returns-clause-placed : goal.returns-clause-placed
 returns-clause-placed c =
     all_placed c.args.instance.now c.args.nodes.now c.loop-number.placed.items c.loop-number.number (omega (arith, c.loop-number-test.false))
-    (c.loop-number.invariant.1)
+    (c.loop-number.invariant.2)
 
 pub returns-clause-fits : goal.returns-clause-fits
 returns-clause-fits c =
     placed_fits c.args.instance.now c.args.nodes.now (reverse c.loop-number.placed.items)
     (all_placed c.args.instance.now c.args.nodes.now c.loop-number.placed.items c.loop-number.number (omega (arith, c.loop-number-test.false))
-    (c.loop-number.invariant.1)) c.source_place.ensures.valid c.requires.shape
+    (c.loop-number.invariant.2)) c.source_place.ensures.valid c.requires.shape
 
 pub overflow_cast-result : goal.overflow_cast-result
 overflow_cast-result c =
@@ -132,11 +156,18 @@ overflow_cast-result c =
 
 pub returns-in-Err-Cut-clause-ends : goal.returns-in-Err-Cut-clause-ends
 returns-in-Err-Cut-clause-ends c =
-    greatest_cut c.args.instance.now c.args.nodes.now c.requires.shape.post_order c.args.plan.now c.requires.plan c.loop-number.number
-    c.loop-number.starts.items c.loop-number-test.true c.loop-number.auto.number (c.loop-number.invariant.0)
-    (Leaf 0) c.index-plan-number.result c.index.result.now c.loop-number.placed.items (c.loop-number.invariant.1)
-    (cut_read c.args.instance.now (get_or c.args.nodes.now (c.loop-number.number - 1) (Leaf 0)) c.index-plan-number.result _
-    c.index.result.now _ c.index-plan-number.is c.index.ensures (c.place_node.ensures.cut (c.in-Err-Cut.is ∙ ap Err c.in-Err-Cut.field-0-is)))
+    greatest_cut c.args.instance.now c.args.nodes.now c.requires.shape.post_order (c.loop-number.invariant.0).plan (c.loop-number.invariant.0).is_plan c.loop-number.number
+    c.loop-number.starts.items c.loop-number-test.true c.loop-number.auto.number (c.loop-number.invariant.1) (Leaf 0) c.in-Some.finished c.index.result.now c.loop-number.placed.items (c.loop-number.invariant.2)
+    (cut_read c.args.instance.now (get_or c.args.nodes.now (c.loop-number.number - 1) (Leaf 0)) c.in-Some.finished _
+    c.index.result.now _ (plan_popped c.args.instance.now c.args.nodes.now c.loop-number.number c.loop-number-test.true c.loop-number.auto.number
+    c.loop-number.plan.items (c.loop-number.invariant.0) c.loop-number.plan.len c.loop-number.plan.ok.0 c.in-Some.finished c.in-Some.finished
+    (c.in-Some.ensures.value c.in-Some.finished (omega (
+      arith,
+      c.loop-number-test.true,
+      c.loop-number.plan.ok.0,
+      plan_front_long c.args.instance.now c.args.nodes.now c.loop-number.number c.loop-number-test.true c.loop-number.auto.number
+          c.loop-number.plan.items (c.loop-number.invariant.0),
+    )))) c.index.ensures (c.place_node.ensures.cut (c.in-Err-Cut.is ∙ ap Err c.in-Err-Cut.field-0-is)))
 
 -- want of memory has no other cause
 out_of_memory : {X : Type 0} (parts : Parts) (nodes : List ShapeNode) (r : Result X EmbedEnd) → IsErrAnd r (λ e. e ≡ NoMemory)

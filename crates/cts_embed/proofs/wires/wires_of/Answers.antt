@@ -7,7 +7,8 @@ use Rattle.cts_postorder.proofs.Downward.{IsSettled, settled_all}
 use Rattle.cts_tree.specs.Nodes.{placed_children}
 use Rattle.cts_embed.specs.declared.node.NodeBalance.{NodeBalance}
 use Rattle.cts_embed.specs.BalancedTree.{IsWireOf}
-use Rattle.cts_embed.proofs.HandedDown.{wires_begin, at_leaf, at_pair, left_within, right_within, balance_within}
+use Rattle.cts_embed.proofs.HandedDown.{wires_begin, at_leaf, at_pair, wires_small, left_within, right_within, balance_within}
+use Rattle.cts_embed.proofs.Root.{root_wire_small}
 use Rattle.cts_embed.proofs.wires.wires_of.Goals as goal
 
 -- the value past the end of the list
@@ -91,3 +92,32 @@ returns-clause-wires c =
     settled_all placed_children (IsWireOf c.args.instance.now) c.args.nodes.now c.requires.post_order c.index-nodes-last.result c.loop-number.wires.items
     (subst (λ n. IsSettled placed_children c.args.nodes.now c.index-nodes-last.result (IsWireOf c.args.instance.now) n c.loop-number.wires.items)
     none_left (c.loop-number.invariant c.index-nodes-last.result))
+
+pub overflow_cast-nodes : goal.overflow_cast-nodes
+overflow_cast-nodes c =
+    omega (
+      arith,
+      root_wire_small c.args.instance.now c.args.nodes.now c.requires.post_order c.in_ok-balances.ensures.within c.index-nodes-last.result,
+    )
+
+pub overflow_cast-balances : goal.overflow_cast-balances
+overflow_cast-balances c =
+    omega (
+      arith,
+      (wires_small c.args.instance.now c.args.nodes.now c.requires.post_order c.as_slice-balances.result.now
+          (subst (λ bs. AllZip (IsBalance c.args.instance.now.params c.args.instance.now.sinks) (trees_of placed_children c.args.nodes.now) bs)
+          (sym c.as_slice-balances.ensures.value) c.in_ok-balances.ensures.balances) c.loop-number.number
+          c.loop-number.wires.items _ c.loop-number-test.true c.loop-number.auto.number c.loop-number.invariant
+          c.in-Pair.left c.in-Pair.right c.in-Pair.buffer c.in-Pair.is none).0,
+    )
+
+pub overflow_cast-balances-in-Pair : goal.overflow_cast-balances-in-Pair
+overflow_cast-balances-in-Pair c =
+    omega (
+      arith,
+      (wires_small c.args.instance.now c.args.nodes.now c.requires.post_order c.as_slice-balances.result.now
+          (subst (λ bs. AllZip (IsBalance c.args.instance.now.params c.args.instance.now.sinks) (trees_of placed_children c.args.nodes.now) bs)
+          (sym c.as_slice-balances.ensures.value) c.in_ok-balances.ensures.balances) c.loop-number.number
+          c.loop-number.wires.items _ c.loop-number-test.true c.loop-number.auto.number c.loop-number.invariant
+          c.in-Pair.left c.in-Pair.right c.in-Pair.buffer c.in-Pair.is none).1,
+    )

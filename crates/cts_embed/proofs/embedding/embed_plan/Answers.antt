@@ -3,7 +3,7 @@ use Rattle.cts_postorder.specs.PostOrder.{IsPostOrder}
 use Rattle.cts_tree.specs.Nodes.{placed_children}
 use Rattle.cts_embed.specs.PlacedTree.{IsPlacedTree}
 use Rattle.cts_embed.proofs.PlacedFits.{placed_post_order}
-use Rattle.cts_embed.proofs.embedding.embed.Goals as goal
+use Rattle.cts_embed.proofs.embedding.embed_plan.Goals as goal
 
 pub of-requires : goal.of-requires
 of-requires c =
