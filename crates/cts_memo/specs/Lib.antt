@@ -1,0 +1,5 @@
+pub mod Keys
+pub mod Sound
+pub mod Replies
+pub mod TableLaws
+pub mod Tables

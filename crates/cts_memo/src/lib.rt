@@ -1,0 +1,11 @@
+//! The memo of finished subtrees, which threads share by turns.
+#![tactic(auto)]
+
+mod entry;
+mod key;
+mod seeded;
+mod table;
+
+pub use entry::{Answer, MemoCall, MemoEntry, MemoReply, PutEnd};
+pub use key::Key;
+pub use table::Table;
