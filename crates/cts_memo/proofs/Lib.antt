@@ -1,3 +1,4 @@
 pub mod SameKeys
 pub mod Maps
 pub mod Publications
+pub mod Endings

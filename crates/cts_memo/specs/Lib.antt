@@ -3,3 +3,5 @@ pub mod Sound
 pub mod Replies
 pub mod TableLaws
 pub mod Tables
+pub mod Passes
+pub use Rattle.cts_merge.specs.Merge

@@ -3,9 +3,11 @@
 
 mod entry;
 mod key;
+mod memo;
 mod seeded;
 mod table;
 
 pub use entry::{Answer, MemoCall, MemoEntry, MemoReply, PutEnd};
 pub use key::Key;
+pub use memo::{Memo, MemoOut, MemoPass};
 pub use table::Table;
