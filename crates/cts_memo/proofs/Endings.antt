@@ -1,5 +1,5 @@
 -- How a publication ends, as a fact on the list after it.
-use Rattle.std.proofs.Common.{◌≡◌, ℕ, ◌<◌, ◌⊎◌, inl, inr, cond, nat_lt, List, [], ◌∷◌, ◌++◌, length, get_or, slice_get, Some, refl, sym, ap, ◌∙◌, subst, arith, length-append, lt-ltb, le-ltb}
+use Rattle.std.proofs.Common.{◌≡◌, ℕ, ◌<◌, inl, inr, cond, List, [], ◌∷◌, ◌++◌, length, get_or, slice_get, Some, refl, ap, ◌∙◌, subst, arith, length-append, lt-ltb, le-ltb}
 use Rattle.std.proofs.Math.Seq.{get_or-append_seam}
 use Rattle.std.proofs.lemmas.Option.{slice_get_within, get_or_from_slice_get, slice_get-get_or}
 use Rattle.cts_merge.specs.declared.side.Finished.{Finished}
@@ -30,9 +30,11 @@ module _ (met : List MemoEntry) (key : Key) (f : Finished) where
     | inl found ↦
         let before : n < length met = slice_get_within met n (entry key (found.0)) (found.1) in
         (found.0, ap (λ b. slice_get (cond b met (met ++ entry key f ∷ [])) n) (lt-ltb n (length met) before) ∙ found.1)
-    | inr new ↦
-        (f, ap (λ b. slice_get (cond b met (met ++ entry key f ∷ [])) n) (le-ltb n (length met) (omega (arith, new.2)))
-        ∙ ap (slice_get (met ++ entry key f ∷ [])) (new.2) ∙ last_stands met (entry key f))
+    | inr new ↦ (
+      f,
+      ap (λ b. slice_get (cond b met (met ++ entry key f ∷ [])) n) (le-ltb n (length met) (omega (arith, new.2)))
+          ∙ ap (slice_get (met ++ entry key f ∷ [])) (new.2) ∙ last_stands met (entry key f),
+    )
   ]
 
   -- the list after a publication tells how it ended

@@ -4,4 +4,6 @@ pub mod Replies
 pub mod TableLaws
 pub mod Tables
 pub mod Passes
+pub mod Numbers
+pub mod Laws
 pub use Rattle.cts_merge.specs.Merge

@@ -3,6 +3,7 @@
 
 mod entry;
 mod key;
+pub mod laws;
 mod memo;
 mod seeded;
 mod table;

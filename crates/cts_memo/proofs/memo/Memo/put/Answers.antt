@@ -15,8 +15,9 @@ returns-clause-full g c =
     let answer = c.in-Published.ensures.answer in
     let ends =
     subst (λ l. IsPublished l c.args.key c.in-Published.end) (sym answer.after)
-    (put_ends answer.list c.args.key c.args.finished c.in-Published.end answer.allowed) in
-    (λ is. full_ends (seen_by c.call.new.pass) c.args.key c.in-Published.end ends is,
-    λ all.
-      put_full answer.list c.args.key c.args.finished c.in-Published.end answer.allowed
-      (subst (λ l. IsAbsent l c.args.key) answer.after (all.0)) (sym (ap length answer.after) ∙ all.1))
+    (put_ends answer.list c.args.key c.args.finished c.in-Published.end answer.allowed) in (
+      λ is. full_ends (seen_by c.call.new.pass) c.args.key c.in-Published.end ends is,
+      λ all.
+          put_full answer.list c.args.key c.args.finished c.in-Published.end answer.allowed
+          (subst (λ l. IsAbsent l c.args.key) answer.after (all.0)) (sym (ap length answer.after) ∙ all.1),
+    )
