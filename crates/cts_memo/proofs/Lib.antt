@@ -6,3 +6,4 @@ pub mod Positions
 pub mod Numbering
 pub mod Missing
 pub mod Capacitances
+mod Example

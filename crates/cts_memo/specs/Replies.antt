@@ -58,8 +58,8 @@ list_after seen (Ask key) reply = seen
 list_after seen (Put key f) (Asked answer) = seen
 list_after seen (Put key f) (Published end) = after_put seen key f end
 
--- what a publication tells of the list after it
-abbrev pub IsPublished : List MemoEntry → Key → PutEnd → Type 0
-IsPublished seen key (At n) = StandsAt seen key n
-IsPublished seen key Full = IsAbsent seen key × (length seen ≡ max_entries)
-IsPublished seen key NoMemory = IsAbsent seen key
+-- what a publication tells of the list after it: the entry of its number is the key with what was made of it
+abbrev pub IsPublished : List MemoEntry → Key → Finished → PutEnd → Type 0
+IsPublished seen key f (At n) = slice_get seen n ≡ Some (entry key f)
+IsPublished seen key f Full = IsAbsent seen key × (length seen ≡ max_entries)
+IsPublished seen key f NoMemory = IsAbsent seen key

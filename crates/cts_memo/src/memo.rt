@@ -147,7 +147,7 @@ impl Memo {
         ensures share { share_of pass.new ≡ share_of pass.old }
         ensures goes_on { IsPrefix (seen_by pass.old) (seen_by pass.new) }
         ensures publication { IsPublication (params_of self.now) (seen_by pass.old) (made_by pass.old) key finished result (seen_by pass.new) (made_by pass.new) }
-        ensures ends { IsPublished (seen_by pass.new) key result }
+        ensures ends { IsPublished (seen_by pass.new) key finished result }
         ensures full { (result ≡ PutEnd.Full) ↔ (IsAbsent (seen_by pass.new) key × (length (seen_by pass.new) ≡ max_entries)) }
     {
         match self.turn.call(rt, pass, MemoCall::Put(key, finished)) {
