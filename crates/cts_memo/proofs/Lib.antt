@@ -7,3 +7,4 @@ pub mod Numbering
 pub mod Missing
 pub mod Capacitances
 mod Example
+pub mod Sent

@@ -1,6 +1,7 @@
 -- What the numbers of subtrees say of one another.
 use Rattle.std.specs.Prelude.{◌≡◌, ◌≢◌, ℕ, ◌<◌, ◌≤◌, List, length, slice_get, set, Some}
 use mathlib.Core.List.{IsPrefix}
+use Rattle.std.specs.Thread.{IsSync}
 use Rattle.cts_units.specs.declared.params.Sink.{Sink}
 use Rattle.cts_units.specs.declared.params.Params.{Params}
 use Rattle.cts_postorder.specs.BinaryTree.{BinaryTree, depth}
@@ -11,6 +12,7 @@ use Rattle.cts_topo.specs.Sinks.{AreSinks}
 use Rattle.cts_topo.specs.Topology.{shape_of}
 use Rattle.cts_up.specs.Plan.{IsFinished}
 use Rattle.cts_memo.specs.declared.entry.MemoEntry.{MemoEntry}
+use Rattle.cts_memo.specs.contracts.memo.Memo as memo
 use Rattle.cts_memo.specs.Sound.{EntryAt, IsSound}
 use Rattle.cts_memo.specs.Numbers.{number_of, missing, AreKnown}
 
@@ -59,3 +61,7 @@ OneCapMissesSixteen =
     (seen : List MemoEntry) (sinks : List Sink) (s : ℕ) (sink : Sink) (cap : ℕ) → AreSinks sinks → slice_get sinks s ≡ Some sink
     → AreKnown seen sinks (shape_of sinks)
     → (shape_of (with_cap sinks s sink cap) ≡ shape_of sinks) × (missing seen (with_cap sinks s sink cap) (shape_of sinks) ≤ 16)
+
+-- threads may share a memo
+abbrev pub MemoIsShared : Type 0
+MemoIsShared = IsSync memo.the_row

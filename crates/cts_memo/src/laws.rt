@@ -1,6 +1,7 @@
 //! What the words of the contracts mean, as laws: each is the contract of a function that does nothing.
 
 ghost use Rattle.cts_memo.specs.Laws.{
+  MemoIsShared,
   NothingIsMissing,
   NumberedIsFinished,
   NumbersStay,
@@ -38,4 +39,9 @@ pub fn one_change_misses_depth()
 /// are missing.
 pub fn one_cap_misses_sixteen()
     ensures { OneCapMissesSixteen }
+{}
+
+/// Threads may share a memo. A caller of `join` whose closures hold one calls this before.
+pub fn memo_is_shared()
+    ensures { MemoIsShared }
 {}

@@ -12,3 +12,6 @@ pub use entry::{Answer, MemoCall, MemoEntry, MemoReply, PutEnd};
 pub use key::Key;
 pub use memo::{Memo, MemoOut, MemoPass};
 pub use table::Table;
+
+#[cfg(test)]
+mod tests;
