@@ -1,0 +1,10 @@
+pub mod SameKeys
+pub mod Maps
+pub mod Publications
+pub mod Endings
+pub mod Positions
+pub mod Numbering
+pub mod Missing
+pub mod Capacitances
+mod Example
+pub mod Sent

@@ -1,0 +1,26 @@
+-- Keys of subtrees, and the entries that have them.
+use Rattle.std.specs.Prelude.{Bool, false, ◌==◌, ◌&&◌, List, map}
+use Rattle.std.specs.Ordering.{int_eq}
+use Rattle.cts_units.specs.declared.params.Sink.{Sink}
+use Rattle.cts_merge.specs.declared.side.Finished.{Finished}
+use Rattle.cts_memo.specs.declared.key.Key.{Key}
+use Rattle.cts_memo.specs.declared.key.Key.TheVariants.{Leaf, Pair}
+use Rattle.cts_memo.specs.declared.entry.MemoEntry.{MemoEntry}
+
+-- the key of a sink's leaf: the id has no part in it
+abbrev pub leaf_key : Sink → Key
+leaf_key sink = Leaf sink.x sink.y sink.cap
+
+-- whether two keys are one
+abbrev pub same_key : Key → Key → Bool
+same_key (Leaf x y cap) (Leaf x' y' cap') = int_eq x x' && (int_eq y y' && (cap == cap'))
+same_key (Pair left right) (Pair left' right') = (left == left') && (right == right')
+same_key (Leaf x y cap) (Pair left right) = false
+same_key (Pair left right) (Leaf x y cap) = false
+
+abbrev pub entry : Key → Finished → MemoEntry
+entry key f = record { key = key; finished = f }
+
+-- the entries of a map, in its order
+abbrev pub entries_of : List (Key × Finished) → List MemoEntry
+entries_of pairs = map (λ p. entry p.0 p.1) pairs

@@ -1,0 +1,9 @@
+pub mod Keys
+pub mod Sound
+pub mod Replies
+pub mod TableLaws
+pub mod Tables
+pub mod Passes
+pub mod Numbers
+pub mod Laws
+pub use Rattle.cts_merge.specs.Merge

@@ -1,0 +1,53 @@
+//! Entries of a memo's table, its calls and its replies.
+
+use crate::key::Key;
+use cts_merge::Finished;
+
+/// A subtree that is known, and what the upward pass makes of it.
+#[derive(Clone, Copy)]
+pub struct MemoEntry {
+    pub key: Key,
+    pub finished: Finished,
+}
+
+/// What is asked of a table.
+#[derive(Clone, Copy)]
+pub enum MemoCall {
+    /// Looks a key up.
+    Ask(Key),
+    /// Publishes what was made of a key.
+    Put(Key, Finished),
+}
+
+/// What a table replies.
+#[derive(Clone, Copy)]
+pub enum MemoReply {
+    /// To a look-up.
+    Asked(Answer),
+    /// To a publication.
+    Published(PutEnd),
+}
+
+/// The answer to a look-up.
+#[derive(Clone, Copy)]
+pub enum Answer {
+    /// The entry of the key.
+    Have {
+        /// Its position in the table.
+        number: u32,
+        finished: Finished,
+    },
+    /// No entry has the key.
+    Absent,
+}
+
+/// How a publication ends.
+#[derive(Clone, Copy, Debug, PartialEq, Eq)]
+pub enum PutEnd {
+    /// The key's entry stands at this position. It was appended, or found.
+    At { number: u32 },
+    /// The key isn't there, and the table has as many entries as it can have.
+    Full,
+    /// Memory ran out.
+    NoMemory,
+}

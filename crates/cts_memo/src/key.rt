@@ -1,0 +1,29 @@
+//! What a subtree is known by.
+
+use cts_units::Sink;
+
+/// What a subtree is known by: a leaf by its sink's place and capacitance, a pair by the numbers of its
+/// two parts.
+#[derive(Clone, Copy, Debug, PartialEq, Eq, Hash)]
+pub enum Key {
+    /// A sink's place in nm and its capacitance in zF.
+    Leaf { x: i64, y: i64, cap: u64 },
+    /// The numbers of a pair's left and right part.
+    Pair { left: u32, right: u32 },
+}
+
+impl Key {
+    ghost use Rattle.std.specs.Prelude.{◌≡◌};
+    ghost use Rattle.cts_memo.specs.Keys.{leaf_key};
+
+    /// The key of a sink's leaf.
+    pub fn of_sink(sink: &Sink) -> Key
+        ensures { result ≡ leaf_key sink.now }
+    {
+        Key::Leaf {
+            x: sink.x,
+            y: sink.y,
+            cap: sink.cap,
+        }
+    }
+}

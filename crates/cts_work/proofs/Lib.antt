@@ -1,0 +1,3 @@
+pub mod Builts
+pub mod Misses
+pub mod Nodes

@@ -1,0 +1,234 @@
+//! One node over the memo.
+
+ghost use Rattle.std.specs.Prelude.{◌≡◌, ◌+◌, ◌≤◌, ◌∷◌, [], ◌⊎◌, Some, None, IfOk, IfErr, IfSome, IfNone};
+ghost use Rattle.cts_merge.specs.Merge.{IsBeyond, IsLeaf, IsMerged};
+ghost use Rattle.cts_merge.specs.Side.{IsMergeable};
+ghost use Rattle.cts_topo.specs.Sinks.{IsPlaced};
+ghost use Rattle.cts_up.specs.Plan.{IsBeyondPair};
+ghost use Rattle.cts_up.specs.Sinks.{AreSinksInRange, IsSinkInRange};
+ghost use Rattle.cts_turn.specs.Passes.{seen_by};
+ghost use Rattle.cts_memo.specs.Keys.{entry};
+ghost use Rattle.cts_memo.specs.Numbers.{missing_in};
+ghost use Rattle.cts_memo.specs.Passes.{IsPassOf, params_of};
+ghost use Rattle.cts_memo.specs.Replies.{IsAbsent};
+ghost use Rattle.cts_memo.specs.Sound.{IsMadeOf, NamesEntries, max_entries};
+ghost use Rattle.cts_work.specs.Built.{EndsAt, GoesOn, IsBuilt, IsBuiltLeaf, IsKept, IsPairAt, IsPairKey, tree_at};
+
+use crate::gate::Gate;
+use cts_memo::{Answer, Key, Memo, MemoPass, PutEnd};
+use cts_merge::{Beyond, Finished, Steps, leaf, merge};
+use cts_num::NoMemory;
+use cts_topo::ShapeNode;
+use cts_units::Sink;
+use cts_up::UpEnd;
+use std::sync::Wait;
+use std::sync::ledger::Ledger;
+
+/// A node that is done with.
+#[derive(Clone, Copy)]
+pub(crate) struct Built {
+    /// The number of its entry, or `None` where the memo was full.
+    pub(crate) number: Option<u32>,
+    /// What it is made of.
+    pub(crate) finished: Finished,
+}
+
+/// Publishes what was made of a key that was absent. Its number, or `None` where the memo is full.
+fn publish<R: Wait, G: Gate>(
+    rt: &R,
+    memo: &Memo,
+    pass: &mut MemoPass,
+    gate: &G,
+    number: u32,
+    key: Key,
+    finished: Finished,
+) -> Result<Option<u32>, NoMemory>
+    requires own { IsPassOf memo.now pass.old }
+    requires key { NamesEntries (seen_by pass.old) key }
+    requires finished { IsMadeOf (params_of memo.now) (seen_by pass.old) key finished }
+    ensures pass { GoesOn memo.now pass.old pass.new }
+    ensures kept { IfOk result (IsKept (seen_by pass.new) key finished) }
+{
+    gate.between(number);
+    match memo.put(rt, pass, key, finished) {
+        PutEnd::At { number } => Ok(Some(number)),
+        PutEnd::Full => Ok(None),
+        PutEnd::NoMemory => Err(NoMemory),
+    }
+}
+
+/// The leaf of a sink: looked up, or made and published.
+pub(crate) fn build_leaf<R: Wait, G: Gate>(
+    rt: &R,
+    memo: &Memo,
+    pass: &mut MemoPass,
+    gate: &G,
+    number: u32,
+    sink: &Sink,
+) -> Result<Built, NoMemory>
+    requires own { IsPassOf memo.now pass.old }
+    requires sink { IsSinkInRange sink.now }
+    ensures pass { GoesOn memo.now pass.old pass.new }
+    ensures built { IfOk result (IsBuiltLeaf (seen_by pass.new) sink.now) }
+{
+    let key = Key::of_sink(sink);
+    if let Answer::Have { number, finished } = memo.ask(rt, pass, key) {
+        return Ok(Built {
+            number: Some(number),
+            finished,
+        });
+    }
+    let finished = leaf(sink);
+    let number = publish(rt, memo, pass, gate, number, key, finished)?;
+    Ok(Built { number, finished })
+}
+
+/// The pair of two sides, with the parameters of the memo.
+fn merge_sides<L: Ledger>(
+    memo: &Memo,
+    a: &Finished,
+    b: &Finished,
+    steps: &mut Steps<L>,
+) -> Result<Finished, Beyond>
+    requires a { IsMergeable a.now.side }
+    requires b { IsMergeable b.now.side }
+    ensures merged { IfOk result (λ f. IsMerged (params_of memo.now) a.now.side b.now.side f) }
+    ensures beyond { IfErr result (λ _. IsBeyond (params_of memo.now) a.now.side b.now.side) }
+    ensures tick { steps.new ≡ steps.old + 1 }
+{
+    merge(memo.params(), &a.side, &b.side, steps)
+}
+
+/// The numbers of a pair and of its two parts among the nodes.
+#[derive(Clone, Copy)]
+pub(crate) struct PairNumbers {
+    pub(crate) node: u32,
+    pub(crate) left: u32,
+    pub(crate) right: u32,
+}
+
+/// The key of a pair whose two parts have these numbers in the memo, or `None` where one has none.
+fn pair_key(left: Option<u32>, right: Option<u32>) -> Option<Key>
+    ensures key { IfSome result (IsPairKey left right) }
+    ensures none { IfNone result ((left ≡ None) ⊎ (right ≡ None)) }
+{
+    match left {
+        Some(left) => match right {
+            Some(right) => Some(Key::Pair { left, right }),
+            None => None,
+        },
+        None => None,
+    }
+}
+
+/// A pair whose key is absent: made and published.
+fn make_pair<L: Ledger, R: Wait, G: Gate>(
+    rt: &R,
+    memo: &Memo,
+    pass: &mut MemoPass,
+    gate: &G,
+    number: u32,
+    sinks: &[Sink],
+    nodes: &[ShapeNode],
+    at: PairNumbers,
+    a: &Built,
+    b: &Built,
+    key: Key,
+    steps: &mut Steps<L>,
+) -> Result<Built, UpEnd>
+    requires own { IsPassOf memo.now pass.old }
+    requires sinks { AreSinksInRange sinks.now }
+    requires here { IsPairAt nodes.now at.node at.left at.right }
+    requires a { IsBuilt (params_of memo.now) sinks.now (seen_by pass.old) (tree_at nodes.now at.left) a.now }
+    requires b { IsBuilt (params_of memo.now) sinks.now (seen_by pass.old) (tree_at nodes.now at.right) b.now }
+    requires key { IsPairKey a.now.number b.now.number key }
+    requires absent { IsAbsent (seen_by pass.old) key }
+    ensures pass { GoesOn memo.now pass.old pass.new }
+    ensures built { IfOk result (IsBuilt (params_of memo.now) sinks.now (seen_by pass.new) (tree_at nodes.now at.node)) }
+    ensures ends { IfErr result (EndsAt (params_of memo.now) sinks.now nodes.now at.node) }
+    ensures merges { steps.new ≤ steps.old + missing_in (seen_by pass.old) sinks.now (tree_at nodes.now at.node ∷ []) }
+{
+    match merge_sides(memo, &a.finished, &b.finished, steps) {
+        Ok(finished) => {
+            let number = publish(rt, memo, pass, gate, number, key, finished)?;
+            Ok(Built { number, finished })
+        }
+        Err(Beyond) => Err(UpEnd::Beyond { node: at.node }),
+    }
+}
+
+/// A pair whose two parts have numbers in the memo: looked up, or made and published.
+fn ask_pair<L: Ledger, R: Wait, G: Gate>(
+    rt: &R,
+    memo: &Memo,
+    pass: &mut MemoPass,
+    gate: &G,
+    number: u32,
+    sinks: &[Sink],
+    nodes: &[ShapeNode],
+    at: PairNumbers,
+    a: &Built,
+    b: &Built,
+    key: Key,
+    steps: &mut Steps<L>,
+) -> Result<Built, UpEnd>
+    requires own { IsPassOf memo.now pass.old }
+    requires sinks { AreSinksInRange sinks.now }
+    requires here { IsPairAt nodes.now at.node at.left at.right }
+    requires a { IsBuilt (params_of memo.now) sinks.now (seen_by pass.old) (tree_at nodes.now at.left) a.now }
+    requires b { IsBuilt (params_of memo.now) sinks.now (seen_by pass.old) (tree_at nodes.now at.right) b.now }
+    requires key { IsPairKey a.now.number b.now.number key }
+    ensures pass { GoesOn memo.now pass.old pass.new }
+    ensures built { IfOk result (IsBuilt (params_of memo.now) sinks.now (seen_by pass.new) (tree_at nodes.now at.node)) }
+    ensures ends { IfErr result (EndsAt (params_of memo.now) sinks.now nodes.now at.node) }
+    ensures merges { steps.new ≤ steps.old + missing_in (seen_by pass.old) sinks.now (tree_at nodes.now at.node ∷ []) }
+{
+    match memo.ask(rt, pass, key) {
+        Answer::Have { number, finished } => Ok(Built {
+            number: Some(number),
+            finished,
+        }),
+        Answer::Absent => make_pair(
+            rt, memo, pass, gate, number, sinks, nodes, at, a, b, key, steps,
+        ),
+    }
+}
+
+/// The pair at a number, from its two parts. Above a part that has no number in the memo it is made
+/// without asking.
+pub(crate) fn build_pair<L: Ledger, R: Wait, G: Gate>(
+    rt: &R,
+    memo: &Memo,
+    pass: &mut MemoPass,
+    gate: &G,
+    number: u32,
+    sinks: &[Sink],
+    nodes: &[ShapeNode],
+    at: PairNumbers,
+    a: &Built,
+    b: &Built,
+    steps: &mut Steps<L>,
+) -> Result<Built, UpEnd>
+    requires own { IsPassOf memo.now pass.old }
+    requires sinks { AreSinksInRange sinks.now }
+    requires here { IsPairAt nodes.now at.node at.left at.right }
+    requires a { IsBuilt (params_of memo.now) sinks.now (seen_by pass.old) (tree_at nodes.now at.left) a.now }
+    requires b { IsBuilt (params_of memo.now) sinks.now (seen_by pass.old) (tree_at nodes.now at.right) b.now }
+    ensures pass { GoesOn memo.now pass.old pass.new }
+    ensures built { IfOk result (IsBuilt (params_of memo.now) sinks.now (seen_by pass.new) (tree_at nodes.now at.node)) }
+    ensures ends { IfErr result (EndsAt (params_of memo.now) sinks.now nodes.now at.node) }
+    ensures merges { steps.new ≤ steps.old + missing_in (seen_by pass.old) sinks.now (tree_at nodes.now at.node ∷ []) }
+{
+    match pair_key(a.number, b.number) {
+        Some(key) => ask_pair(
+            rt, memo, pass, gate, number, sinks, nodes, at, a, b, key, steps,
+        ),
+        None => match merge_sides(memo, &a.finished, &b.finished, steps) {
+            Ok(finished) => Ok(Built {
+                number: None,
+                finished,
+            }),
+            Err(Beyond) => Err(UpEnd::Beyond { node: at.node }),
+        },
+    }
+}
