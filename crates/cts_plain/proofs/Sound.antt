@@ -71,7 +71,7 @@ module _ (i : Parts) where
     pub nodes_made : AllZip (IsMadeOf i) (occurrences_of children shape) tree
     nodes_made = made i valid shape over is.placed placed_ok is.is_placed tree is.is_balanced
 
-    tree_ok : IsPostOrder (map tree_children tree)
+    pub tree_ok : IsPostOrder (map tree_children tree)
     tree_ok =
         subst IsPostOrder
         (sym (same_children placed_children tree_children (IsBalancedNode i)

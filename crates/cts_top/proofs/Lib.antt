@@ -4,6 +4,7 @@ pub mod Inputs
 pub mod Lists
 pub mod Valid
 pub mod Printable
+pub mod Accepting
 pub mod Told
 pub mod Writing
 pub mod Serving

@@ -11,6 +11,8 @@ use Rattle.cts_plain.specs.Ends.{Ends}
 use Rattle.cts_plain.specs.declared.end.NoTree.{NoTree}
 use Rattle.cts_plain.specs.declared.end.NoTree.TheVariants.{Beyond, Cut}
 use Rattle.cts_plain.specs.Synthesis.{IsSynthesis, made, beyond, cut}
+use Rattle.cts_report.specs.Report.{report_text}
+use Rattle.cts_check.specs.Verdict.{IsRight}
 use Rattle.cts_top.specs.declared.stop.Answer.TheVariants as answer
 use Rattle.cts_top.specs.Text.{TreeText, TellsSynthesis, no_tree_text}
 use Rattle.std.specs.Prelude.{codes}
@@ -19,13 +21,14 @@ skew_bounded : (i : Parts) (tree : List TreeNode) (figures : Figures) → AreFig
 skew_bounded i tree figures f = rw (f.figures_of.skew_is, f.figures_of.bound_is) (skew_within i f.root)
 
 pub tree_told : (tell : TreeText) (i : Parts) (tree : List TreeNode) (figures : Figures) → IsValid i → IsSynthesis i (made tree)
-    → AreFigures i tree figures → IsSound i tree → TellsSynthesis tell i answer.Text (tell tree figures)
-tree_told tell i tree figures valid is f sound = record {
+    → AreFigures i tree figures → IsSound i tree → IsRight i (report_text tree figures)
+    → TellsSynthesis tell i answer.Text (tell tree figures)
+tree_told tell i tree figures valid is f sound right = record {
   valid = valid;
   synthesis = made tree;
   is_synthesis = is;
   kind_is = refl;
-  is_text = record { sound = sound; figures = figures; are_figures = f; skew_within = skew_bounded i tree figures f; told = refl };
+  is_text = record { sound = sound; figures = figures; are_figures = f; skew_within = skew_bounded i tree figures f; accepted = right; told = refl };
 }
 
 pub beyond_told : (tell : TreeText) (i : Parts) (node : ℕ) → IsValid i → IsSynthesis i (beyond node)

@@ -9,7 +9,7 @@ use Rattle.cts_topo.proofs.Whole.{shapes_name_each_sink_lem}
 use Rattle.cts_plain.specs.Synthesis.{Synthesis, IsSynthesis}
 use Rattle.cts_plain.proofs.Unique.{synthesis_one}
 
-sinks_are : (i : Parts) → IsValid i → AreSinks i.sinks
+pub sinks_are : (i : Parts) → IsValid i → AreSinks i.sinks
 sinks_are i valid = record {
   some = omega (arith, valid.some_sink);
   few = valid.sink_count;

@@ -7,6 +7,8 @@ use Rattle.cts_elmore.specs.declared.figures.Figures.{Figures}
 use Rattle.cts_elmore.specs.Figures.{AreFigures}
 use Rattle.cts_elmore.specs.Sound.{IsSound}
 use Rattle.cts_plain.specs.Synthesis.{Synthesis, made, beyond, cut, IsSynthesis}
+use Rattle.cts_check.specs.declared.verdict.Verdict.TheVariants.{Yes}
+use Rattle.cts_check.specs.Verdict.{IsVerdict}
 use Rattle.cts_top.specs.declared.stop.Answer.{Answer}
 use Rattle.cts_top.specs.declared.stop.Answer.TheVariants as answer
 use Rattle.cts_report.specs.Report.{report_text, summary_text}
@@ -23,12 +25,14 @@ abbrev pub told_by : Telling → TreeText
 told_by telling.Report = report_text
 told_by telling.Summary = summary_text
 
--- A tree of an instance is told: it is sound, each figure is that of its definition, and the skew is at most the bound.
+-- A tree of an instance is told: it is sound, each figure is that of its definition, the skew is at most the bound, and the
+-- verdict on its report is Yes.
 pub record TellsTree (tell : TreeText) (i : Parts) (tree : List TreeNode) (text : List ℕ) : Type 0 where
   pub sound : IsSound i tree
   pub figures : Figures
   pub are_figures : AreFigures i tree figures
   pub skew_within : figures.skew ≤ figures.bound
+  pub accepted : IsVerdict i (report_text tree figures) Yes
   pub told : text ≡ tell tree figures
 
 -- the line that says at which node there is no tree

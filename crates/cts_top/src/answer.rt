@@ -4,7 +4,8 @@ ghost use Rattle.std.specs.Prelude.{◌≡◌, ◌<◌, IfOk, IfErr};
 ghost use Rattle.cts_io.specs.Text.{Writes};
 ghost use Rattle.cts_elmore.specs.Figures.{AreFigures};
 ghost use Rattle.cts_elmore.specs.Sound.{IsSound};
-ghost use Rattle.cts_report.specs.Report.{IsPrintable};
+ghost use Rattle.cts_report.specs.Report.{IsPrintable, report_text};
+ghost use Rattle.cts_check.specs.Verdict.{IsRight};
 ghost use Rattle.cts_plain.specs.Ends.{Ends};
 ghost use Rattle.cts_plain.specs.Synthesis.{IsSynthesis, made};
 ghost use Rattle.cts_top.specs.Text.{TellsSynthesis, no_tree_text, told_by};
@@ -36,6 +37,7 @@ fn synthesise_counted<L: Ledger>(
     ensures figures { IfOk result (λ r. AreFigures instance.now r.0 r.1) }
     ensures sound { IfOk result (λ r. IsSound instance.now r.0) }
     ensures printable { IfOk result (λ r. IsPrintable r.0 r.1) }
+    ensures right { IfOk result (λ r. IsRight instance.now (report_text r.0 r.1)) }
     ensures ends { IfErr result (Ends instance.now) }
 {
     // A read call says that the instance is valid, which the limits of what is printed rest on.
@@ -50,6 +52,7 @@ fn synthesise_alone(alloc: Global, instance: &Instance) -> Result<(Tree, Figures
     ensures figures { IfOk result (λ r. AreFigures instance.now r.0 r.1) }
     ensures sound { IfOk result (λ r. IsSound instance.now r.0) }
     ensures printable { IfOk result (λ r. IsPrintable r.0 r.1) }
+    ensures right { IfOk result (λ r. IsRight instance.now (report_text r.0 r.1)) }
     ensures ends { IfErr result (Ends instance.now) }
 {
     synthesise_counted::<Brand>(alloc, Blank::new(1), instance)

@@ -10,7 +10,7 @@ returns-in-Ok g c =
     rw c.ended.ensures
     (answers_by _ _ _ _ _ _ _ c.write_tree-written.result
     (tree_told (told_by c.args.telling) c.args.instance.now c.in-Ok.tree c.in-Ok.figures c.die-die.ensures.valid c.in-Ok.ensures.tree
-    c.in-Ok.ensures.figures c.in-Ok.ensures.sound)
+    c.in-Ok.ensures.figures c.in-Ok.ensures.sound c.in-Ok.ensures.right)
     c.write_tree-written.ensures)
 
 pub returns-in-Err-Beyond : goal.returns-in-Err-Beyond
