@@ -1,5 +1,5 @@
 -- A line that is added to lines in ascending order.
-use Rattle.std.proofs.Common.{◌≡◌, ℕ, zero, suc, ◌+◌, ◌<◌, ◌≤◌, ◌⊎◌, inl, inr, ℤ, pos, ◌<ℤ◌, List, [], ◌∷◌, length, slice_index_or, refl, sym, ◌∙◌, subst, arith}
+use Rattle.std.proofs.Common.{◌≡◌, ℕ, zero, suc, ◌+◌, ◌<◌, ◌≤◌, ◌⊎◌, inl, inr, ℤ, pos, ◌<ℤ◌, List, [], ◌∷◌, length, slice_index_or, refl, sym, ap, ◌∙◌, subst, arith}
 use Rattle.std.specs.List.{Contains, insert}
 use Rattle.std.proofs.lemmas.Int.{ints}
 use Rattle.std.proofs.lemmas.List.Edits.{length-insert, get_or-insert_below, get_or-insert_at, get_or-insert_above}
@@ -132,3 +132,16 @@ pub not_inserted : (lines after : List ℤ) (line : ℤ) → IsAscending lines �
 not_inserted lines after line asc there e =
     subst (λ (xs : List ℤ). IsInserted lines xs line) (sym e)
     (record { ascending = asc; there = there; kept = λ c old. old; only = λ c old. inr old; count = omega arith })
+
+-- ---- the room for a line
+pub room_after : (lines : List ℤ) (line : ℤ) (before place : ℕ) → IsAscending lines → place ≡ before + 1 → place ≤ length lines
+    → line_at lines before <ℤ line → (place < length lines → line <ℤ line_at lines place) → IsRoom lines line place
+room_after lines line before place asc e le less above =
+    record {
+      bound = le;
+      below = λ k lt. by_order k before
+          (λ under. let l : line_at lines k <ℤ line_at lines before = asc.below k before under (omega arith) in omega (arith, ints))
+          (λ over. absurd (omega arith))
+          (λ same. let l : line_at lines k ≡ line_at lines before = ap (λ (x : ℕ). line_at lines x) same in omega (arith, ints));
+      above = above;
+    }

@@ -22,3 +22,4 @@ pub mod FixedLines
 pub mod WallLists
 pub mod Legal
 pub mod FewCorners
+pub mod Beside

@@ -9,7 +9,7 @@ use Rattle.cts_geom.specs.Coordinate.{int_abs_diff}
 use Rattle.cts_geom.specs.Points.{manhattan_of}
 use Rattle.cts_route.specs.declared.wall.Wall.{Wall}
 use Rattle.cts_route.specs.LineLists.{line_at}
-use Rattle.cts_route.specs.Windows.{point_at, AreOrdered, IsStepLength, IsEastLength, IsNorthLength, IsGraphOf, AreShortLines}
+use Rattle.cts_route.specs.Windows.{point_at, AreOrdered, IsStepLength, IsEastLength, IsNorthLength, AreEasts, AreNorths, IsGraphOf, AreShortLines}
 use Rattle.cts_route.specs.declared.graph.Graph.{Graph}
 use Rattle.cts_route.specs.Search.{IsGraph}
 use Rattle.cts_route.proofs.Unique.{by_order}
@@ -135,15 +135,6 @@ no_north walls xs ys c past = record { there = λ lt. absurd (omega arith); insi
 pub a_north : (walls : List Wall) (xs ys : List ℤ) (c len : ℕ) → c % length ys + 1 < length ys
     → IsStepLength walls (point_at xs ys c) (point_at xs ys (c + 1)) len → IsNorthLength walls xs ys c len
 a_north walls xs ys c len inside is = record { there = λ lt. is; inside = λ some. inside }
-
--- the lengths of the steps from the first points on
-pub record AreEasts (walls : List Wall) (xs ys : List ℤ) (upto : ℕ) (lens : List ℕ) : Type 0 where
-  pub count : length lens ≡ upto
-  pub each : (c : ℕ) → c < upto → IsEastLength walls xs ys c (slice_index lens c)
-
-pub record AreNorths (walls : List Wall) (xs ys : List ℤ) (upto : ℕ) (lens : List ℕ) : Type 0 where
-  pub count : length lens ≡ upto
-  pub each : (c : ℕ) → c < upto → IsNorthLength walls xs ys c (slice_index lens c)
 
 pub push_each : (P : ℕ → ℕ → Type 0) (lens after : List ℕ) (upto len : ℕ) → length lens ≡ upto → after ≡ lens ++ len ∷ []
     → ((c : ℕ) → c < upto → P c (slice_index lens c)) → P upto len → (c : ℕ) → c < upto + 1 → P c (slice_index after c)

@@ -1,14 +1,14 @@
 -- The walls of a list of blocks, block by block.
-use Rattle.std.proofs.Common.{◌≡◌, ℕ, ◌+◌, ◌<◌, pos, ◌*ℤ◌, ◌≤ℤ◌, ◌<ℤ◌, Some, List, [], ◌∷◌, ◌++◌, length, take, slice_index_or, refl, sym, subst, arith}
+use Rattle.std.proofs.Common.{◌≡◌, ℕ, ◌+◌, ◌<◌, ◌≤◌, ℤ, pos, ◌*ℤ◌, ◌≤ℤ◌, ◌<ℤ◌, Some, List, [], ◌∷◌, ◌++◌, length, take, slice_index_or, refl, sym, subst, arith}
 use Rattle.std.specs.Prelude.{All}
 use Rattle.std.proofs.lemmas.Int.{ints}
-use Rattle.std.proofs.lemmas.List.{take_more}
+use Rattle.std.proofs.lemmas.List.{take_more, take_all}
 use Rattle.std.proofs.lemmas.List.Elements.{All-push, All-pop, All-nil}
 use Rattle.cts_block.specs.declared.blocks.Block.{Block}
 use Rattle.cts_block.specs.declared.blocks.Kind.TheVariants.{Buffer, All as KindAll}
 use Rattle.cts_block.specs.FreePoints.{StopsWires, IsOpenToWires}
 use Rattle.cts_route.specs.declared.wall.Wall.{Wall}
-use Rattle.cts_route.specs.Walls.{IsInWall, IsOutside, IsWallOf, IsNoWall, AreWallsOf}
+use Rattle.cts_route.specs.Walls.{IsInWall, IsOutside, IsWallOf, IsNoWall, AreWallsOf, AreWallsBetween, Overlaps}
 
 -- what holds of a list and of one more element
 all_of_more : {X : Type 0} (P : X → Type 0) (xs : List X) (x : X) → All P (xs ++ x ∷ []) → All P xs × P x
@@ -89,3 +89,48 @@ wall_is block wall all x1 y1 x2 y2 =
         above = let h : r.y <ℤ (pos 2 *ℤ block.y2) = inside.y.below in omega (arith, ints);
       });
     }
+
+-- ---- the walls that reach between two x
+pub between_none : (low high : ℤ) (near : List Wall) → near ≡ [] → AreWallsBetween [] low high near
+between_none low high near e =
+    record {
+      outside = λ r out. subst (λ (ws : List Wall). IsOutside ws r) (sym e) (All-nil (λ (w : Wall). IsInWall w r → ⊥));
+      inside = λ r lo hi out. All-nil (λ (w : Wall). IsInWall w r → ⊥);
+    }
+
+pub between_more : (walls : List Wall) (i : ℕ) (wall : Wall) (low high : ℤ) (near after : List Wall) → i < length walls
+    → AreWallsBetween (take i walls) low high near → after ≡ near ++ slice_index_or walls i wall ∷ [] → AreWallsBetween (take (i + 1) walls) low high after
+between_more walls i wall low high near after lt before e =
+    let w : Wall = slice_index_or walls i wall in
+    let more : AreWallsBetween (take i walls ++ w ∷ []) low high (near ++ w ∷ []) = record {
+      outside = λ r out.
+          let parts : IsOutside (take i walls) r × (IsInWall w r → ⊥) = all_of_more (λ (v : Wall). IsInWall v r → ⊥) (take i walls) w out in
+          All-push (λ (v : Wall). IsInWall v r → ⊥) near w (before.outside r parts.0) parts.1;
+      inside = λ r lo hi out.
+          let parts : IsOutside near r × (IsInWall w r → ⊥) = all_of_more (λ (v : Wall). IsInWall v r → ⊥) near w out in
+          All-push (λ (v : Wall). IsInWall v r → ⊥) (take i walls) w (before.inside r lo hi parts.0) parts.1;
+    } in
+    subst (λ (ws : List Wall). AreWallsBetween ws low high after) (sym (take_more walls i wall lt))
+    (subst (λ (ws : List Wall). AreWallsBetween (take i walls ++ w ∷ []) low high ws) (sym e) more)
+
+pub between_same : (walls : List Wall) (i : ℕ) (wall : Wall) (low high : ℤ) (near after : List Wall) → i < length walls
+    → AreWallsBetween (take i walls) low high near → (Overlaps low high (slice_index_or walls i wall).x1 (slice_index_or walls i wall).x2 → ⊥)
+    → after ≡ near → AreWallsBetween (take (i + 1) walls) low high after
+between_same walls i wall low high near after lt before apart e =
+    let w : Wall = slice_index_or walls i wall in
+    let more : AreWallsBetween (take i walls ++ w ∷ []) low high near = record {
+      outside = λ r out.
+          let parts : IsOutside (take i walls) r × (IsInWall w r → ⊥) = all_of_more (λ (v : Wall). IsInWall v r → ⊥) (take i walls) w out in
+          before.outside r parts.0;
+      inside = λ r lo hi out. All-push (λ (v : Wall). IsInWall v r → ⊥) (take i walls) w (before.inside r lo hi out)
+          (λ inside. apart (record {
+            before = let right = inside.right in omega (arith, ints);
+            after = let left = inside.left in omega (arith, ints);
+          }));
+    } in
+    subst (λ (ws : List Wall). AreWallsBetween ws low high after) (sym (take_more walls i wall lt))
+    (subst (λ (ws : List Wall). AreWallsBetween (take i walls ++ w ∷ []) low high ws) (sym e) more)
+
+pub between_all : (walls : List Wall) (i : ℕ) (low high : ℤ) (near : List Wall) → length walls ≤ i
+    → AreWallsBetween (take i walls) low high near → AreWallsBetween walls low high near
+between_all walls i low high near le are = subst (λ (ws : List Wall). AreWallsBetween ws low high near) (take_all i walls le) are

@@ -1,5 +1,5 @@
 -- Blocks that stop wires, as rectangles in half nm.
-use Rattle.std.specs.Prelude.{◌≡◌, ℤ, ◌<ℤ◌, List, All}
+use Rattle.std.specs.Prelude.{◌≡◌, ℤ, ◌≤ℤ◌, ◌<ℤ◌, List, All}
 use Rattle.std.specs.Int.{int_min, int_max}
 use Rattle.cts_geom.specs.declared.points.Half.{Half}
 use Rattle.cts_block.specs.declared.blocks.Block.{Block}
@@ -32,6 +32,11 @@ pub record Overlaps (low high from to : ℤ) : Type 0 where
 pub record Crosses (wall : Wall) (low high : Half) : Type 0 where
   pub x : Overlaps low.x high.x wall.x1 wall.x2
   pub y : Overlaps low.y high.y wall.y1 wall.y2
+
+-- of the walls, those that reach between two x
+pub record AreWallsBetween (walls : List Wall) (low high : ℤ) (near : List Wall) : Type 0 where
+  pub outside : (r : Half) → IsOutside walls r → IsOutside near r
+  pub inside : (r : Half) → low ≤ℤ r.x → r.x ≤ℤ high → IsOutside near r → IsOutside walls r
 
 -- low and high are the least and greatest coordinates of a segment
 pub record IsSpan (p q low high : Half) : Type 0 where

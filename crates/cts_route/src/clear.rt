@@ -1,8 +1,8 @@
 //! Which segments are clear of the blocks that stop wires.
 
-ghost use Rattle.std.specs.Prelude.{◌↔◌, All, IsTrue, IfSome, IfNone, IfOk};
+ghost use Rattle.std.specs.Prelude.{◌↔◌, All, IsTrue, IfSome, IfNone, IfOk, OnOk};
 ghost use Rattle.cts_route.specs.Limits.{IsBlockInRange};
-ghost use Rattle.cts_route.specs.Walls.{MissesWalls, IsWallOf, IsNoWall, AreWallsOf, Overlaps, Crosses, IsSpan};
+ghost use Rattle.cts_route.specs.Walls.{MissesWalls, IsWallOf, IsNoWall, AreWallsBetween, AreWallsOf, Overlaps, Crosses, IsSpan};
 
 use crate::wall::Wall;
 use cts_block::{Block, Kind};
@@ -57,6 +57,30 @@ pub fn walls_of(alloc: Global, blocks: &[Block]) -> Result<Vec<Wall>, AllocError
         }
     }
     Ok(walls)
+}
+
+/// Whether the inside of the wall reaches into a span in x.
+fn reaches_between(wall: &Wall, span: (i64, i64)) -> bool
+    ensures { IsTrue result ↔ Overlaps span.0 span.1 wall.now.x1 wall.now.x2 }
+{
+    span.0 < wall.x2 && wall.x1 < span.1
+}
+
+/// Puts those walls into `near` that reach into a span in x.
+pub fn gather_between(
+    near: &mut Vec<Wall>,
+    walls: &[Wall],
+    span: (i64, i64),
+) -> Result<(), AllocError>
+    ensures { OnOk result (AreWallsBetween walls.now span.0 span.1 near.new.items) }
+{
+    near.clear();
+    for wall in walls {
+        if reaches_between(wall, span) {
+            near.push(*wall)?;
+        }
+    }
+    Ok(())
 }
 
 /// The corners of the box of a segment.

@@ -12,18 +12,19 @@ use std::alloc::{AllocError, Global};
 
 /// Where a line goes, unless it is there.
 fn room_for(lines: &[i64], line: i64) -> Option<usize>
+    requires { IsAscending lines.now }
     ensures room { IfSome result (IsRoom lines.now line) }
     ensures there { IfNone result (Contains lines.now line) }
 {
-    for (place, other) in lines.iter().enumerate() {
-        if *other == line {
+    for after in (0..lines.len()).rev() {
+        if lines[after] == line {
             return None;
         }
-        if *other > line {
-            return Some(place);
+        if lines[after] < line {
+            return Some(after + 1);
         }
     }
-    Some(lines.len())
+    Some(0)
 }
 
 /// Adds a line, unless it is there.

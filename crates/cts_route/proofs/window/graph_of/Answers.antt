@@ -1,31 +1,28 @@
-use Rattle.std.proofs.Common.{◌≡◌, ◌*◌, length, refl, arith}
-use Rattle.cts_route.specs.Windows.{IsGraphOf}
-use Rattle.cts_route.proofs.Steps.{no_easts, no_norths, more_easts, more_norths, graph_steps, graph_is}
+use Rattle.std.proofs.Common.{◌≡◌, ℕ, ◌*◌, List, length, sym, ap, subst, arith}
+use Rattle.cts_route.specs.declared.wall.Wall.{Wall}
+use Rattle.cts_route.specs.Windows.{IsGraphOf, IsGraphUpTo, AreWallsBeside}
+use Rattle.cts_route.proofs.Steps.{graph_steps, graph_is}
 use Rattle.cts_route.proofs.Ahead.{leads_ahead}
+use Rattle.cts_route.proofs.Beside.{beside_from_between}
 use Rattle.cts_route.proofs.window.graph_of.Goals as goal
 
-pub loop-cell-init : goal.loop-cell-init
-loop-cell-init c = (
-  no_easts c.args.walls.now c.args.xs.now c.args.ys.now c.in_ok-east.east.items c.in_ok-east.ensures.items,
-  no_norths c.args.walls.now c.args.xs.now c.args.ys.now c.in_ok-north.north.items c.in_ok-north.ensures.items,
-)
+steps : (c : goal.After-drop-near-2) → IsGraphOf c.args.walls.now c.args.xs.now c.args.ys.now c.loop-column.graph
+steps c =
+    let all : c.loop-column.column ≡ length c.args.xs.now = (let up = c.loop-column.auto.column-end in let done = c.loop-column-test.false in omega (arith, up, done)) in
+    graph_steps c.args.walls.now c.args.xs.now c.args.ys.now c.loop-column.graph (c.loop-column.column * length c.args.ys.now)
+    (ap (λ k. k * length c.args.ys.now) all) c.loop-column.invariant.height c.loop-column.invariant.easts c.loop-column.invariant.norths
 
-pub loop-cell-preserved : goal.loop-cell-preserved
-loop-cell-preserved c = (
-  more_easts c.args.walls.now c.args.xs.now c.args.ys.now c.loop-cell.cell c.east_length.result c.loop-cell.east.items c.push.new.self.items
-      c.loop-cell.invariant.0 c.in_ok-push.ensures.items c.east_length.ensures,
-  more_norths c.args.walls.now c.args.xs.now c.args.ys.now c.loop-cell.cell c.north_length.result c.loop-cell.north.items c.push-in-loop-cell.new.self.items
-      c.loop-cell.invariant.1 c.in_ok-push-2.ensures.items c.north_length.ensures,
-)
+pub returns-clause-graph : goal.returns-clause-graph
+returns-clause-graph c = graph_is c.args.walls.now c.args.xs.now c.args.ys.now c.loop-column.graph c.requires.xs c.requires.ys (steps c)
 
-pub returns : goal.returns
-returns c =
-    let all : c.loop-cell.cell ≡ length c.args.xs.now * length c.args.ys.now = (let up = c.loop-cell.auto.cell-end in omega (arith, up)) in
-    let steps : IsGraphOf c.args.walls.now c.args.xs.now c.args.ys.now _ =
-    graph_steps c.args.walls.now c.args.xs.now c.args.ys.now (record { east = c.loop-cell.east; north = c.loop-cell.north; height = length c.args.ys.now })
-    c.loop-cell.cell all refl c.loop-cell.invariant.0 c.loop-cell.invariant.1 in
-    record {
-      graph = graph_is c.args.walls.now c.args.xs.now c.args.ys.now _ c.requires.xs c.requires.ys steps;
-      steps = steps;
-      ahead = leads_ahead c.args.walls.now c.args.xs.now c.args.ys.now _ c.requires.xs c.requires.ys steps;
-    }
+pub returns-clause-ahead : goal.returns-clause-ahead
+returns-clause-ahead c = leads_ahead c.args.walls.now c.args.xs.now c.args.ys.now c.loop-column.graph c.requires.xs c.requires.ys (steps c)
+
+pub loop-column-preserved : goal.loop-column-preserved
+loop-column-preserved c =
+    let near : AreWallsBeside c.args.walls.now c.args.xs.now c.loop-column.column c.as_slice.result.now =
+    subst (λ (ws : List Wall). AreWallsBeside c.args.walls.now c.args.xs.now c.loop-column.column ws) (sym c.as_slice.ensures.value)
+    (beside_from_between c.args.walls.now c.gather_between.new.near.items c.args.xs.now c.loop-column.column c.span_of.result.0 c.span_of.result.1
+    c.requires.xs.ascending c.span_of.ensures c.in_ok-gather_between.ensures) in
+    subst (λ (n : ℕ). IsGraphUpTo c.args.walls.now c.args.xs.now c.args.ys.now n c.push_column.new.graph) (omega arith)
+    (c.in_ok-push_column.ensures c.args.walls.now near c.loop-column.invariant)
