@@ -1,11 +1,11 @@
 //! From the plan of a shape to its tree: places and routes from the root down, and then the wires balanced upward.
 //!
-//! A layer above hands the plan of a shape to [`embed`], or to [`embed_plan`] where nobody reads it afterwards, and takes the placed tree; it cites `specs/Places.antt` for where
-//! a node stands and `specs/PlacedTree.antt` for the tree of the same form whose nodes are told one by one, each by its
-//! subtree and the pairs above it. It hands a placed tree to [`balance`] and takes the tree, or the least node that is
-//! beyond; it cites `specs/Balance.antt`, which tells by a recursion on the tree what the balance makes of each node, and
-//! `specs/BalancedTree.antt`, which tells the nodes of the balanced tree in the same way. The laws of [`laws`] say that
-//! there is one answer to each, and where places lie.
+//! A layer above hands the plan of a shape to [`embed`], or to [`embed_plan`] where nobody reads it afterwards, and takes
+//! the placed tree; it cites `specs/Places.antt` for where a node stands and `specs/PlacedTree.antt` for the tree of the
+//! same form whose nodes are told one by one, each by its subtree and the pairs above it. It hands a placed tree to
+//! [`balance`] and takes the tree, or the least node that is beyond; it cites `specs/Balance.antt`, which tells by a
+//! recursion on the tree what the balance makes of each node, and `specs/BalancedTree.antt`, which tells the nodes of the
+//! balanced tree in the same way. The laws of [`laws`] say that there is one answer to each, and where places lie.
 #![tactic(auto)]
 
 mod balancing;
