@@ -7,3 +7,6 @@ mod upward;
 
 pub use gate::{Gate, OpenGate};
 pub use upward::rebuild;
+
+#[cfg(test)]
+mod tests;
