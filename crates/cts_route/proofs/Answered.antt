@@ -1,5 +1,5 @@
 -- What the calls on a grid answer.
-use Rattle.std.proofs.Common.{◌≡◌, ℕ, ◌-◌, ◌/◌, ◌^◌, ◌≤◌, Result, Ok, Err, ℤ, List, slice_index, refl, sym, ◌∙◌, subst}
+use Rattle.std.proofs.Common.{◌≡◌, ℕ, ◌-◌, ◌/◌, ◌^◌, ◌<◌, ◌≤◌, Result, Ok, Err, ℤ, List, slice_index, refl, sym, ◌∙◌, subst}
 use Rattle.std.specs.List.{Contains}
 use Rattle.std.specs.Result.{IfOk, IsErr}
 use Rattle.cts_geom.specs.declared.bounds.Die.{Die}
@@ -72,7 +72,7 @@ pub record IsDone (grid : Grid) (from to : Spot) (window : Window) (table : Tabl
   pub to_in : IsSpotInRange to
   pub window_is : IsWindowOf grid from to window
   pub valid : AreLabels window.graph table.goal table.labels.items
-  pub settled : IsSettled window.graph table.labels.items
+  pub settled : IsSettled window.graph table.labels.items start
   pub at_start : Stands window.xs.items window.ys.items (point_of from) start
   pub at_goal : Stands window.xs.items window.ys.items (point_of to) table.goal
 
@@ -81,7 +81,7 @@ search_is : (grid : Grid) (from to : Spot) (window : Window) (table : Table) (st
     → IsSearch blocks (lines_of blocks die (point_of from) (point_of to)) grid.walls.items window.xs.items window.ys.items window.graph table.goal table.labels.items
 search_is grid from to window table start done blocks die of =
     search_of blocks die grid from to window.xs.items window.ys.items window.graph table.goal table.labels.items of done.grid_is done.from_in done.to_in
-    done.window_is.xs done.window_is.ys done.window_is.steps done.valid done.settled
+    done.window_is.xs done.window_is.ys done.window_is.steps done.valid
 
 pub done_cut : (grid : Grid) (from to : Spot) (window : Window) (table : Table) (start : ℕ) → IsDone grid from to window table start
     → 2 ^ 64 - 1 ≤ slice_index table.labels.items start → IsCutOn grid from to
@@ -89,15 +89,15 @@ done_cut grid from to window table start done none =
     record {
       is = λ blocks die of.
           found_cut blocks die (point_of from) (point_of to) grid.walls.items window.xs.items window.ys.items window.graph start table.goal table.labels.items
-          (search_is grid from to window table start done blocks die of) done.at_start done.at_goal none;
+          (search_is grid from to window table start done blocks die of) done.settled done.at_start done.at_goal none;
     }
 
 pub done_route : (grid : Grid) (from to : Spot) (window : Window) (table : Table) (start : ℕ) (route : Route) (corners : List Half) → IsDone grid from to window table start
-    → IsWayDown window.xs.items window.ys.items window.graph table start corners → route.corners ≡ corners → route.length ≡ slice_index table.labels.items start / 2
+    → slice_index table.labels.items start < 2 ^ 64 - 1 → IsWayDown window.xs.items window.ys.items window.graph table start corners → route.corners ≡ corners → route.length ≡ slice_index table.labels.items start / 2
     → IsRouteOn grid from to route
-done_route grid from to window table start route corners done way same len =
+done_route grid from to window table start route corners done reached way same len =
     record {
       is = λ blocks die of.
           found_route blocks die from to grid.walls.items window.xs.items window.ys.items window.graph start table.goal table.labels.items way.cells route
-          (search_is grid from to window table start done blocks die of) done.at_start done.at_goal way.down (same ∙ way.turns) len;
+          (search_is grid from to window table start done blocks die of) done.settled reached done.at_start done.at_goal way.down (same ∙ way.turns) len;
     }

@@ -6,15 +6,15 @@ use Rattle.cts_route.specs.declared.direction.Direction.{Direction}
 use Rattle.cts_route.specs.declared.direction.Direction.TheVariants.{East, West, North, South}
 use Rattle.cts_route.specs.declared.graph.Graph.{Graph}
 use Rattle.cts_route.specs.Grid.{rank}
-use Rattle.cts_route.specs.Search.{IsStep, HasNoStep, no_path, unreached, AreLabels, IsSettled, IsFall, HasNoFall, IsFirstFall}
+use Rattle.cts_route.specs.Search.{IsStep, HasNoStep, no_path, unreached, AreLabels, IsSettledFrom, IsSettled, IsFall, HasNoFall, IsFirstFall}
 use Rattle.cts_route.proofs.Unique.{by_order}
 use Rattle.cts_route.proofs.Labels.{opposite, step_back, step_one, no_path-reached, no_path-none}
 
 -- a step to a reached point: the label is at most that of the point and the step's length
-pub at_most_by_step : (graph : Graph) (labels : List ℕ) (d : Direction) (c n len : ℕ) → IsSettled graph labels → n < length labels
+pub at_most_by_step : (graph : Graph) (labels : List ℕ) (d : Direction) (c n len : ℕ) → IsSettledFrom graph labels n
     → IsStep graph d c n len → slice_index labels n < 2 ^ 64 - 1 → slice_index labels c ≤ slice_index labels n + len
-at_most_by_step graph labels d c n len settled inside step reached =
-    ((settled.from n inside).at (opposite d)).no_shorter c len (step_back graph d c n len step) reached
+at_most_by_step graph labels d c n len settled step reached =
+    (settled.at (opposite d)).no_shorter c len (step_back graph d c n len step) reached
 
 pub no_fall_no_step : (graph : Graph) (labels : List ℕ) (d : Direction) (c : ℕ) → HasNoStep graph d c → HasNoFall graph labels d c
 no_fall_no_step graph labels d c stepless = record { less = λ n len step reached. absurd (stepless.none n len step) }
@@ -28,7 +28,7 @@ no_fall_unreached graph labels d c to len step none =
           absurd (omega arith);
     }
 
-pub no_fall_less : (graph : Graph) (labels : List ℕ) (d : Direction) (c to len : ℕ) → IsSettled graph labels → to < length labels
+pub no_fall_less : (graph : Graph) (labels : List ℕ) (d : Direction) (c to len : ℕ) → IsSettled graph labels c → to < length labels
     → IsStep graph d c to len → slice_index labels to + len ≢ slice_index labels c → HasNoFall graph labels d c
 no_fall_less graph labels d c to len settled inside step apart =
     record {
@@ -36,12 +36,21 @@ no_fall_less graph labels d c to len settled inside step apart =
           let same : (n ≡ to) × (l ≡ len) = step_one graph d c n to l len other step in
           let at : slice_index labels n ≡ slice_index labels to = ap (λ (x : ℕ). slice_index labels x) same.0 in
           let e : l ≡ len = same.1 in
-          let le : slice_index labels c ≤ slice_index labels to + len = at_most_by_step graph labels d c to len settled inside step (omega arith) in
-          strictly (slice_index labels c) (slice_index labels n + l) (slice_index labels to + len) (omega arith) le apart;
+          by_order (slice_index labels c) (slice_index labels to)
+          (λ farther. omega (arith, farther, at))
+          (λ nearer. below (omega arith) n l at e reached)
+          (λ level. below (omega (arith, level)) n l at e reached);
     }
   where
     strictly : (a b c : ℕ) → b ≡ c → a ≤ c → c ≢ a → a < b
     strictly a b c e le ne = by_order a c (λ lt. omega arith) (λ gt. absurd (omega arith)) (λ same. absurd (ne (sym same)))
+
+    below : slice_index labels to ≤ slice_index labels c → (n l : ℕ) → slice_index labels n ≡ slice_index labels to → l ≡ len
+        → slice_index labels n < 2 ^ 64 - 1 → slice_index labels c < slice_index labels n + l
+    below near n l at e reached =
+        let le : slice_index labels c ≤ slice_index labels to + len =
+        at_most_by_step graph labels d c to len ((settled.from to inside).at near) step (omega (arith, at, reached)) in
+        strictly (slice_index labels c) (slice_index labels n + l) (slice_index labels to + len) (omega (arith, at, e)) le apart
 
 -- where the label falls in no direction there is the goal
 pub no_fall_at_goal : (graph : Graph) (goal : ℕ) (labels : List ℕ) (c : ℕ) → AreLabels graph goal labels → c < length labels

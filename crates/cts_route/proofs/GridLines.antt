@@ -22,7 +22,7 @@ use Rattle.cts_route.specs.Grid.{edges_of, fixed_xs, fixed_ys, lines_of}
 use Rattle.cts_route.specs.Grids.{IsNear, IsGrid, IsGridOf}
 use Rattle.cts_route.specs.Limits.{IsDieInRange, IsBlockInRange, AreBlocksInRange, stops_wires}
 use Rattle.cts_route.specs.LineLists.{line_at, AreLinesOf, AreLinesBetween, IsNumberOf}
-use Rattle.cts_route.specs.Search.{AreLabels, IsSettled}
+use Rattle.cts_route.specs.Search.{AreLabels}
 use Rattle.cts_route.specs.Windows.{point_at, Stands, IsGraphOf, AreShortLines}
 use Rattle.cts_route.proofs.Cells.{cell_is}
 use Rattle.cts_route.proofs.Insertions.{contains_at}
@@ -140,9 +140,9 @@ pub search_of : (blocks : List Block) (die : Die) (grid : Grid) (from to : Spot)
     → IsGridOf blocks die grid → IsGrid grid → IsSpotInRange from → IsSpotInRange to
     → AreLinesBetween ((point_of from).x ∷ (point_of to).x ∷ grid.xs.items) (neg_ℤ (pos (2 ^ 41))) (pos (2 ^ 41)) xs
     → AreLinesBetween ((point_of from).y ∷ (point_of to).y ∷ grid.ys.items) (neg_ℤ (pos (2 ^ 41))) (pos (2 ^ 41)) ys
-    → IsGraphOf grid.walls.items xs ys graph → AreLabels graph goal labels → IsSettled graph labels
+    → IsGraphOf grid.walls.items xs ys graph → AreLabels graph goal labels
     → IsSearch blocks (lines_of blocks die (point_of from) (point_of to)) grid.walls.items xs ys graph goal labels
-search_of blocks die grid from to xs ys graph goal labels of is from_in to_in are_x are_y steps valid settled =
+search_of blocks die grid from to xs ys graph goal labels of is from_in to_in are_x are_y steps valid =
     let p : Half = point_of from in
     let q : Half = point_of to in
     record {
@@ -161,7 +161,6 @@ search_of blocks die grid from to xs ys graph goal labels of is from_in to_in ar
           are_y.complete c on near.low near.high;
       steps = steps;
       valid = valid;
-      settled = settled;
     }
 
 pub stands_at : (xs ys : List ℤ) (p : Half) (i j : ℕ) → IsNumberOf xs p.x i → IsNumberOf ys p.y j → Stands xs ys p (i * length ys + j)

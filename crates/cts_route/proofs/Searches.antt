@@ -15,7 +15,7 @@ use Rattle.cts_route.specs.declared.wall.Wall.{Wall}
 use Rattle.cts_tree.specs.Path.{IsWithin}
 use Rattle.cts_route.specs.Grid.{IsAhead, Lines, IsGridPoint, IsClear, IsJoined}
 use Rattle.cts_route.specs.LineLists.{line_at, IsAscending}
-use Rattle.cts_route.specs.Search.{IsStep, AreLabels, IsSettled}
+use Rattle.cts_route.specs.Search.{IsStep, AreLabels}
 use Rattle.cts_route.specs.Walls.{MissesWalls, AreWallsOf}
 use Rattle.cts_route.specs.Windows.{point_at, Stands, IsStepLength, IsGraphOf, AreShortLines}
 use Rattle.cts_route.proofs.Ahead.{IsEastStep, IsNorthStep, east_step, north_step}
@@ -36,7 +36,6 @@ pub record IsSearch (blocks : List Block) (lines : Lines) (walls : List Wall) (x
   pub complete_y : (c : ℤ) → Contains lines.ys c → Contains ys c
   pub steps : IsGraphOf walls xs ys graph
   pub valid : AreLabels graph goal labels
-  pub settled : IsSettled graph labels
 
 -- ---- clear segments
 turn_within : (a b c : ℤ) → IsWithin a b c → IsWithin b a c

@@ -5,7 +5,7 @@ use Rattle.std.specs.Option.{IfNone}
 use Rattle.cts_route.specs.declared.direction.Direction.{Direction}
 use Rattle.cts_route.specs.declared.direction.Direction.TheVariants.{East, West, North, South}
 use Rattle.cts_route.specs.declared.graph.Graph.{Graph}
-use Rattle.cts_route.specs.Search.{AreLabels, total, IsSettledAt, IsSettledFrom}
+use Rattle.cts_route.specs.Search.{AreLabels, total, IsSettledAt, IsSettledFrom, IsSettledBelow}
 
 pub on_false : (b : Bool) (P : Type 0) → (b ≡ false → P) → OnFalse b P
 on_false true P f = tt
@@ -46,44 +46,44 @@ settled_all graph c labels l1 l2 l3 e f g at_east at_west at_north at_south =
     at graph c labels e w n s South = s
 
 -- what a sweep has done up to a point
-pub record IsSwept (graph : Graph) (goal old_goal from : ℕ) (before labels : List ℕ) (changed : Bool) : Type 0 where
+pub record IsSwept (graph : Graph) (start goal old_goal from : ℕ) (before labels : List ℕ) (changed : Bool) : Type 0 where
   pub valid : AreLabels graph goal labels
   pub same_goal : goal ≡ old_goal
   pub kept : changed ≡ false → labels ≡ before
-  pub settled : changed ≡ false → (c : ℕ) → c < from → IsSettledFrom graph labels c
+  pub settled : changed ≡ false → (c : ℕ) → c < from → IsSettledBelow graph labels start c
   pub shorter : changed ≡ true → total labels < total before
 
-pub not_swept : (graph : Graph) (goal : ℕ) (labels : List ℕ) → AreLabels graph goal labels → IsSwept graph goal goal 0 labels labels false
-not_swept graph goal labels valid =
+pub not_swept : (graph : Graph) (start goal : ℕ) (labels : List ℕ) → AreLabels graph goal labels → IsSwept graph start goal goal 0 labels labels false
+not_swept graph start goal labels valid =
     record { valid = valid; same_goal = refl; kept = λ _. refl; settled = λ _ c lt. absurd (omega arith); shorter = λ e. cc }
 
-at_most : (graph : Graph) (goal old_goal from : ℕ) (before labels : List ℕ) (changed : Bool) → IsSwept graph goal old_goal from before labels changed
+at_most : (graph : Graph) (start goal old_goal from : ℕ) (before labels : List ℕ) (changed : Bool) → IsSwept graph start goal old_goal from before labels changed
     → total labels ≤ total before
-at_most graph goal old_goal from before labels true swept = let lt = swept.shorter refl in omega (arith, lt)
-at_most graph goal old_goal from before labels false swept = let e = ap total (swept.kept refl) in omega (arith, e)
+at_most graph start goal old_goal from before labels true swept = let lt = swept.shorter refl in omega (arith, lt)
+at_most graph start goal old_goal from before labels false swept = let e = ap total (swept.kept refl) in omega (arith, e)
 
-pub swept_shorter : (graph : Graph) (goal next_goal old_goal from : ℕ) (before labels after : List ℕ) (changed now : Bool)
-    → IsSwept graph goal old_goal from before labels changed → AreLabels graph next_goal after → next_goal ≡ goal
-    → total after < total labels → now ≡ true → IsSwept graph next_goal old_goal (from + 1) before after now
-swept_shorter graph goal next_goal old_goal from before labels after changed now swept valid same less is =
+pub swept_shorter : (graph : Graph) (start goal next_goal old_goal from : ℕ) (before labels after : List ℕ) (changed now : Bool)
+    → IsSwept graph start goal old_goal from before labels changed → AreLabels graph next_goal after → next_goal ≡ goal
+    → total after < total labels → now ≡ true → IsSwept graph start next_goal old_goal (from + 1) before after now
+swept_shorter graph start goal next_goal old_goal from before labels after changed now swept valid same less is =
     record {
       valid = valid;
       same_goal = same ∙ swept.same_goal;
       kept = λ e. cc;
       settled = λ e. cc;
-      shorter = λ _. let le = at_most graph goal old_goal from before labels changed swept in omega (arith, le, less);
+      shorter = λ _. let le = at_most graph start goal old_goal from before labels changed swept in omega (arith, le, less);
     }
 
-pub swept_kept : (graph : Graph) (goal next_goal old_goal from : ℕ) (before labels after : List ℕ) (changed now : Bool)
-    → IsSwept graph goal old_goal from before labels changed → AreLabels graph next_goal after → next_goal ≡ goal
-    → after ≡ labels → IsSettledFrom graph labels from → now ≡ changed → IsSwept graph next_goal old_goal (from + 1) before after now
-swept_kept graph goal next_goal old_goal from before labels after changed now swept valid same kept here is =
+pub swept_kept : (graph : Graph) (start goal next_goal old_goal from : ℕ) (before labels after : List ℕ) (changed now : Bool)
+    → IsSwept graph start goal old_goal from before labels changed → AreLabels graph next_goal after → next_goal ≡ goal
+    → after ≡ labels → IsSettledBelow graph labels start from → now ≡ changed → IsSwept graph start next_goal old_goal (from + 1) before after now
+swept_kept graph start goal next_goal old_goal from before labels after changed now swept valid same kept here is =
     record {
       valid = valid;
       same_goal = same ∙ swept.same_goal;
       kept = λ e. kept ∙ swept.kept (sym is ∙ e);
-      settled = λ e. below_more (λ c. IsSettledFrom graph after c) from
-          (λ c lt. subst (λ (l : List ℕ). IsSettledFrom graph l c) (sym kept) (swept.settled (sym is ∙ e) c lt))
-          (subst (λ (l : List ℕ). IsSettledFrom graph l from) (sym kept) here);
+      settled = λ e. below_more (λ c. IsSettledBelow graph after start c) from
+          (λ c lt. subst (λ (l : List ℕ). IsSettledBelow graph l start c) (sym kept) (swept.settled (sym is ∙ e) c lt))
+          (subst (λ (l : List ℕ). IsSettledBelow graph l start from) (sym kept) here);
       shorter = λ e. let lt = swept.shorter (sym is ∙ e) in let eq = ap total kept in omega (arith, lt, eq);
     }

@@ -1,5 +1,5 @@
 -- The turns of a way down, step by step.
-use Rattle.std.proofs.Common.{◌≡◌, ℕ, ◌-◌, ◌^◌, ◌<◌, Bool, true, false, ℤ, pos, ◌+ℤ◌, ◌-ℤ◌, ◌<ℤ◌, Option, Some, None, List, [], ◌∷◌, ◌++◌, map, length, slice_index, refl, sym, ap, ◌∙◌, subst, append_assoc, arith}
+use Rattle.std.proofs.Common.{◌≡◌, ℕ, ◌-◌, ◌^◌, ◌<◌, ◌≤◌, Bool, true, false, ℤ, pos, ◌+ℤ◌, ◌-ℤ◌, ◌<ℤ◌, Option, Some, None, List, [], ◌∷◌, ◌++◌, map, length, slice_index, refl, sym, ap, ◌∙◌, subst, append_assoc, arith}
 use Rattle.std.specs.Prelude.{int_lt}
 use Rattle.std.proofs.lemmas.Int.{ints}
 use Rattle.std.proofs.lemmas.List.{append-nil}
@@ -10,7 +10,7 @@ use Rattle.cts_route.specs.declared.direction.Direction.TheVariants.{East, West,
 use Rattle.cts_route.specs.declared.graph.Graph.{Graph}
 use Rattle.cts_route.specs.declared.table.Table.{Table}
 use Rattle.cts_route.specs.Grid.{IsAhead}
-use Rattle.cts_route.specs.Search.{IsFirstFall}
+use Rattle.cts_route.specs.Search.{IsFirstFall, IsSettled}
 use Rattle.cts_route.specs.Walks.{IsTurn, IsNoTurn, FallsTo, GoesDown, IsWayDown}
 use Rattle.cts_route.specs.Windows.{point_at}
 use Rattle.cts_route.proofs.Turns.{int_lt-true, int_lt-false, keeps_on-is, goes_on-is, goes_straight, goes_round, turns_on, turns_at, turns_of-none, turns_of-one}
@@ -95,6 +95,7 @@ pub record IsOnward (xs ys : List ℤ) (graph : Graph) (labels : List ℕ) (star
 pub record IsWalked (xs ys : List ℤ) (graph : Graph) (labels : List ℕ) (start goal cell : ℕ) (last : Option Direction) (corners : List Half) : Type 0 where
   pub inside : cell < length labels
   pub reached : slice_index labels cell < 2 ^ 64 - 1
+  pub below : slice_index labels cell ≤ slice_index labels start
   pub onward : (cells : List ℕ) → GoesDown graph labels cell cells goal → IsOnward xs ys graph labels start goal cell last corners cells
 
 pub not_walked : (xs ys : List ℤ) (graph : Graph) (labels : List ℕ) (start goal : ℕ) (corners : List Half) → start < length labels
@@ -104,6 +105,7 @@ not_walked xs ys graph labels start goal corners inside reached e =
     record {
       inside = inside;
       reached = reached;
+      below = omega arith;
       onward = λ cells down. record {
         all = cells;
         down = down;
@@ -120,6 +122,7 @@ walked_on xs ys graph labels start goal cell last now corners after n walked fal
     record {
       inside = inside;
       reached = reached;
+      below = omega arith;
       onward = λ cells down.
           let old : IsOnward xs ys graph labels start goal cell last corners (n ∷ cells) = walked.onward (n ∷ cells) (falls, down) in
           record { all = old.all; down = old.down; turns = old.turns ∙ same (map (point_at xs ys) cells) };
@@ -160,3 +163,9 @@ walked_down xs ys graph table start cell last corners walked at_goal =
       down = end.down;
       turns = sym (end.turns ∙ ap (λ (ts : List Half). corners ++ ts) (no_turns_after last (point_at xs ys cell)) ∙ append-nil corners);
     }
+
+-- what is settled below the start is settled below each cell of the way
+pub settled_on : (graph : Graph) (labels : List ℕ) (start cell : ℕ) → IsSettled graph labels start
+    → slice_index labels cell ≤ slice_index labels start → IsSettled graph labels cell
+settled_on graph labels start cell settled below =
+    record { from = λ c inside. record { at = λ le. (settled.from c inside).at (omega (arith, le, below)) } }

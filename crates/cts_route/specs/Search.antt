@@ -80,9 +80,13 @@ pub record IsSettledAt (graph : Graph) (labels : List ℕ) (direction : Directio
 pub record IsSettledFrom (graph : Graph) (labels : List ℕ) (c : ℕ) : Type 0 where
   pub at : (direction : Direction) → IsSettledAt graph labels direction c
 
--- no step does
-pub record IsSettled (graph : Graph) (labels : List ℕ) : Type 0 where
-  pub from : (c : ℕ) → c < length labels → IsSettledFrom graph labels c
+-- nor does it where the label of c is at most that of the start
+pub record IsSettledBelow (graph : Graph) (labels : List ℕ) (start c : ℕ) : Type 0 where
+  pub at : slice_index labels c ≤ slice_index labels start → IsSettledFrom graph labels c
+
+-- no step does from a cell whose label is at most that of the start
+pub record IsSettled (graph : Graph) (labels : List ℕ) (start : ℕ) : Type 0 where
+  pub from : (c : ℕ) → c < length labels → IsSettledBelow graph labels start c
 
 -- the label falls by the whole of the step from c to n
 pub record IsFall (graph : Graph) (labels : List ℕ) (direction : Direction) (c n len : ℕ) : Type 0 where

@@ -122,7 +122,7 @@ impl Grid {
         Ok(Window { xs, ys, graph })
     }
 
-    /// The route by a search over the whole grid.
+    /// The route by a search over the grid, as far as the two points are apart.
     fn search(&self, alloc: Global, from: Spot, to: Spot) -> Result<Route, RouteEnd>
         requires grid { IsGrid self.now }
         requires from { IsSpotInRange from }
@@ -134,7 +134,7 @@ impl Grid {
         let (xs, ys) = (window.xs.as_slice(), window.ys.as_slice());
         let start = cell_of(xs, ys, halves(from));
         let goal = cell_of(xs, ys, halves(to));
-        let table = Table::find(alloc, &window.graph, goal)?;
+        let table = Table::find(alloc, &window.graph, start, goal)?;
         let label = table.labels[start];
         if label == UNREACHED {
             return Err(RouteEnd::Cut);

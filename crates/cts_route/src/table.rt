@@ -2,7 +2,7 @@
 
 ghost use Rattle.std.specs.Prelude.{◌≡◌, ◌-◌, ◌^◌, ◌<◌, vec_len, slice_index, IfSome, IfNone, IfOk, OnSome};
 ghost use Rattle.std.specs.Bool.{OnTrue, OnFalse};
-ghost use Rattle.cts_route.specs.Search.{IsGraph, AreLabels, IsSettledAt, IsSettledFrom, IsSettled, total, IsFall, HasNoFall, IsFirstFall};
+ghost use Rattle.cts_route.specs.Search.{IsGraph, AreLabels, IsSettledAt, IsSettledFrom, IsSettledBelow, IsSettled, total, IsFall, HasNoFall, IsFirstFall};
 
 use crate::direction::{DIRECTIONS, Direction};
 use crate::graph::Graph;
@@ -73,40 +73,64 @@ impl Table {
         east || west || north || south
     }
 
-    /// Takes all steps once, and tells whether one made a path shorter.
-    fn sweep(&mut self, graph: &Graph) -> bool
+    /// Takes all steps backwards from a point that is no farther from the goal than the start is, and
+    /// tells whether one made a path shorter.
+    fn relax_below(&mut self, graph: &Graph, start: usize, from: usize) -> bool
         requires graph { IsGraph graph.now }
         requires labels { AreLabels graph.now self.old.goal self.old.labels.items }
+        requires start { start < vec_len self.old.labels }
+        requires from { from < vec_len self.old.labels }
         ensures labels { AreLabels graph.now self.new.goal self.new.labels.items }
         ensures goal { self.new.goal ≡ self.old.goal }
         ensures shorter { OnTrue result (total self.new.labels.items < total self.old.labels.items) }
-        ensures settled { OnFalse result (IsSettled graph.now self.new.labels.items) }
+        ensures kept { OnFalse result (self.new.labels.items ≡ self.old.labels.items) }
+        ensures settled { OnFalse result (IsSettledBelow graph.now self.old.labels.items start from) }
+    {
+        if self.labels[from] > self.labels[start] {
+            return false;
+        }
+        self.relax_all(graph, from)
+    }
+
+    /// Takes all steps once, from the points that are no farther from the goal than the start is, and
+    /// tells whether one made a path shorter.
+    fn sweep(&mut self, graph: &Graph, start: usize) -> bool
+        requires graph { IsGraph graph.now }
+        requires labels { AreLabels graph.now self.old.goal self.old.labels.items }
+        requires start { start < vec_len self.old.labels }
+        ensures labels { AreLabels graph.now self.new.goal self.new.labels.items }
+        ensures goal { self.new.goal ≡ self.old.goal }
+        ensures shorter { OnTrue result (total self.new.labels.items < total self.old.labels.items) }
+        ensures settled { OnFalse result (IsSettled graph.now self.new.labels.items start) }
     {
         let mut changed = false;
         for from in 0..self.labels.len() {
-            if self.relax_all(graph, from) {
+            if self.relax_below(graph, start, from) {
                 changed = true;
             }
         }
         changed
     }
 
-    /// Takes all steps until none makes a path shorter.
-    fn settle(&mut self, graph: &Graph)
+    /// Takes all steps from the points that are no farther from the goal than the start is, until none
+    /// makes a path shorter.
+    fn settle(&mut self, graph: &Graph, start: usize)
         requires graph { IsGraph graph.now }
         requires labels { AreLabels graph.now self.old.goal self.old.labels.items }
+        requires start { start < vec_len self.old.labels }
         ensures labels { AreLabels graph.now self.new.goal self.new.labels.items }
         ensures goal { self.new.goal ≡ self.old.goal }
-        ensures settled { IsSettled graph.now self.new.labels.items }
+        ensures settled { IsSettled graph.now self.new.labels.items start }
     {
-        'sweeps: while self.sweep(graph) {}
+        'sweeps: while self.sweep(graph, start) {}
     }
 
-    /// Takes steps backwards from the goal, from the nearest point on, as Dijkstra's method does. What is
-    /// left to do is left to `settle`.
-    fn spread(&mut self, alloc: Global, graph: &Graph) -> Result<(), AllocError>
+    /// Takes steps backwards from the goal, from the nearest point on, as Dijkstra's method does, until
+    /// the start is reached. What is left to do is left to `settle`.
+    fn spread(&mut self, alloc: Global, graph: &Graph, start: usize) -> Result<(), AllocError>
         requires graph { IsGraph graph.now }
         requires labels { AreLabels graph.now self.old.goal self.old.labels.items }
+        requires start { start < vec_len self.old.labels }
         ensures labels { AreLabels graph.now self.new.goal self.new.labels.items }
         ensures goal { self.new.goal ≡ self.old.goal }
     {
@@ -116,6 +140,9 @@ impl Table {
             let Some((Reverse(label), from)) = heap.pop() else {
                 break;
             };
+            if label > self.labels[start] {
+                break;
+            }
             if from >= self.labels.len() || self.labels[from] < label {
                 continue;
             }
@@ -140,17 +167,23 @@ impl Table {
         Ok(Table { labels, goal })
     }
 
-    /// The lengths of the shortest paths to a goal.
-    pub fn find(alloc: Global, graph: &Graph, goal: usize) -> Result<Table, AllocError>
+    /// The lengths of the shortest paths to a goal, from a start and from all points that are no farther.
+    pub fn find(
+        alloc: Global,
+        graph: &Graph,
+        start: usize,
+        goal: usize,
+    ) -> Result<Table, AllocError>
         requires graph { IsGraph graph.now }
+        requires start { start < vec_len graph.now.east }
         requires goal { goal < vec_len graph.now.east }
         ensures labels { IfOk result (λ table. AreLabels graph.now table.goal table.labels.items) }
-        ensures settled { IfOk result (λ table. IsSettled graph.now table.labels.items) }
+        ensures settled { IfOk result (λ table. IsSettled graph.now table.labels.items start) }
         ensures goal { IfOk result (λ table. table.goal ≡ goal) }
     {
         let mut table = Table::new(alloc, graph, goal)?;
-        table.spread(alloc, graph)?;
-        table.settle(graph);
+        table.spread(alloc, graph, start)?;
+        table.settle(graph, start);
         Ok(table)
     }
 
@@ -158,7 +191,7 @@ impl Table {
     fn fall(&self, graph: &Graph, from: usize, direction: Direction) -> Option<Fall>
         requires graph { IsGraph graph.now }
         requires labels { AreLabels graph.now self.now.goal self.now.labels.items }
-        requires settled { IsSettled graph.now self.now.labels.items }
+        requires settled { IsSettled graph.now self.now.labels.items from }
         requires from { from < vec_len self.now.labels }
         ensures some { IfSome result (λ fall. IsFall graph.now self.now.labels.items fall.direction from fall.to fall.len) }
         ensures direction { IfSome result (λ fall. fall.direction ≡ direction) }
@@ -185,7 +218,7 @@ impl Table {
     pub fn first_fall(&self, graph: &Graph, from: usize) -> Option<Fall>
         requires graph { IsGraph graph.now }
         requires labels { AreLabels graph.now self.now.goal self.now.labels.items }
-        requires settled { IsSettled graph.now self.now.labels.items }
+        requires settled { IsSettled graph.now self.now.labels.items from }
         requires from { from < vec_len self.now.labels }
         requires reached { slice_index self.now.labels.items from < 2 ^ 64 - 1 }
         ensures some { IfSome result (λ fall. IsFirstFall graph.now self.now.labels.items fall.direction from fall.to fall.len) }

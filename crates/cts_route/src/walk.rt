@@ -34,7 +34,7 @@ pub fn corners_down(
 ) -> Result<Vec<Half>, AllocError>
     requires graph { IsGraph graph.now }
     requires labels { AreLabels graph.now table.now.goal table.now.labels.items }
-    requires settled { IsSettled graph.now table.now.labels.items }
+    requires settled { IsSettled graph.now table.now.labels.items start }
     requires cells { vec_len table.now.labels ≡ length xs.now * length ys.now }
     requires ahead { LeadsAhead xs.now ys.now graph.now }
     requires start { start < vec_len table.now.labels }

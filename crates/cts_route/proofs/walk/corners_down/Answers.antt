@@ -1,5 +1,5 @@
 use Rattle.std.proofs.Common.{refl, arith}
-use Rattle.cts_route.proofs.WaysDown.{not_walked, walked_straight, walked_turned, walked_down}
+use Rattle.cts_route.proofs.WaysDown.{not_walked, walked_straight, walked_turned, walked_down, settled_on}
 use Rattle.cts_route.proofs.walk.corners_down.Goals as goal
 
 pub steps-init : goal.steps-init
@@ -39,3 +39,7 @@ pub returns : goal.returns
 returns c =
     walked_down c.args.xs.now c.args.ys.now c.args.graph.now c.args.table.now c.args.start c.steps.cell c.steps.last c.steps.corners.items
     c.steps.invariant c.in_default.ensures.none
+
+pub first_fall-requires-clause-settled : goal.first_fall-requires-clause-settled
+first_fall-requires-clause-settled c =
+    settled_on c.args.graph.now c.args.table.now.labels.items c.args.start c.steps.cell c.requires.settled c.steps.invariant.below

@@ -81,6 +81,7 @@ returns c =
     record {
       route = done_route c.args.self.now c.args.from c.args.to c.in_ok-window.window c.in_ok-table.table c.cell_of-start.result
           (record { corners = c.of.result; length = c.index-label.result.now / 2 }) c.in_ok-corners.corners.items done
+          (let apart = c.if-label.false in omega (arith, at, apart))
           (same_way c.in_ok-window.window.xs.items c.in_ok-window.window.ys.items c.as_slice-xs.result.now c.as_slice-ys.result.now c.in_ok-window.window
           c.in_ok-table.table c.cell_of-start.result c.in_ok-corners.corners.items c.in_ok-corners.ensures c.as_slice-xs.ensures.value c.as_slice-ys.ensures.value)
           c.of.ensures (ap (λ (l : ℕ). l / 2) at);

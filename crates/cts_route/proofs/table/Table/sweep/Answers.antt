@@ -1,25 +1,25 @@
 use Rattle.std.proofs.Common.{arith}
 use Rattle.cts_route.proofs.Sweeps.{on_false, on_true, from_false, from_true, not_swept, swept_shorter, swept_kept}
 use Rattle.cts_route.proofs.table.Table.sweep.Goals as goal
-use Rattle.cts_route.proofs.table.Table.sweep.Goals.{then-relax_all, else-relax_all}
+use Rattle.cts_route.proofs.table.Table.sweep.Goals.{then-relax_below, else-relax_below}
 
 pub loop-from-init : goal.loop-from-init
-loop-from-init c = not_swept c.args.graph.now c.args.self.now.goal c.args.self.now.labels.items c.requires.labels
+loop-from-init c = not_swept c.args.graph.now c.args.start c.args.self.now.goal c.args.self.now.labels.items c.requires.labels
 
 pub loop-from-preserved : goal.loop-from-preserved
 loop-from-preserved c =
-    elim c.if-relax_all.branch [
-      | then-relax_all w ↦
-          swept_shorter c.args.graph.now c.loop-from.self.goal c.relax_all.new.self.goal c.args.self.now.goal c.loop-from.from
-          c.args.self.now.labels.items c.loop-from.self.labels.items c.relax_all.new.self.labels.items c.loop-from.changed c.if-relax_all.changed
-          c.loop-from.invariant c.relax_all.ensures.labels c.relax_all.ensures.goal
-          (from_true c.relax_all.result _ w.if-relax_all.true c.relax_all.ensures.shorter) w.changed-is
-      | else-relax_all w ↦
-          swept_kept c.args.graph.now c.loop-from.self.goal c.relax_all.new.self.goal c.args.self.now.goal c.loop-from.from
-          c.args.self.now.labels.items c.loop-from.self.labels.items c.relax_all.new.self.labels.items c.loop-from.changed c.if-relax_all.changed
-          c.loop-from.invariant c.relax_all.ensures.labels c.relax_all.ensures.goal
-          (from_false c.relax_all.result _ w.if-relax_all.false c.relax_all.ensures.kept)
-          (from_false c.relax_all.result _ w.if-relax_all.false c.relax_all.ensures.settled) w.changed-is
+    elim c.if-relax_below.branch [
+      | then-relax_below w ↦
+          swept_shorter c.args.graph.now c.args.start c.loop-from.self.goal c.relax_below.new.self.goal c.args.self.now.goal c.loop-from.from
+          c.args.self.now.labels.items c.loop-from.self.labels.items c.relax_below.new.self.labels.items c.loop-from.changed c.if-relax_below.changed
+          c.loop-from.invariant c.relax_below.ensures.labels c.relax_below.ensures.goal
+          (from_true c.relax_below.result _ w.if-relax_below.true c.relax_below.ensures.shorter) w.changed-is
+      | else-relax_below w ↦
+          swept_kept c.args.graph.now c.args.start c.loop-from.self.goal c.relax_below.new.self.goal c.args.self.now.goal c.loop-from.from
+          c.args.self.now.labels.items c.loop-from.self.labels.items c.relax_below.new.self.labels.items c.loop-from.changed c.if-relax_below.changed
+          c.loop-from.invariant c.relax_below.ensures.labels c.relax_below.ensures.goal
+          (from_false c.relax_below.result _ w.if-relax_below.false c.relax_below.ensures.kept)
+          (from_false c.relax_below.result _ w.if-relax_below.false c.relax_below.ensures.settled) w.changed-is
     ]
 
 pub returns : goal.returns
