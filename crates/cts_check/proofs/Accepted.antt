@@ -1,5 +1,5 @@
 -- The report of a sound tree that can be printed has the verdict Yes.
-use Rattle.std.proofs.Common.{◌≡◌, ℕ, ◌+◌, ◌-◌, ◌*◌, ◌/◌, ◌%◌, ◌^◌, ◌<◌, ◌≤◌, inl, inr, ◌⊎◌, List, [], ◌∷◌, ◌++◌, map, length, get_or, slice_get, Option, Some, None, refl, sym, ap, ap₂, subst, ◌∙◌, arith}
+use Rattle.std.proofs.Common.{◌≡◌, ℕ, ◌-◌, ◌*◌, ◌^◌, ◌<◌, ◌≤◌, inl, inr, ◌⊎◌, List, [], ◌∷◌, ◌++◌, map, length, slice_get, Option, Some, None, refl, sym, ap₂, subst, ◌∙◌, arith}
 use Rattle.std.specs.Prelude.{ℤ, pos, ◌*ℤ◌, ◌≤ℤ◌, unsigned_abs, sum_by, IfSome, IsSomeAnd}
 use Rattle.std.specs.List.{All, AllZip}
 use Rattle.std.specs.Option.{option_map_or, option_and_then}
@@ -8,18 +8,17 @@ use Rattle.std.proofs.lemmas.Int.{ints}
 use Rattle.std.proofs.lemmas.List.{length-map}
 use Rattle.std.proofs.lemmas.List.Elements.{All-cons, All-nil, All-head, All-tail, All-append}
 use Rattle.std.proofs.lemmas.List.Sums.{sum_by-cons}
-use Rattle.std.proofs.lemmas.Option.{slice_get_within, get_or_from_slice_get, slice_get-get_or}
+use Rattle.std.proofs.lemmas.Option.{slice_get_within, get_or_from_slice_get}
 use Rattle.cts_geom.specs.declared.bounds.Die.{Die}
 use Rattle.cts_geom.specs.declared.points.Half.{Half}
 use Rattle.cts_geom.specs.declared.points.Spot.{Spot}
 use Rattle.cts_geom.specs.Points.{point_of}
 use Rattle.cts_block.specs.FreePoints.{IsInDie}
 use Rattle.cts_units.specs.declared.params.Sink.{Sink}
-use Rattle.cts_units.specs.Delay.{slew_of}
 use Rattle.cts_units.specs.Limits.{max_length, max_load, max_delay}
 use Rattle.cts_postorder.specs.BinaryTree.{BinaryTree, tip, fork, label, labels, subtrees}
 use Rattle.cts_postorder.specs.PostOrder.{IsPostOrder, trees_of, root_of}
-use Rattle.cts_postorder.specs.Occurrence.{Occurrence, occurrences, occurrences_of}
+use Rattle.cts_postorder.specs.Occurrence.{Occurrence, occurrences}
 use Rattle.cts_postorder.proofs.Lists.{Whole, whole_of}
 use Rattle.cts_postorder.proofs.Sizes.{map-here-occurrences}
 use Rattle.cts_tree.specs.declared.nodes.NodeKind.{NodeKind}
@@ -27,18 +26,16 @@ use Rattle.cts_tree.specs.declared.nodes.NodeKind.TheVariants.{Leaf, Pair}
 use Rattle.cts_tree.specs.declared.nodes.TreeNode.{TreeNode}
 use Rattle.cts_tree.specs.Nodes.{tree_children, children_of, leaf_sink}
 use Rattle.cts_instance.specs.declared.parts.Parts.{Parts}
-use Rattle.cts_instance.specs.Validity.{IsDie, IsSink, IsValid}
+use Rattle.cts_instance.specs.Validity.{IsSink, IsValid}
 use Rattle.cts_elmore.specs.declared.figures.NodeFigure.{NodeFigure}
 use Rattle.cts_elmore.specs.declared.figures.Figures.{Figures}
 use Rattle.cts_elmore.specs.Figures.{IsNodeFigure, AreFiguresOf, AreFigures, IsFigureInRange, AreFiguresInRange}
 use Rattle.cts_elmore.specs.Fits.{FitsInstance, NamesSink, NamesBuffer}
-use Rattle.cts_elmore.specs.Limits.{IsPairOver, IsRootOver, IsOver, IsWithinLimits, IsOverAtPair, long_left, long_right, great_load, long_root, great_source_load}
-use Rattle.cts_elmore.specs.Loads.{sink_load, load_below, source_load}
+use Rattle.cts_elmore.specs.Limits.{IsPairOver, IsRootOver, IsOver, long_left, long_right, great_load, long_root, great_source_load}
+use Rattle.cts_elmore.specs.Loads.{load_below, source_load}
 use Rattle.cts_elmore.specs.Sound.{IsSound}
-use Rattle.cts_report.specs.Lines.{report_lines}
-use Rattle.cts_report.specs.Printed.{PrintedPoint, PrintedKind, sink_leaf, pair_node, PrintedNode}
-use Rattle.cts_report.specs.Report.{IsOnSheet, IsPrintableNode, printed_point, printed_time, printed_kind, printed_node, printed_nodes, printed_totals, printed_report, report_text}
-use Rattle.cts_report_reader.specs.Bounds.{IsShort, IsPrintedCoordinate, IsPrintedPoint, IsPrintedPlace, IsPrintedKind, IsPrintedNode, IsPrintedTotals, IsReport, children_of_kind, printed_children}
+use Rattle.cts_report.specs.Report.{IsOnSheet, IsPrintableNode, printed_point, printed_kind, printed_node, printed_nodes, printed_report, report_text}
+use Rattle.cts_report_reader.specs.Bounds.{IsPrintedCoordinate, IsPrintedPoint, IsPrintedPlace, IsPrintedKind, IsPrintedNode, IsReport, children_of_kind, printed_children}
 use Rattle.cts_check.specs.Verdict.{IsRight}
 use Rattle.cts_check.proofs.Retold.{length-printed}
 use Rattle.cts_check.proofs.Verdicts.{figure_each}
@@ -248,8 +245,8 @@ module _ (i : Parts) (valid : IsValid i) where
       subst (All (λ t. ¬ IsPairOver i t)) w.trees_are
       (all_turned (λ t. ¬ IsOver i tree t) (λ t. ¬ IsPairOver i t) (λ t fine over. fine (inl over)) (trees_of tree_children tree) sound.within) in
       let root_fine : ¬ IsRootOver i w.tree = λ over.
-          sound.within (length tree - 1) w.tree (slice_get_within (trees_of tree_children tree) (length tree - 1) w.tree w.root_is)
-          (subst (IsOver i tree) (sym (get_or_from_slice_get (trees_of tree_children tree) (length tree - 1) w.tree w.tree w.root_is)) (inr (w.root_is, over))) in
+      sound.within (length tree - 1) w.tree (slice_get_within (trees_of tree_children tree) (length tree - 1) w.tree w.root_is)
+      (subst (IsOver i tree) (sym (get_or_from_slice_get (trees_of tree_children tree) (length tree - 1) w.tree w.tree w.root_is)) (inr (w.root_is, over))) in
       let wires : All (λ (n : TreeNode). n.wire ≤ max_length) tree =
       subst (All (λ (n : TreeNode). n.wire ≤ max_length)) w.labels_are
       (short_wires i w.tree pairs (at_most (label w.tree).wire max_length (λ more. root_fine (long_root more)))) in

@@ -1,5 +1,5 @@
 -- The report of a synthesis has the verdict Yes.
-use Rattle.std.proofs.Common.{ℕ, List, ◌≤◌, length, get_or, Result, Ok, Err, IfOk}
+use Rattle.std.proofs.Common.{List, length, Result, Ok, Err, IfOk}
 use Rattle.std.specs.List.{All}
 use Rattle.cts_instance.specs.declared.parts.Parts.{Parts}
 use Rattle.cts_instance.specs.Validity.{IsValid}
