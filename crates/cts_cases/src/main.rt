@@ -2,11 +2,12 @@
 //!
 //! A case is a line `% WORDS / STREAMS | NAME` and the text below it, up to the next `%`. Of the words, the streams and
 //! the name only the words have to be there; `src/case.rt` says what they mean. Last it writes some
-//! long numbers, and reads an instance with as many sinks and blocks as there may be.
+//! long numbers, reads an instance with as many sinks and blocks as there may be, and checks trees as deep as a list.
 #![tactic(auto)]
 
 mod case;
 mod decimals;
+mod deep;
 mod many;
 mod show;
 
@@ -19,5 +20,6 @@ fn main(rt: HostRuntime) -> io::Result<()> {
         case::run(&rt, case)?;
     }
     decimals::write(&rt)?;
-    many::read(&rt)
+    many::read(&rt)?;
+    deep::check(&rt)
 }
