@@ -52,7 +52,10 @@ fn no_memory(_: NoMemory) -> io::Error {
 /// An instance with all of its sinks at the source.
 fn write_instance(text: &mut String, wire: &str) -> io::Result<()> {
     text.push_str("cts 1\ndie 0 0 100 100\nsource 0 0 0\n")?;
-    writeln!(text, "wire {wire}\nlimits 1 1000000 1\nbuffers 0\nsinks {SINKS}")?;
+    writeln!(
+        text,
+        "wire {wire}\nlimits 1 1000000 1\nbuffers 0\nsinks {SINKS}"
+    )?;
     for id in 0..SINKS {
         writeln!(text, "sink {id} 0 0 1")?;
     }
@@ -68,7 +71,12 @@ fn write_report(text: &mut String, length: &str) -> io::Result<()> {
         write!(text, "node {leaf} leaf {id} at 0.0000 0.0000 load 1.000000")?;
         write_delays(text, length)?;
         if id > 0 {
-            write!(text, "node {} pair {} {leaf} at 0.0000 0.0000 buffer none", leaf + 1, leaf - 1)?;
+            write!(
+                text,
+                "node {} pair {} {leaf} at 0.0000 0.0000 buffer none",
+                leaf + 1,
+                leaf - 1
+            )?;
             write!(text, " load {}.000000 residue 0.0000000000000000", id + 1)?;
             write_delays(text, length)?;
         }
@@ -82,6 +90,9 @@ fn write_report(text: &mut String, length: &str) -> io::Result<()> {
 }
 
 fn write_delays(text: &mut String, length: &str) -> io::Result<()> {
-    writeln!(text, " delay 0.0000000000000000 slew 0.0000000000000000 wire {length} via 0")?;
+    writeln!(
+        text,
+        " delay 0.0000000000000000 slew 0.0000000000000000 wire {length} via 0"
+    )?;
     Ok(())
 }
