@@ -1,3 +1,5 @@
 pub mod Builts
 pub mod Misses
 pub mod Nodes
+pub mod Parts
+pub mod Divisions

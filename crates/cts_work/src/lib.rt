@@ -3,7 +3,10 @@
 
 mod gate;
 mod node;
+mod part;
+mod pieces;
 mod upward;
+mod work;
 
 pub use gate::{Gate, OpenGate};
 pub use upward::rebuild;
