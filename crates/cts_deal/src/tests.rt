@@ -35,11 +35,9 @@ fn draw_beside<R: Threads + Sync>(
     ensures share { share_of result.0 ≡ share_of first + share_of second }
     ensures drawn { drawn_by result.0 ≡ result.1 ++ result.2 }
 {
-    let ((first, one), (second, two)) = join(
-        rt,
-        || draw_three(deal, first),
-        || draw_three(deal, second),
-    );
+    let (first, second) = join(rt, || draw_three(deal, first), || draw_three(deal, second));
+    let (first, one) = first;
+    let (second, two) = second;
     (deal.join(first, second), one, two)
 }
 
