@@ -42,10 +42,9 @@ module _ {S : Type 0} where
   next_word : (s : State S View) (r : IsDealing s) → r.next ≤ 257 * 64 → set s.words 0 ((get_or s.words 0 0 + 1) % 2 ^ 64) ≡ (r.next + 1) ∷ []
   next_word s r few = ap (λ (ws : List ℕ). set ws 0 ((get_or ws 0 0 + 1) % 2 ^ 64)) r.word ∙ ap (λ (n : ℕ). n ∷ []) (mod-eq_of_lt (omega arith))
 
-  pub draws : (slots id : ℕ) (me : View × List (ℕ × S)) → length me.0.drawn < 257 * me.0.share
-      → Allows IsDealing slots id me 0 (λ n. (n + 1) % 2 ^ 64) (Draws any_step me)
-  draws slots id me room s r count at fits =
-      let v = me.0 in
+  pub draws : (slots id : ℕ) (v : View) (held : List (ℕ × S)) → length v.drawn < 257 * v.share
+      → Allows IsDealing slots id (v, held) 0 (λ n. (n + 1) % 2 ^ 64) (Draws any_step (v, held))
+  draws slots id v held room s r count at fits =
       let w = with_number r.next v in
       let few = numbers_drawn s r in
       let found : get_or s.words 0 0 ≡ r.next = ap (λ (ws : List ℕ). get_or ws 0 0) r.word in
@@ -70,7 +69,7 @@ module _ {S : Type 0} where
         tt,
         subst (λ (ws : List ℕ). IsDealing (record { words = ws; homes = s.homes; views = set s.views id w })) (sym (next_word s r few)) new,
         (
-          ap (λ (n : ℕ). let x : View × List (ℕ × S) = (with_number n v, me.1) in x) (sym found),
+          ap (λ (n : ℕ). let x : View × List (ℕ × S) = (with_number n v, held) in x) (sym found),
           omega (arith, numbers_drawn _ new),
           distinct_from_times w.drawn (λ n. omega (arith, at_most_once _ new n, one_le_total (times_in n) (set s.views id w) id w (put_here s.views id v w at))),
         ),
@@ -115,28 +114,36 @@ module _ {S : Type 0} where
         each = each_set (λ (u : View). length u.drawn ≤ 257 * u.share) views other z (omega arith) (each_set (λ (u : View). length u.drawn ≤ 257 * u.share) s.views id a (omega arith) r.each);
       }
 
-  -- the hand with the whole share has each number that was drawn
-  pub closes : (id : ℕ) (v : View) (words : List ℕ) (slots : List S) → v.share ≡ 64 → Final (Seen IsDealing id v) words slots
-      → (words ≡ length v.drawn ∷ []) × (length v.drawn ≤ 257 * 64) × IsDealt v.drawn
-  closes id v words slots whole final =
-      let s = final.0 in
-      let r = final.1.0 in
-      let at = final.1.1 in
-      let none_else : (j : ℕ) (u : View) → j ≢ id → get_elem? s.views j ≡ some u → length u.drawn ≡ 0 =
-      λ j u ne at'. omega (arith, r.shares, two_le_total share_in s.views j id u v ne at' at, r.each j u at') in
-      let all : length v.drawn ≡ r.next = sym (total_only numbers_in s.views id v at none_else) ∙ r.numbers in
-      let counts : (n : ℕ) → total (times_in n) s.views ≡ times n v.drawn =
-      λ n. total_only (times_in n) s.views id v at (λ j u ne at'. omega (arith, none_else j u ne at', times_le_length n u.drawn)) in (
-        sym final.2 ∙ (r.word ∙ ap (λ (n : ℕ). n ∷ []) (sym all)),
-        omega (arith, numbers_drawn s r),
-        record {
-          distinct = distinct_from_times v.drawn (λ n. omega (arith, at_most_once s r n, counts n));
-          below = λ k d within. dite (dec_le r.next (get_or v.drawn k d))
-              (λ l. absurd (omega (arith, r.never (get_or v.drawn k d) l, counts (get_or v.drawn k d), times_from_at v.drawn k d within)))
-              (λ l. omega (arith, all));
-          every = λ n l. contains_from_times n v.drawn (omega (arith, r.once n (omega arith), counts n));
-        },
-      )
+  module _ (id : ℕ) (v : View) (words : List ℕ) (slots : List S) (whole : v.share ≡ 64) (final : Final (Seen IsDealing id v) words slots) where
+    none_else : (j : ℕ) (u : View) → j ≢ id → get_elem? final.0.views j ≡ some u → length u.drawn ≡ 0
+    none_else j u ne at' =
+        let r = final.1.0 in
+        omega (arith, r.shares, two_le_total share_in final.0.views j id u v ne at' final.1.1, r.each j u at')
 
-pub count_is : (words : List ℕ) (count word : ℕ) → words ≡ count ∷ [] → get_elem? words 0 ≡ some word → word ≡ count
-count_is words count word is at = some-injective word count (sym at ∙ ap (λ (ws : List ℕ). get_elem? ws 0) is)
+    all_here : length v.drawn ≡ final.1.0.next
+    all_here = sym (total_only numbers_in final.0.views id v final.1.1 none_else) ∙ final.1.0.numbers
+
+    times_here : (n : ℕ) → total (times_in n) final.0.views ≡ times n v.drawn
+    times_here n = total_only (times_in n) final.0.views id v final.1.1 (λ j u ne at'. omega (arith, none_else j u ne at', times_le_length n u.drawn))
+
+    -- the hand with the whole share has each number that was drawn
+    pub closes : IsDealt v.drawn
+    closes =
+        let s = final.0 in
+        let r = final.1.0 in
+        record {
+          distinct = distinct_from_times v.drawn (λ n. omega (arith, at_most_once s r n, times_here n));
+          below = λ k d within. dite (dec_le r.next (get_or v.drawn k d))
+              (λ l. absurd (omega (arith, r.never (get_or v.drawn k d) l, times_here (get_or v.drawn k d), times_from_at v.drawn k d within)))
+              (λ l. omega (arith, all_here));
+          every = λ n l. contains_from_times n v.drawn (omega (arith, r.once n (omega (arith, all_here)), times_here n));
+        }
+
+    -- and the word counts them
+    pub counts : (word : ℕ) → get_elem? words 0 ≡ some word → word ≡ length v.drawn
+    counts word at =
+        let is : words ≡ length v.drawn ∷ [] = sym final.2 ∙ (final.1.0.word ∙ ap (λ (n : ℕ). n ∷ []) (sym all_here)) in
+        some-injective word (length v.drawn) (sym at ∙ ap (λ (ws : List ℕ). get_elem? ws 0) is)
+
+    pub fits : (word : ℕ) → get_elem? words 0 ≡ some word → word ≤ 257 * 64
+    fits word at = omega (arith, counts word at, all_here, numbers_drawn final.0 final.1.0)

@@ -36,6 +36,7 @@ impl Deal {
 
     /// Splits a hand that has not drawn yet, so that one of the two can go to another thread. The
     /// first has the greater half of the share.
+    #[tactic(auto, using(crate::proofs::Keeps::splits))]
     pub fn split(&self, hand: Hand) -> (Hand, Hand)
         requires own { IsHandOf self.now hand }
         requires share { 2 ≤ share_of hand }
@@ -50,6 +51,7 @@ impl Deal {
     }
 
     /// Joins two hands. The numbers of the second stand behind those of the first, and shares add up.
+    #[tactic(auto, using(crate::proofs::Keeps::joins))]
     pub fn join(&self, a: Hand, b: Hand) -> Hand
         requires own { IsHandOf self.now a × IsHandOf self.now b }
         ensures own { IsHandOf self.now result }

@@ -4,7 +4,7 @@ use Rattle.cts_deal.proofs.deal.Deal.draw.Goals as goal
 
 pub fetch_add-requires : goal.fetch_add-requires
 fetch_add-requires c = (
-  c.requires.own.own,
   search rules,
-  draws _ _ _ c.requires.room,
+  search rules,
+  draws _ _ _ _ c.requires.room,
 )
