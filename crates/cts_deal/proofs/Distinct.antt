@@ -1,5 +1,5 @@
 -- Lists that have no number twice.
-use Rattle.std.proofs.Common.{◌≡◌, ◌≢◌, ℕ, zero, suc, ◌+◌, ◌*◌, ◌<◌, ◌≤◌, Bool, true, false, cond, eqb, List, [], ◌∷◌, ◌++◌, length, get_or, sym, refl, ap, subst, arith, All, AllPairs, Contains}
+use Rattle.std.proofs.Common.{◌≡◌, ◌≢◌, ℕ, zero, suc, ◌+◌, ◌<◌, ◌≤◌, Bool, true, false, cond, eqb, List, [], ◌∷◌, ◌++◌, length, get_or, sym, refl, ap, subst, arith, All, AllPairs, Contains}
 use mathlib.Core.Logic.{dite}
 use native.Mathlib.Decide.{ℕ_discrete}
 use Rattle.std.proofs.lemmas.Bool.{eq-eqb, ne_eqb, eqb-true}
@@ -60,8 +60,3 @@ pub at_most_from_distinct_below : (xs : List ℕ) (n : ℕ) → AllPairs (λ a b
 at_most_from_distinct_below xs n distinct below =
     length-le_from_distinct_below xs n (IsDistinct-from_AllPairs Decides-eqb xs distinct)
     (λ q found. list_any_contains xs n below q (Contains-from_any eqb-true q xs found))
-
--- So a hand whose numbers are all below a count of at most 256 may draw once more.
-pub room_from_distinct_below : (drawn : List ℕ) (count share : ℕ) → AllPairs (λ a b. a ≢ b) drawn → All (λ n. n < count) drawn → count ≤ 256 → 0 < share
-    → length drawn < 257 * share
-room_from_distinct_below drawn count share distinct below few some = omega (arith, at_most_from_distinct_below drawn count distinct below)

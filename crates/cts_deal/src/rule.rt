@@ -5,8 +5,10 @@
 use crate::view::View;
 use atomic_table::{Join, Play, Split, TableRule};
 
+/// The word.
 pub(crate) const NEXT: usize = 0;
 
+/// Each number below the word is drawn once, and no other.
 pub struct Rule;
 
 impl TableRule<(), View, ()> for Rule {

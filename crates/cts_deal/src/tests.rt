@@ -41,6 +41,44 @@ fn draw_beside<R: Threads + Sync>(
     (deal.join(first, second), one, two)
 }
 
+/// A hand that has not drawn yet draws until it meets a number that is not below the count.
+fn draw_past(deal: &Deal, mut hand: Hand, count: u32) -> Hand
+    requires own { IsHandOf deal.now hand }
+    requires none { drawn_by hand ≡ [] }
+    requires few { count ≤ 256 }
+    ensures own { IsHandOf deal.now result }
+    ensures share { share_of result ≡ share_of hand }
+{
+    for _ in 0..257_u32 {
+        if deal.draw(&mut hand) >= count {
+            return hand;
+        }
+    }
+    unreachable!()
+}
+
+/// Two threads draw past the count.
+fn draw_past_beside<R: Threads + Sync>(
+    rt: &R,
+    deal: &Deal,
+    first: Hand,
+    second: Hand,
+    count: u32,
+) -> Hand
+    requires own { IsHandOf deal.now first × IsHandOf deal.now second }
+    requires none { (drawn_by first ≡ []) × (drawn_by second ≡ []) }
+    requires few { count ≤ 256 }
+    ensures own { IsHandOf deal.now result }
+    ensures share { share_of result ≡ share_of first + share_of second }
+{
+    let (first, second) = join(
+        rt,
+        || draw_past(deal, first, count),
+        || draw_past(deal, second, count),
+    );
+    deal.join(first, second)
+}
+
 /// The hand has so many parts, which the check shows before the test runs.
 fn has_parts(_hand: &Hand, _count: u64)
     requires { share_of _hand.now ≡ _count }
@@ -118,5 +156,14 @@ fn two_threads_draw_each_number_once(rt: HostRuntime) -> Result<(), Fail> {
     numbers.extend_from_slice(&two)?;
     numbers.sort()?;
     assert_eq!(rt; numbers.as_slice(), [0, 1, 2, 3, 4, 5].as_slice());
+    Ok(())
+}
+
+#[test]
+fn each_thread_meets_one_number_past_the_count(rt: HostRuntime) -> Result<(), Fail> {
+    let (deal, hand) = Deal::start(rt.alloc())?;
+    let (first, second) = deal.split(hand);
+    let hand = draw_past_beside(&rt, &deal, first, second, 8);
+    assert_eq!(rt; deal.close(hand), 10);
     Ok(())
 }
