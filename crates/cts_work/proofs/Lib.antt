@@ -3,3 +3,4 @@ pub mod Misses
 pub mod Nodes
 pub mod Parts
 pub mod Divisions
+pub mod Drawn

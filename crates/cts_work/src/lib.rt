@@ -7,6 +7,7 @@ mod part;
 mod pieces;
 mod upward;
 mod work;
+mod workers;
 
 pub use gate::{Gate, OpenGate};
 pub use upward::rebuild;
