@@ -2,3 +2,4 @@ pub mod Counts
 pub mod Seats
 pub mod Distinct
 pub mod Keeps
+pub mod Sent

@@ -1,8 +1,9 @@
 -- Parts are divided into pieces, which stand in their order.
-use Rattle.std.proofs.Common.{◌≡◌, ℕ, ◌+◌, ◌-◌, ◌/◌, ◌<◌, ◌≤◌, ◌⊎◌, inl, inr, Bool, true, false, cond, nat_lt, List, [], ◌∷◌, ◌++◌, length, get_or, Option, Some, refl, sym, ap, ◌∙◌, subst, arith, length-append}
+use Rattle.std.proofs.Common.{◌≡◌, ℕ, ◌+◌, ◌-◌, ◌*◌, ◌/◌, ◌<◌, ◌≤◌, ◌⊎◌, inl, inr, Bool, true, false, cond, nat_lt, List, [], ◌∷◌, ◌++◌, length, get_or, Option, Some, All, refl, sym, ap, ◌∙◌, subst, arith, length-append}
+use Rattle.std.proofs.lemmas.List.Elements.{All-cons}
 use Rattle.std.proofs.lemmas.Bool.{cases_lt, lt-ltb, le-ltb}
 use Rattle.cts_postorder.specs.BinaryTree.{BinaryTree, tip, fork, size, root_number}
-use Rattle.cts_postorder.proofs.Lists.{IsPair, is_pair}
+use Rattle.cts_postorder.proofs.Lists.{IsPair, is_pair, length_pos}
 use Rattle.cts_postorder.proofs.Nested.{size-tip, size-fork}
 use Rattle.cts_postorder.proofs.Sizes.{root_number-next, size_pos}
 use Rattle.cts_topo.specs.declared.shape.ShapeNode.{ShapeNode}
@@ -11,8 +12,10 @@ use Rattle.cts_topo.specs.Shape.{children, IsShapeOver}
 use Rattle.cts_work.specs.declared.pieces.Piece.{Piece}
 use Rattle.cts_work.specs.Built.{tree_at}
 use Rattle.cts_work.specs.Pieces.{piece, pieces_of, AreInOrder}
+use Rattle.cts_work.specs.Done.{ArePieces}
 use Rattle.cts_work.specs.Work.{IsPart}
 use Rattle.cts_work.proofs.Nodes.{tip_at}
+use Rattle.cts_work.proofs.Parts.{whole_is_part}
 
 -- a tree of one lot is a piece
 pub one_lot : (first lots root : ℕ) (t : BinaryTree ShapeNode) → lots < 2 → first + size t ≡ root + 1 → pieces_of first lots t ≡ piece first root ∷ []
@@ -161,3 +164,28 @@ module _ (nodes : List ShapeNode) where
           (left_order first (lots - lots / 2) left left_is lp)
           (in_order_upper (left + 1) (right + 1) (root + 1) (pieces_of (left + 1) (lots / 2) r) (omega (arith, p.right_number))
           (right_order (left + 1) (lots / 2) right right_is rp))))
+
+  -- each of them is a part
+  parts_of : (from to : ℕ) (ps : List Piece) → AreInOrder nodes from ps to → All (λ p. IsPart nodes p.first p.root) ps
+  unfolding AreInOrder
+  parts_of from to [] order = λ k d h. absurd (omega arith)
+  parts_of from to (p ∷ ps) order = All-cons (λ p. IsPart nodes p.first p.root) p ps (order.1) (parts_of (p.root + 1) to ps (order.2))
+
+  -- the pieces of the whole
+  module _ (count : ℕ) (ok : IsShapeOver count nodes) (workers : ℕ) (some : 1 ≤ workers) (few : workers ≤ 64) (ps : List Piece)
+      (is : ps ≡ pieces_of 0 (4 * workers) (tree_at nodes (length nodes - 1))) where
+    long : length nodes - 1 + 1 ≡ length nodes
+    long = omega (arith, length_pos children nodes ok.post_order)
+
+    pub whole_in_order : AreInOrder nodes 0 ps (length nodes)
+    whole_in_order =
+        subst (λ n. AreInOrder nodes 0 ps n) long
+        (subst (λ l. AreInOrder nodes 0 l (length nodes - 1 + 1)) (sym is)
+        (in_order count ok (tree_at nodes (length nodes - 1)) 0 (4 * workers) (length nodes - 1) refl
+        (whole_is_part nodes count (length nodes - 1) ok long)))
+
+    pub whole_pieces : ArePieces nodes ps
+    whole_pieces = record {
+      few = omega (arith, ap length is, pieces_few 0 (4 * workers) (tree_at nodes (length nodes - 1)) (omega (arith, some)), few);
+      parts = parts_of 0 (length nodes) ps whole_in_order;
+    }

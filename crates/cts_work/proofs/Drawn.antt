@@ -1,5 +1,5 @@
 -- What workers have done, piece after piece and one beside another.
-use Rattle.std.proofs.Common.{◌≡◌, ◌≢◌, ℕ, zero, suc, ◌+◌, ◌<◌, ◌≤◌, Bool, true, false, cond, nat_lt, List, [], ◌∷◌, ◌++◌, map, filter, length, get_or, Option, Some, slice_get, All, AllPairs, Contains, Result, Vec, Global, IfOk, IfErr, refl, sym, ap, ◌∙◌, subst, arith, append-nil}
+use Rattle.std.proofs.Common.{◌≡◌, ◌≢◌, ℕ, zero, suc, ◌+◌, ◌<◌, ◌≤◌, ◌⊎◌, inl, inr, Bool, true, false, cond, nat_lt, List, [], ◌∷◌, ◌++◌, map, filter, length, get_or, Option, Some, slice_get, All, AllPairs, Contains, Result, Vec, Global, IfOk, IfErr, refl, sym, ap, ◌∙◌, subst, arith, append-nil}
 use mathlib.Core.List.{IsPrefix}
 use Rattle.std.proofs.lemmas.Bool.{lt-ltb, le-ltb, ltb-true}
 use Rattle.std.proofs.lemmas.List.{map-append}
@@ -8,6 +8,7 @@ use Rattle.std.proofs.lemmas.List.Elements.{All-append, All-cons, All-filter, Al
 use Rattle.std.proofs.lemmas.List.Kept.{AllPairs-filter}
 use Rattle.cts_deal.specs.Hands.{IsDealt}
 use Rattle.cts_deal.proofs.Distinct.{at_most_from_distinct_below}
+use Rattle.cts_turn.proofs.Prefixes.{prefix_self}
 use Rattle.cts_up.specs.declared.end.UpEnd.{UpEnd}
 use Rattle.cts_memo.specs.declared.entry.MemoEntry.{MemoEntry}
 use Rattle.cts_memo.specs.Sound.{max_entries}
@@ -51,6 +52,15 @@ numbers_push ds d = map-append (λ (x : Done). x.number) ds (d ∷ [])
 
 pub numbers_append : (ds es : List Done) → numbers_of (ds ++ es) ≡ numbers_of ds ++ numbers_of es
 numbers_append ds es = map-append (λ (x : Done). x.number) ds es
+
+-- of two lists of which one begins the other, the longer one begins with both
+pub joined_longer : (a b joined : List MemoEntry) → ((joined ≡ a) × IsPrefix b a) ⊎ ((joined ≡ b) × IsPrefix a b)
+    → IsPrefix a joined × IsPrefix b joined
+joined_longer a b joined longer =
+    elim longer [
+      | inl l ↦ (subst (IsPrefix a) (sym (l.0)) (prefix_self a), subst (IsPrefix b) (sym (l.0)) (l.1))
+      | inr l ↦ (subst (IsPrefix a) (sym (l.0)) (l.1), subst (IsPrefix b) (sym (l.0)) (prefix_self b))
+    ]
 
 -- no more numbers below a count than the count
 pub few_drawn : (count : ℕ) (drawn : List ℕ) → AllPairs (λ a b. a ≢ b) drawn → All (λ n. n < count) drawn → length drawn ≤ count

@@ -4,3 +4,6 @@ pub mod Nodes
 pub mod Parts
 pub mod Divisions
 pub mod Drawn
+pub mod Slots
+pub mod Completing
+pub mod Sent

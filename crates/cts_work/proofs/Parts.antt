@@ -42,6 +42,16 @@ use Rattle.cts_work.proofs.Misses.{missing_earlier}
 pub part_ordered : (nodes : List ShapeNode) (first root : ℕ) → IsPart nodes first root → first ≤ root
 part_ordered nodes first root part = omega (arith, part.whole, size_pos (tree_at nodes root))
 
+-- the whole is a part
+pub whole_is_part : (nodes : List ShapeNode) (count root : ℕ) → IsShapeOver count nodes → root + 1 ≡ length nodes → IsPart nodes 0 root
+unfolding root_of
+whole_is_part nodes count root ok long =
+    let w : Whole children nodes = whole_of children nodes ok.post_order in
+    let place : root ≡ length nodes - 1 = omega (arith, long) in
+    let last : get_or (trees_of children nodes) root (tip (Leaf 0)) ≡ w.tree =
+    get_or_from_slice_get (trees_of children nodes) root w.tree (tip (Leaf 0)) (ap (slice_get (trees_of children nodes)) place ∙ w.root_is) in
+    record { within = omega (arith, long); whole = omega (arith, long, ap size last, w.size_is) }
+
 -- the number after the last node fits a word
 pub next_fits : (work : Work) (root : ℕ) → IsReady work → root < length work.nodes.now → root + 1 < 2 ^ 32
 next_fits work root ready h =
@@ -185,13 +195,7 @@ module _ (work : Work) where
   -- the whole is a part
   module _ (nodes : List ShapeNode) (same : work.nodes.now ≡ nodes) (root : ℕ) (long : root + 1 ≡ length work.nodes.now) where
     pub whole_part : IsReady work → IsPart work.nodes.now 0 root
-    unfolding root_of
-    whole_part ready =
-        let w : Whole children work.nodes.now = whole_of children work.nodes.now ready.shape.post_order in
-        let last : get_or (trees_of children work.nodes.now) root (tip (Leaf 0)) ≡ w.tree =
-        get_or_from_slice_get (trees_of children work.nodes.now) root w.tree (tip (Leaf 0))
-        (ap (slice_get (trees_of children work.nodes.now)) (let e : root ≡ length work.nodes.now - 1 = omega (arith, long) in e) ∙ w.root_is) in
-        record { within = omega (arith, long); whole = omega (arith, long, ap size last, w.size_is) }
+    whole_part ready = whole_is_part work.nodes.now (length work.sinks.now) root ready.shape long
 
     trees_all : take (root + 1 - 0) (drop 0 (trees_of children work.nodes.now)) ≡ trees_of children nodes
     trees_all =

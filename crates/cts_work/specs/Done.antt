@@ -1,11 +1,25 @@
 -- What became of the pieces that workers drew.
-use Rattle.std.specs.Prelude.{◌≡◌, ◌≢◌, ℕ, ◌+◌, ◌<◌, ◌≤◌, List, map, filter, nat_lt, length, slice_get, Some, All, AllPairs, Contains, IfOk, IfErr}
+use Rattle.std.specs.Prelude.{◌≡◌, ◌≢◌, ℕ, ◌+◌, ◌<◌, ◌≤◌, List, map, filter, nat_lt, length, slice_get, Option, Some, All, AllPairs, Contains, Result, Ok, IfOk, IfErr, Vec, ◌++◌, []}
+use Rattle.std.specs.Global.{Global}
 use Rattle.cts_topo.specs.declared.shape.ShapeNode.{ShapeNode}
+use Rattle.cts_num.specs.declared.error.NoMemory.{NoMemory}
+use Rattle.cts_turn.specs.declared.turn.Pass.{Pass}
+use Rattle.cts_turn.specs.Passes.{seen_by, share_of}
 use Rattle.cts_memo.specs.declared.entry.MemoEntry.{MemoEntry}
+use Rattle.cts_memo.specs.declared.entry.MemoCall.{MemoCall}
+use Rattle.cts_memo.specs.declared.entry.MemoReply.{MemoReply}
+use Rattle.cts_memo.specs.declared.table.Table.{Table}
+use Rattle.cts_memo.specs.Passes.{IsPassOf}
+use Rattle.cts_deal.specs.declared.deal.Deal.{Deal}
+use Rattle.cts_deal.specs.declared.deal.Hand.{Hand}
+use Rattle.cts_deal.specs.Hands.{IsHandOf, drawn_by}
+use Rattle.cts_deal.specs.Hands as hands
 use Rattle.cts_work.specs.declared.pieces.Piece.{Piece}
 use Rattle.cts_work.specs.declared.work.Work.{Work}
 use Rattle.cts_work.specs.declared.workers.Done.{Done}
-use Rattle.cts_work.specs.Work.{AreBuilt, EndsIn, IsPart}
+use Rattle.cts_work.specs.declared.workers.Shift.{Shift}
+use Rattle.cts_work.specs.Built.{GoesOn}
+use Rattle.cts_work.specs.Work.{AreBuilt, EndsIn, IsPart, IsReady}
 
 -- at most 256 pieces, each of which is a part of the shape
 pub record ArePieces (nodes : List ShapeNode) (pieces : List Piece) : Type 0 where
@@ -34,3 +48,39 @@ pub record AreOnce (count : ℕ) (numbers : List ℕ) : Type 0 where
 -- the numbers of the pieces
 abbrev pub numbers_of : List Done → List ℕ
 numbers_of done = map (λ d. d.number) done
+
+-- the list of one, and then that of the other
+abbrev pub AreTogether : Result (Vec Done Global) NoMemory → Result (Vec Done Global) NoMemory → Vec Done Global → Type 0
+AreTogether first second all =
+    (a : Vec Done Global) × (b : Vec Done Global) × (first ≡ Ok a) × (second ≡ Ok b) × (all.items ≡ a.items ++ b.items)
+
+-- So many workers can begin: they have a part of both shares each, and drew nothing yet.
+pub record IsTeam (work : Work) (pieces : List Piece) (deal : Deal) (workers : ℕ) (pass : Pass Table MemoEntry MemoCall MemoReply)
+    (hand : Hand) : Type 0 where
+  pub ready : IsReady work
+  pub pieces_are : ArePieces work.nodes.now pieces
+  pub own : IsPassOf work.memo.now pass
+  pub own_hand : IsHandOf deal hand
+  pub none : drawn_by hand ≡ []
+  pub some : 1 ≤ workers
+  pub share : workers ≤ share_of pass
+  pub hand_share : workers ≤ hands.share_of hand
+
+-- Workers are done: each piece that they drew was built, or ended so as it had to, unless memory ran out, and there was none
+-- left to draw.
+pub record IsShift (work : Work) (pieces : List Piece) (deal : Deal) (pass : Pass Table MemoEntry MemoCall MemoReply) (hand : Hand)
+    (shift : Shift) : Type 0 where
+  pub goes_on : GoesOn work.memo.now pass shift.pass
+  pub own_hand : IsHandOf deal shift.hand
+  pub share : hands.share_of shift.hand ≡ hands.share_of hand
+  pub done : IfOk shift.done (λ d. All (IsDone work (seen_by shift.pass) pieces) d.items)
+  pub drawn : IfOk shift.done (λ d. Covers (length pieces) (drawn_by shift.hand) (numbers_of d.items))
+
+-- the slot of this number has one of the pieces that are done, and it has this number
+abbrev pub IsSlot : List Done → List (Option Done) → ℕ → Type 0
+IsSlot done slots n = (d : Done) × (slice_get slots n ≡ Some (Some d)) × Contains done d × (d.number ≡ n)
+
+-- each piece is done, and stands in the slot of its number
+pub record HavePieces (work : Work) (seen : List MemoEntry) (pieces : List Piece) (slots : List (Option Done)) : Type 0 where
+  pub long : length slots ≡ length pieces
+  pub each : (n : ℕ) → n < length pieces → (d : Done) × (slice_get slots n ≡ Some (Some d)) × IsDone work seen pieces d × (d.number ≡ n)

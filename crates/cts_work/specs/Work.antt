@@ -1,5 +1,6 @@
 -- What is known of the nodes of a work by their numbers.
 use Rattle.std.specs.Prelude.{◌≡◌, ℕ, ◌+◌, ◌<◌, ◌≤◌, List, [], ◌∷◌, length, slice_index_or, take, drop}
+use Rattle.std.specs.Borrow.{Bor}
 use Rattle.cts_postorder.specs.BinaryTree.{size}
 use Rattle.cts_postorder.specs.PostOrder.{trees_of}
 use Rattle.cts_topo.specs.declared.shape.ShapeNode.{ShapeNode}
@@ -8,12 +9,17 @@ use Rattle.cts_up.specs.declared.end.UpEnd.{UpEnd}
 use Rattle.cts_up.specs.declared.end.UpEnd.TheVariants.{Beyond, NoMemory}
 use Rattle.cts_up.specs.Plan.{IsBeyondPair}
 use Rattle.cts_up.specs.Sinks.{AreSinksInRange}
+use Rattle.cts_units.specs.declared.params.Sink.{Sink}
+use Rattle.cts_memo.specs.declared.memo.Memo.{Memo}
 use Rattle.cts_memo.specs.declared.entry.MemoEntry.{MemoEntry}
 use Rattle.cts_memo.specs.Numbers.{missing_in}
 use Rattle.cts_memo.specs.Passes.{params_of}
 use Rattle.cts_work.specs.declared.node.Built.{Built}
 use Rattle.cts_work.specs.declared.work.Work.{Work}
 use Rattle.cts_work.specs.Built.{IsBuilt, tree_at}
+
+abbrev pub work_of : Bor Memo → Bor (List Sink) → Bor (List ShapeNode) → Work
+work_of memo sinks nodes = record { memo = memo; sinks = sinks; nodes = nodes }
 
 -- the nodes are those of a shape over the sinks, which are in range
 pub record IsReady (work : Work) : Type 0 where

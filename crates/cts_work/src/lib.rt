@@ -1,6 +1,7 @@
 //! The upward pass over a memo that threads share.
 #![tactic(auto)]
 
+mod all;
 mod gate;
 mod node;
 mod part;
@@ -9,6 +10,7 @@ mod upward;
 mod work;
 mod workers;
 
+pub use all::build_all;
 pub use gate::{Gate, OpenGate};
 pub use upward::rebuild;
 

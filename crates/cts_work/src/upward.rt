@@ -25,7 +25,7 @@ use std::sync::Wait;
 use std::sync::ledger::Ledger;
 
 /// What the nodes are made of.
-fn finished_of(alloc: Global, built: &[Built]) -> Result<Vec<Finished>, AllocError>
+pub(crate) fn finished_of(alloc: Global, built: &[Built]) -> Result<Vec<Finished>, AllocError>
     ensures { IfOk result (λ plan. plan.items ≡ map (λ node. node.finished) built.now) }
 {
     built.iter().map(|node| node.finished).collect(alloc)

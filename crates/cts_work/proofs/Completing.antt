@@ -1,0 +1,63 @@
+-- The pieces are put together from left to right, with the pairs above them.
+use Rattle.std.proofs.Common.{◌≡◌, ℕ, ◌+◌, ◌<◌, ◌≤◌, List, [], ◌∷◌, drop, length, get_or, slice_get, Option, Some, None, refl, sym, ap, ◌∙◌, subst, arith}
+use Rattle.std.proofs.lemmas.List.{drop_more, drop_all}
+use Rattle.std.proofs.lemmas.Option.{get_or_from_slice_get}
+use Rattle.cts_topo.specs.declared.shape.ShapeNode.{ShapeNode}
+use Rattle.cts_memo.specs.declared.entry.MemoEntry.{MemoEntry}
+use Rattle.cts_work.specs.declared.pieces.Piece.{Piece}
+use Rattle.cts_work.specs.declared.work.Work.{Work}
+use Rattle.cts_work.specs.declared.workers.Done.{Done}
+use Rattle.cts_work.specs.Done.{HavePieces, IsDone}
+use Rattle.cts_work.specs.Pieces.{AreInOrder}
+use Rattle.cts_work.specs.Work.{IsPart}
+
+module _ (nodes : List ShapeNode) where
+  -- the next piece, and those after it
+  pub record Next (from : ℕ) (pieces : List Piece) (k : ℕ) (d : Piece) (to : ℕ) : Type 0 where
+    pub comes : from ≤ (get_or pieces k d).first
+    pub part : IsPart nodes (get_or pieces k d).first (get_or pieces k d).root
+    pub others : AreInOrder nodes ((get_or pieces k d).root + 1) (drop (k + 1) pieces) to
+
+  pub next_piece : (from : ℕ) (pieces : List Piece) (k : ℕ) (d : Piece) (to : ℕ) → k < length pieces → AreInOrder nodes from (drop k pieces) to
+      → Next from pieces k d to
+  unfolding AreInOrder
+  next_piece from pieces k d to h order =
+      let here = subst (λ ps. AreInOrder nodes from ps to) (drop_more pieces k d h) order in
+      record { comes = here.0; part = here.1; others = here.2 }
+
+  -- and none is left
+  pub no_piece : (from : ℕ) (pieces : List Piece) (k to : ℕ) → length pieces ≤ k → AreInOrder nodes from (drop k pieces) to → from ≤ to
+  unfolding AreInOrder
+  no_piece from pieces k to h order = subst (λ ps. AreInOrder nodes from ps to) (drop_all k pieces h) order
+
+item_or : Option Done → Done → Done
+item_or (Some d) e = d
+item_or None e = e
+
+module _ (work : Work) (seen : List MemoEntry) (pieces : List Piece) (before slots : List (Option Done)) (have : HavePieces work seen pieces before)
+    (k : ℕ) (h : k < length pieces) (same : slice_get slots k ≡ slice_get before k) (v : Option Done) (is : v ≡ get_or slots k v) where
+  -- the slot of a piece has it
+  pub slot_full : v ≡ Some (have.each k h).0
+  slot_full =
+      is ∙ get_or_from_slice_get slots k (Some (have.each k h).0) v (same ∙ (have.each k h).1)
+
+  pub slot_not_empty : None ≡ v → ⊥
+  slot_not_empty none = absurd (let e : None ≡ Some (have.each k h).0 = none ∙ slot_full in cc)
+
+  module _ (d : Done) (e : Piece) (taken : Some d ≡ v) where
+    the_same : (have.each k h).0 ≡ d
+    unfolding item_or
+    the_same = ap (λ o. item_or o d) (sym (taken ∙ slot_full))
+
+    pub record Taken : Type 0 where
+      pub done : IsDone work seen pieces d
+      pub piece_is : done.piece ≡ get_or pieces k e
+
+    pub taken_piece : Taken
+    taken_piece =
+        let done : IsDone work seen pieces d = subst (IsDone work seen pieces) the_same (have.each k h).2 in
+        let number : d.number ≡ k = subst (λ (x : Done). x.number ≡ k) the_same (have.each k h).3 in
+        record {
+          done = done;
+          piece_is = sym (get_or_from_slice_get pieces k done.piece e (ap (slice_get pieces) (sym number) ∙ done.found));
+        }
