@@ -16,3 +16,5 @@ pub use upward::rebuild;
 
 #[cfg(test)]
 mod tests;
+#[cfg(test)]
+mod worker_tests;
