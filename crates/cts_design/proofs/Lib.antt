@@ -1,0 +1,5 @@
+pub mod Places
+pub mod Slots
+pub mod Rosters
+pub mod Distinct
+pub mod Histories

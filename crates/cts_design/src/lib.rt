@@ -1,0 +1,12 @@
+//! Edits of the sinks of an instance, and the versions of the sinks that they make.
+#![tactic(auto)]
+
+mod call;
+mod design;
+mod edit;
+mod judge;
+mod roster;
+
+pub use call::{DesignCall, DesignReply, EditReply};
+pub use design::Design;
+pub use edit::{Edit, EditCause, Entry};
