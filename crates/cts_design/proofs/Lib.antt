@@ -3,3 +3,5 @@ pub mod Slots
 pub mod Rosters
 pub mod Distinct
 pub mod Histories
+pub mod Validities
+pub mod Sent

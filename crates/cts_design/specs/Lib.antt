@@ -5,4 +5,6 @@ pub mod Sound
 pub mod Replies
 pub mod RuleLaws
 pub mod Designs
+pub mod Passes
 pub use Rattle.cts_instance.specs.Validity
+pub mod Laws

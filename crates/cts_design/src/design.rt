@@ -86,10 +86,11 @@ impl Design {
     ghost use Rattle.cts_design.specs.Edits.{IsEdit, after};
     ghost use Rattle.cts_design.specs.Decide.{decide};
     ghost use Rattle.cts_design.specs.Designs.{base_of, told_by};
+    ghost use Rattle.cts_design.specs.Sound.{IsSound};
     ghost use Rattle.cts_design.specs.Replies.{IsDecided, after_edit, Allows};
 
     /// The design of an instance that has no edits yet.
-    fn of(alloc: Global, instance: &Instance) -> Result<Design, NoMemory>
+    pub(crate) fn of(alloc: Global, instance: &Instance) -> Result<Design, NoMemory>
         ensures base { IfOk result (λ design. base_of design ≡ instance.now) }
         ensures told { IfOk result (λ design. told_by design ≡ []) }
     {
@@ -137,9 +138,10 @@ impl Design {
     }
 
     /// The sinks as they are now.
-    fn list(&self, alloc: Global) -> DesignReply
+    fn list(&self) -> DesignReply
         ensures { Allows (base_of self.now) (told_by self.now) DesignCall.Snapshot result }
     {
+        let alloc = *self.history.allocator();
         match self.sinks.to_vec(alloc) {
             Ok(sinks) => DesignReply::Listed {
                 version: self.history.len() as u32,
@@ -153,8 +155,60 @@ impl Design {
     pub fn into_lists(self) -> (Vec<Entry>, Vec<Sink>)
         ensures entries { result.0.items ≡ told_by self }
         ensures sinks { result.1.items ≡ after (base_of self).sinks (told_by self) }
+        ensures sound { IsSound (base_of self) (told_by self) }
+        ensures valid { IsValid (with_sinks (base_of self) result.1.items) }
     {
         let Design { history, sinks, .. } = self;
         (history, sinks.into_vec())
     }
+}
+
+impl Object for Design {
+    ghost use Rattle.cts_instance.specs.declared.parts.Parts.{Parts};
+    ghost use Rattle.cts_design.specs.Sound.{IsSound};
+    ghost use Rattle.cts_design.specs.Replies.{Allows, Fits, history_after};
+    ghost use Rattle.cts_design.specs.RuleLaws.{appends};
+
+    type Entry = Entry;
+
+    type Call = DesignCall;
+
+    type Reply = DesignReply;
+
+    const LIMIT: u64 = 65_536;
+
+    ghost LIMIT = { 65536 };
+
+    ghost Base = { Parts };
+
+    ghost base = { λ design. design.base.value };
+
+    ghost told = { λ design. design.history.items };
+
+    ghost is_sound = { IsSound };
+
+    ghost fits = { λ _ history call. Fits call };
+
+    ghost allows = { Allows };
+
+    ghost after = { λ _ history call reply. history_after history call reply };
+
+    fn len(&self) -> u64 {
+        self.history.len() as u64
+    }
+
+    fn act(&mut self, call: DesignCall) -> DesignReply {
+        match call {
+            DesignCall::Change(entry) => DesignReply::Changed(self.change(entry)),
+            DesignCall::Snapshot => self.list(),
+        }
+    }
+
+    ghost told_is_sound = { λ design. design.sound };
+
+    ghost told_is_short = { λ design. design.short };
+
+    ghost appends_at_most_one = { λ _ history call reply allowed. appends history call reply };
+
+    ghost still_fits = { λ _ history longer call fits sound more. fits };
 }
