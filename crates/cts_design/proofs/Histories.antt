@@ -1,5 +1,5 @@
 -- What one accepted edit more does to a history and to the sinks after it.
-use Rattle.std.proofs.Common.{◌≡◌, ◌≢◌, ℕ, ◌+◌, ◌<◌, ◌≤◌, Bool, true, false, cond, nat_le, List, [], ◌∷◌, ◌++◌, length, take, slice_get, Option, Some, None, Result, Ok, Err, OnOk, OnErr, inl, inr, refl, sym, ap, ◌∙◌, subst, arith, length-append}
+use Rattle.std.proofs.Common.{◌≡◌, ℕ, ◌<◌, ◌≤◌, Bool, true, false, cond, List, [], ◌∷◌, ◌++◌, length, take, Option, Some, None, Result, Ok, Err, OnOk, OnErr, inl, inr, refl, sym, ap, ◌∙◌, subst, arith, length-append}
 use Rattle.std.proofs.lemmas.Bool.{leb-false}
 use Rattle.std.proofs.lemmas.List.{take-append-le, take_at}
 use Rattle.cts_geom.specs.declared.bounds.Die.{Die}
@@ -10,8 +10,8 @@ use Rattle.cts_instance.specs.declared.parts.Parts.{Parts}
 use Rattle.cts_design.specs.declared.edit.Edit.{Edit}
 use Rattle.cts_design.specs.declared.edit.Entry.{Entry}
 use Rattle.cts_design.specs.declared.edit.EditCause.{EditCause}
-use Rattle.cts_design.specs.Edits.{IsEdit, applied, after}
-use Rattle.cts_design.specs.Decide.{is_known, is_unknown, is_outside, is_in_block, is_full, is_last, is_long, walls_of, first_cause, decide}
+use Rattle.cts_design.specs.Edits.{applied, after}
+use Rattle.cts_design.specs.Decide.{is_known, is_unknown, is_outside, is_in_block, is_full, is_last, walls_of, first_cause, decide}
 use Rattle.cts_design.specs.Sound.{IsAccepted, IsSound}
 use Rattle.cts_design.proofs.Places.{get_push}
 

@@ -4,4 +4,6 @@ pub mod Rosters
 pub mod Distinct
 pub mod Histories
 pub mod Validities
+pub mod Acceptances
 pub mod Sent
+mod Example

@@ -1,5 +1,5 @@
 -- The element of a list at a place, after a write and after one element more.
-use Rattle.std.proofs.Common.{◌≡◌, ◌≢◌, ℕ, ◌<◌, ◌≤◌, ◌⊎◌, inl, inr, List, [], ◌∷◌, ◌++◌, zero, suc, length, set, take, slice_get, Some, None, refl, ap, arith}
+use Rattle.std.proofs.Common.{◌≡◌, ◌≢◌, ℕ, ◌<◌, ◌⊎◌, inl, inr, List, [], ◌∷◌, ◌++◌, zero, suc, length, set, slice_get, Some, refl, ap, arith}
 
 pub get_set_same : {A : Type 0} (l : List A) (k : ℕ) (a : A) → k < length l → slice_get (set l k a) k ≡ Some a
 get_set_same [] k a h = absurd (omega arith)

@@ -1,8 +1,8 @@
 -- What the calls of a roster do to its slots and its map.
-use Rattle.std.proofs.Common.{◌≡◌, ◌≢◌, ℕ, ℤ, ◌+◌, ◌<◌, ◌≤◌, Bool, true, false, cond, not, nat_eq, List, [], ◌∷◌, ◌++◌, length, set, get_or, slice_get, Option, Some, None, is_some, ◌⊎◌, inl, inr, refl, sym, ap, ◌∙◌, subst, arith, length-append}
+use Rattle.std.proofs.Common.{◌≡◌, ◌≢◌, ℕ, ◌+◌, ◌<◌, ◌≤◌, true, false, cond, not, nat_eq, List, [], ◌∷◌, ◌++◌, length, set, get_or, slice_get, Option, Some, None, is_some, inl, inr, refl, sym, ap, ◌∙◌, subst, arith, length-append}
 use Rattle.std.specs.Ordering.{nat_cmp}
-use Rattle.std.specs.BTreeMap.{BTreeMap, get, get_by, is_at, Updates, UpdatesBy}
-use Rattle.std.proofs.lemmas.Bool.{eq-eqb, ne_eqb, cases_eq, both_ways}
+use Rattle.std.specs.BTreeMap.{BTreeMap, get, is_at, Updates, UpdatesBy}
+use Rattle.std.proofs.lemmas.Bool.{ne_eqb, cases_eq, both_ways}
 use Rattle.std.proofs.lemmas.Bool.Decides.{nat_tests}
 use Rattle.std.proofs.lemmas.Option.{slice_get_within, slice_get_read}
 use Rattle.std.proofs.lemmas.List.{length-map}
@@ -10,7 +10,7 @@ use Rattle.std.proofs.lemmas.List.Elements.{filter-append}
 use Rattle.std.proofs.lemmas.List.Filters.{length-filter_both}
 use Rattle.cts_units.specs.declared.params.Sink.{Sink}
 use Rattle.cts_design.specs.Edits.{has_id, without, changed}
-use Rattle.cts_design.specs.Roster.{is_present, present, StandsAt, IsRoster}
+use Rattle.cts_design.specs.Roster.{is_present, present, vacancy, StandsAt, IsRoster}
 use Rattle.cts_design.proofs.Places.{get_set_same, get_set_other, get_push, get_before_push, get_pushed}
 use Rattle.cts_design.proofs.Slots.{Lacks, IsAlone, has_none, has_one, without_none, changed_none, taken_out, one_less, changed_in}
 
@@ -113,37 +113,26 @@ module _ (slots : List Sink) (places : BTreeMap ℕ ℕ) (n : ℕ) (roster : IsR
     pub read_slot : (s : Sink) → s ≡ get_or slots k s → slice_get slots k ≡ Some s
     read_slot s read = slice_get_read slots (length slots) k s refl (place_within id k at) read
 
-    gone : (v : Sink) → v.id ≡ 4294967295 → is_present v ≡ false
-    gone v vacant = ap not (eq-eqb v.id 4294967295 vacant)
-
     -- a sink is taken out
-    pub some_taken : (s v : Sink) → slice_get slots k ≡ Some s → v.id ≡ 4294967295 → n ≡ length (present (set slots k v)) + 1
-    some_taken s v here vacant =
-        let stand = stands in
-        let same : stand.sink ≡ s = (let e = stand.slot in cc) in
-        let is : is_present s ≡ true = ap is_present (sym same) ∙ stand.is_there in
-        roster.count ∙ one_less is_present k s v slots here is (gone v vacant)
+    pub some_taken : n ≡ length (present (set slots k vacancy)) + 1
+    some_taken = let stand = stands in roster.count ∙ one_less is_present k stand.sink vacancy slots stand.slot stand.is_there refl
 
-    pub take_view : (s v : Sink) → slice_get slots k ≡ Some s → v.id ≡ 4294967295 → present (set slots k v) ≡ without id (present slots)
-    take_view s v here vacant =
-        let stand = stands in
-        let same : stand.sink ≡ s = (let e = stand.slot in cc) in
-        let is : is_present s ≡ true = ap is_present (sym same) ∙ stand.is_there in
-        taken_out is_present id k s v slots here is (ap (λ t. t.id) (sym same) ∙ stand.same) (gone v vacant) (alone_from id k at)
+    pub take_view : present (set slots k vacancy) ≡ without id (present slots)
+    take_view = let stand = stands in taken_out is_present id k stand.sink vacancy slots stand.slot stand.is_there stand.same refl (alone_from id k at)
 
-    pub take_keeps : (s v : Sink) (places' : BTreeMap ℕ ℕ) (n' : ℕ) → slice_get slots k ≡ Some s → v.id ≡ 4294967295
-        → UpdatesBy nat_cmp (nat_cmp id) places places' None → n ≡ n' + 1 → IsRoster (set slots k v) places' n'
-    take_keeps s v places' n' here vacant updates less =
+    pub take_keeps : (places' : BTreeMap ℕ ℕ) (n' : ℕ) → UpdatesBy nat_cmp (nat_cmp id) places places' None → n ≡ n' + 1
+        → IsRoster (set slots k vacancy) places' n'
+    take_keeps places' n' updates less =
         let within : k < length slots = place_within id k at in
-        let taken = some_taken s v here vacant in
+        let taken = some_taken in
         record {
           count = omega arith;
           named = λ p t seen there. elim (cases_eq p k) [
             | inl here' ↦
-                let now : v ≡ t = (let a = get_set_same slots k v within in let b = subst (λ q. slice_get (set slots k v) q ≡ Some t) here' seen in cc) in
-                absurd (both_ways (is_present t) (ap is_present (sym now) ∙ gone v vacant) there)
+                let now : vacancy ≡ t = (let a = get_set_same slots k vacancy within in let b = subst (λ q. slice_get (set slots k vacancy) q ≡ Some t) here' seen in cc) in
+                absurd (both_ways (is_present t) (ap is_present (sym now)) there)
             | inr other ↦
-                let was : slice_get slots p ≡ Some t = sym (get_set_other slots k p v other) ∙ seen in
+                let was : slice_get slots p ≡ Some t = sym (get_set_other slots k p vacancy other) ∙ seen in
                 let apart : id ≡ t.id → ⊥ = λ one. other ((alone_from id k at).one p t was there (sym one)) in
                 updates.2 t.id (at_other id t.id apart) ∙ roster.named p t was there
           ];
@@ -155,7 +144,7 @@ module _ (slots : List Sink) (places : BTreeMap ℕ ℕ) (n : ℕ) (roster : IsR
                 let other : p ≢ k = λ e. apart (
                 let here_is : stands.sink ≡ was.sink = (let a = stands.slot in let b = subst (λ j. slice_get slots j ≡ Some was.sink) e was.slot in cc) in
                 sym stands.same ∙ ap (λ u. u.id) here_is ∙ was.same) in
-                record { sink = was.sink; slot = get_set_other slots k p v other ∙ was.slot; is_there = was.is_there; same = was.same }
+                record { sink = was.sink; slot = get_set_other slots k p vacancy other ∙ was.slot; is_there = was.is_there; same = was.same }
           ];
         }
 

@@ -1,7 +1,7 @@
 -- Slots, of which some have a sink: what a write into one of them does to the list of the sinks.
-use Rattle.std.proofs.Common.{◌≡◌, ℕ, ◌+◌, Bool, true, false, cond, not, nat_eq, List, [], ◌∷◌, zero, suc, length, set, slice_get, Some, map, refl, sym, ap, arith}
+use Rattle.std.proofs.Common.{◌≡◌, ℕ, ◌+◌, Bool, true, false, cond, nat_eq, List, [], ◌∷◌, zero, suc, length, set, slice_get, Some, refl, sym, ap, arith}
 use Rattle.std.proofs.lemmas.Bool.{eq-eqb, ne_eqb, or_right, or_from}
-use Rattle.std.specs.List.{filter, list_any}
+use Rattle.std.specs.List.{filter}
 use Rattle.cts_units.specs.declared.params.Sink.{Sink}
 use Rattle.cts_design.specs.Edits.{has_id, without, changed}
 use Rattle.cts_design.proofs.Places.{get_none}

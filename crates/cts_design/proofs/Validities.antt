@@ -1,9 +1,9 @@
 -- The sinks after accepted edits are valid with the other parts of the instance.
-use Rattle.std.proofs.Common.{◌≡◌, ◌≢◌, ℕ, ℤ, ◌+◌, ◌^◌, ◌<◌, ◌≤◌, Bool, true, false, cond, not, nat_eq, nat_le, List, [], ◌∷◌, ◌++◌, zero, suc, length, take, get_or, slice_get, map, All, AllPairs, Some, None, refl, sym, ap, ◌∙◌, subst, arith, add-one, length-append}
+use Rattle.std.proofs.Common.{◌≡◌, ◌≢◌, ℕ, ℤ, ◌+◌, ◌<◌, ◌≤◌, Bool, true, false, cond, not, nat_eq, nat_le, List, [], ◌∷◌, ◌++◌, zero, suc, length, take, get_or, All, refl, sym, ap, ◌∙◌, subst, arith, add-one, length-append}
 use Rattle.std.specs.List.{filter, list_any}
-use Rattle.std.proofs.lemmas.Bool.{leb-false, eqb-false, eqb-true, ne_eqb, eq-eqb, not-false, both_ways, cond_both, cases_eq, cases_Bool, or_right}
+use Rattle.std.proofs.lemmas.Bool.{leb-false, eqb-false, eqb-true, ne_eqb, eq-eqb, not-false, both_ways, cond_both, or_right, or_from, false_from_ne_true, false≢true}
 use Rattle.std.proofs.lemmas.List.{length-map, get_or-map, take_more, take_all}
-use Rattle.std.proofs.lemmas.List.Elements.{All-push, All-filter, All-map, All-weaker}
+use Rattle.std.proofs.lemmas.List.Elements.{All-push, All-filter, All-map, All-tail}
 use Rattle.std.proofs.lemmas.List.Filters.{length-filter_both}
 use Rattle.std.proofs.lemmas.List.Folds.{list_any_at}
 use Rattle.std.proofs.lemmas.List.Kept.{AllPairs-filter}
@@ -19,7 +19,7 @@ use Rattle.cts_block.specs.FreePoints.{StopsWires}
 use Rattle.cts_instance.specs.declared.parts.Parts.{Parts}
 use Rattle.cts_instance.specs.Places.{IsInDie, IsInside}
 use Rattle.cts_instance.specs.Tests.{is_in_die, is_inside, is_kind_all}
-use Rattle.cts_instance.specs.Validity.{IsSink, IsClear, IsValid, with_sinks}
+use Rattle.cts_instance.specs.Validity.{IsSink, IsValid, with_sinks}
 use Rattle.cts_instance.proofs.TestLemmas.{Decides-is_in_die, Decides-is_inside}
 use Rattle.cts_design.specs.declared.edit.Edit.{Edit}
 use Rattle.cts_design.specs.declared.edit.Edit.TheVariants.{Add, Remove, Move, SetCap}
@@ -30,8 +30,8 @@ use Rattle.cts_design.specs.Sound.{IsSound}
 use Rattle.cts_design.proofs.Histories.{Passes, accepted_passes, after_push}
 
 -- no block that stops wires has the place strictly inside
-record IsOpen (blocks : List Block) (x y : ℤ) : Type 0 where
-  open_at : (k : ℕ) (d : Block) → k < length blocks → StopsWires (get_or blocks k d).kind → ¬ IsInside (get_or blocks k d) x y
+pub record IsOpen (blocks : List Block) (x y : ℤ) : Type 0 where
+  pub open_at : (k : ℕ) (d : Block) → k < length blocks → StopsWires (get_or blocks k d).kind → ¬ IsInside (get_or blocks k d) x y
 
 -- a sink is valid, and stands in no block that stops wires
 record IsFit (base : Parts) (s : Sink) : Type 0 where
@@ -74,7 +74,7 @@ fit_valid base before sinks v fit = record {
 }
 
 -- what the tests of a place say
-in_die : (die : Die) (x y : ℤ) → not (is_in_die die x y) ≡ false → IsInDie die x y
+pub in_die : (die : Die) (x y : ℤ) → not (is_in_die die x y) ≡ false → IsInDie die x y
 in_die die x y inside = (Decides-is_in_die die x y).0 (not-false (is_in_die die x y) inside)
 
 stops_all : (kind : Kind) → StopsWires kind → is_kind_all kind ≡ true
@@ -92,7 +92,7 @@ filtered_any p q (b ∷ blocks) (suc k) d inside one two = by_kept (p b) (filter
     by_kept true rest = or_right (q b) (list_any q (filter p blocks)) rest
     by_kept false rest = rest
 
-open_place : (blocks : List Block) (x y : ℤ) → is_walled (walls_of blocks) x y ≡ false → IsOpen blocks x y
+pub open_place : (blocks : List Block) (x y : ℤ) → is_walled (walls_of blocks) x y ≡ false → IsOpen blocks x y
 open_place blocks x y clear = record {
   open_at = λ k d inside stops within.
       both_ways _ clear
@@ -100,8 +100,25 @@ open_place blocks x y clear = record {
       ((Decides-is_inside (get_or blocks k d) x y).1 within));
 }
 
+stops_from : (kind : Kind) → is_kind_all kind ≡ true → StopsWires kind
+stops_from of_buffers e = absurd (false≢true e)
+stops_from of_all e = tt
+
+-- where no block that stops wires has a place inside, the test finds none
+pub walled_from : (blocks : List Block) (x y : ℤ) → All (λ block. StopsWires block.kind → ¬ IsInside block x y) blocks → is_walled (walls_of blocks) x y ≡ false
+walled_from [] x y clear = refl
+walled_from (b ∷ blocks) x y clear =
+    by_kind (is_kind_all b.kind) refl (walled_from blocks x y (All-tail (λ block. StopsWires block.kind → ¬ IsInside block x y) b blocks clear))
+  where
+    by_kind : (kept : Bool) → is_kind_all b.kind ≡ kept → is_walled (walls_of blocks) x y ≡ false
+        → list_any (λ block. is_inside block x y) (cond kept (b ∷ walls_of blocks) (walls_of blocks)) ≡ false
+    by_kind true is rest =
+        or_from (is_inside b x y) (is_walled (walls_of blocks) x y)
+        (false_from_ne_true (is_inside b x y) (λ within. clear zero b (omega arith) (stops_from b.kind is) ((Decides-is_inside b x y).0 within))) rest
+    by_kind false is rest = rest
+
 -- no sink has the id
-absent : (id : ℕ) (sinks : List Sink) → has_id id sinks ≡ false → (k : ℕ) (d : Sink) → k < length sinks → (get_or sinks k d).id ≢ id
+pub absent : (id : ℕ) (sinks : List Sink) → has_id id sinks ≡ false → (k : ℕ) (d : Sink) → k < length sinks → (get_or sinks k d).id ≢ id
 absent id sinks none k d inside same =
     both_ways _ none (list_any_at (λ s. nat_eq s.id id) sinks k d inside (eq-eqb (get_or sinks k d).id id same))
 

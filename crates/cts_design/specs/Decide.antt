@@ -1,5 +1,5 @@
 -- Which edits are accepted, and the first cause that refuses one.
-use Rattle.std.specs.Prelude.{ℕ, ℤ, Bool, true, false, not, nat_eq, nat_le, if◌then◌else◌, List, length, Option, Some, None}
+use Rattle.std.specs.Prelude.{ℕ, ℤ, Bool, false, not, nat_eq, nat_le, if◌then◌else◌, List, length, Option, Some, None}
 use Rattle.std.specs.List.{filter, list_any}
 use Rattle.cts_geom.specs.declared.bounds.Die.{Die}
 use Rattle.cts_units.specs.declared.params.Sink.{Sink}

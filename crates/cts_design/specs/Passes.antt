@@ -1,5 +1,5 @@
 -- What contracts say of a design that is shared, and of its passes.
-use Rattle.std.specs.Prelude.{◌≡◌, ℕ, ◌+◌, List, Option, Some, None, MatchOption}
+use Rattle.std.specs.Prelude.{◌≡◌, ℕ, ◌+◌, List, Option, Some, None}
 use mathlib.Core.List.{IsPrefix}
 use Rattle.cts_instance.specs.declared.parts.Parts.{Parts}
 use Rattle.cts_turn.specs.declared.turn.Pass.{Pass}

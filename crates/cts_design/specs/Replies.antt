@@ -1,5 +1,5 @@
 -- Which replies a history allows to a call, and the history after each of them.
-use Rattle.std.specs.Prelude.{◌≡◌, ℕ, ◌+◌, List, [], ◌∷◌, ◌++◌, length, Option, Some, None}
+use Rattle.std.specs.Prelude.{◌≡◌, ◌+◌, List, [], ◌∷◌, ◌++◌, length, Some, None}
 use Rattle.cts_instance.specs.declared.parts.Parts.{Parts}
 use Rattle.cts_design.specs.declared.edit.Edit.{Edit}
 use Rattle.cts_design.specs.declared.edit.Entry.{Entry}

@@ -1,5 +1,5 @@
 -- How a roster keeps its sinks: slots in the order of the sinks, some of which are vacant, and a map from each id to its slot.
-use Rattle.std.specs.Prelude.{◌≡◌, ℕ, Bool, true, not, nat_eq, List, length, slice_get, Some}
+use Rattle.std.specs.Prelude.{◌≡◌, ℕ, pos, Bool, true, not, nat_eq, List, length, slice_get, Some}
 use Rattle.std.specs.List.{filter}
 use Rattle.std.specs.Ordering.{nat_cmp}
 use Rattle.std.specs.BTreeMap.{BTreeMap, get}
@@ -8,6 +8,10 @@ use Rattle.cts_units.specs.declared.params.Sink.{Sink}
 -- the greatest number of 32 bits, which is the id of no sink, marks a vacant slot
 abbrev pub is_present : Sink → Bool
 is_present slot = not (nat_eq slot.id 4294967295)
+
+-- what stands there then
+abbrev pub vacancy : Sink
+vacancy = record { id = 4294967295; x = pos 0; y = pos 0; cap = 0 }
 
 -- the sinks in their order
 abbrev pub present : List Sink → List Sink

@@ -2,7 +2,6 @@
 use Rattle.std.specs.Prelude.{◌≡◌, ◌⊎◌, List, [], ◌∷◌, ◌++◌}
 use Rattle.std.proofs.Common.{refl, inl, inr}
 use Rattle.std.proofs.Props.{props}
-use Rattle.cts_instance.specs.declared.parts.Parts.{Parts}
 use Rattle.cts_design.specs.declared.edit.Edit.{Edit}
 use Rattle.cts_design.specs.declared.edit.Edit.TheVariants.{Add, Remove, Move, SetCap}
 use Rattle.cts_design.specs.declared.edit.Entry.{Entry}

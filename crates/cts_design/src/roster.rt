@@ -1,10 +1,10 @@
 //! Sinks in their order, which are found by their ids.
 
-ghost use Rattle.std.specs.Prelude.{◌≡◌, ◌≤◌, false, ◌++◌, ◌∷◌, [], length, Some, IfOk, OnOk, OnErr};
+ghost use Rattle.std.specs.Prelude.{◌≡◌, ◌<◌, ◌≤◌, false, ◌++◌, ◌∷◌, [], length, vec_len, slice_set, Some, IfOk, OnOk, OnErr};
 ghost use Rattle.std.specs.Ordering.{nat_cmp};
 ghost use Rattle.std.specs.BTreeMap.{get, IsUnchanged, Updates};
 ghost use Rattle.cts_design.specs.Edits.{moved_to, with_cap};
-ghost use Rattle.cts_design.specs.Roster.{is_present, present};
+ghost use Rattle.cts_design.specs.Roster.{is_present, present, vacancy};
 
 use cts_num::NoMemory;
 use cts_units::Sink;
@@ -14,6 +14,14 @@ use std::marker::Model;
 
 /// The id of a vacant slot, which no sink has.
 const VACANT: u32 = u32::MAX;
+
+/// What stands in a vacant slot.
+const VACANCY: Sink = Sink {
+    id: VACANT,
+    x: 0,
+    y: 0,
+    cap: 0,
+};
 
 /// Sinks with distinct ids, in their order. Contracts see the list of them.
 ///
@@ -98,8 +106,7 @@ impl Roster {
         ensures { self.new ≡ without id self.old }
     {
         if let Some(place) = self.places.remove(&id) {
-            let sink = self.slots[place];
-            self.slots[place] = vacated(sink);
+            vacate(&mut self.slots, place);
             self.count -= 1;
         }
     }
@@ -183,11 +190,12 @@ fn of_cap(sink: Sink, cap: u64) -> Sink
     Sink { cap, ..sink }
 }
 
-/// A slot without its sink.
-fn vacated(sink: Sink) -> Sink
-    ensures { result.id ≡ 4294967295 }
+/// Takes the sink out of a slot, and moves no other.
+fn vacate(slots: &mut Vec<Sink>, place: usize)
+    requires { place < vec_len slots.old }
+    ensures { slots.new.items ≡ slice_set slots.old.items place vacancy }
 {
-    Sink { id: VACANT, ..sink }
+    slots[place] = VACANCY;
 }
 
 /// Whether there is a sink in the slot.

@@ -1,4 +1,4 @@
-use Rattle.std.proofs.Common.{subst, sym, ◌∙◌}
+use Rattle.std.proofs.Common.{subst, sym}
 use Rattle.cts_turn.specs.Passes.{start_of}
 use Rattle.cts_instance.specs.Validity.{IsValid, with_sinks}
 use Rattle.cts_design.specs.Passes.{instance_of}

@@ -1,7 +1,6 @@
-use Rattle.std.proofs.Common.{◌≡◌, Some, None, sym, ap, ◌∙◌}
+use Rattle.std.proofs.Common.{◌≡◌, None, sym, ap, ◌∙◌}
 use Rattle.cts_design.specs.Decide.{is_known, decide}
 use Rattle.cts_design.specs.Designs.{base_of, told_by}
-use Rattle.cts_design.specs.Sound.{IsAccepted}
 use Rattle.cts_design.proofs.Histories.{accepted_passes, keeps_on}
 use Rattle.cts_design.proofs.design.Design.change.Goals as goal
 
