@@ -1,5 +1,5 @@
 -- What contracts say of a design that is shared, and of its passes.
-use Rattle.std.specs.Prelude.{◌≡◌, ℕ, ◌+◌, List, Option, Some, None}
+use Rattle.std.specs.Prelude.{◌≡◌, ℕ, List, Option, Some, None}
 use mathlib.Core.List.{IsPrefix}
 use Rattle.cts_instance.specs.declared.parts.Parts.{Parts}
 use Rattle.cts_turn.specs.declared.turn.Pass.{Pass}
@@ -41,11 +41,10 @@ version_in (Refused cause version) = Some version
 version_in NoMemory = None
 
 -- An edit met a history that begins with what the pass had seen, and was judged there. The pass has then seen the history
--- after the reply, and made one edit more exactly where it was accepted.
-pub record IsEdited (base : Parts) (seen : List Entry) (made : ℕ) (entry : Entry) (reply : EditReply) (seen' : List Entry) (made' : ℕ) : Type 0 where
+-- after the reply.
+pub record IsEdited (base : Parts) (seen : List Entry) (entry : Entry) (reply : EditReply) (seen' : List Entry) : Type 0 where
   pub met : List Entry
   pub goes_on : IsPrefix seen met
   pub sound : IsSound base met
   pub decided : IsDecided base met entry.edit reply
   pub after : seen' ≡ after_edit met entry reply
-  pub count : made' ≡ made + made_in reply

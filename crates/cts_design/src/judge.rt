@@ -16,7 +16,7 @@ use std::alloc::Global;
 const SINKS: usize = 65_536;
 
 /// The greatest number of edits of a history.
-pub(crate) const EDITS: usize = 65_536;
+const EDITS: usize = 65_536;
 
 /// The blocks that stop wires, of which an instance has at most 64.
 pub(crate) fn walls_of(alloc: Global, blocks: &[Block]) -> Result<Vec<Block>, NoMemory>

@@ -1,12 +1,12 @@
 //! A design that is shared by turns: how it begins, and its two calls.
 
-ghost use Rattle.std.specs.Prelude.{◌≡◌, [], length, IfOk, IfSome};
+ghost use Rattle.std.specs.Prelude.{◌≡◌, ◌+◌, [], length, IfOk, IfSome};
 ghost use mathlib.Core.List.{IsPrefix};
 ghost use Rattle.cts_instance.specs.Validity.{IsValid, with_sinks};
 ghost use Rattle.cts_turn.specs.Passes.{made_by, seen_by, share_of};
 ghost use Rattle.cts_design.specs.Edits.{IsEdit, after};
 ghost use Rattle.cts_design.specs.Sound.{IsSound};
-ghost use Rattle.cts_design.specs.Passes.{IsPassOf, IsEdited, instance_of, opening_of, version_in};
+ghost use Rattle.cts_design.specs.Passes.{IsPassOf, IsEdited, instance_of, made_in, opening_of, version_in};
 
 use crate::call::{DesignCall, DesignReply, EditReply};
 use crate::design::Design;
@@ -49,7 +49,8 @@ pub fn send_edit<R: Wait>(
     ensures own { IsPassOf design.now pass.new }
     ensures share { share_of pass.new ≡ share_of pass.old }
     ensures goes_on { IsPrefix (seen_by pass.old) (seen_by pass.new) }
-    ensures edited { IsEdited (instance_of design.now) (seen_by pass.old) (made_by pass.old) entry result (seen_by pass.new) (made_by pass.new) }
+    ensures edited { IsEdited (instance_of design.now) (seen_by pass.old) entry result (seen_by pass.new) }
+    ensures made { made_by pass.new ≡ made_by pass.old + made_in result }
     ensures version { IfSome (version_in result) (λ version. version ≡ length (seen_by pass.new)) }
 {
     match design.call(rt, pass, DesignCall::Change(entry)) {
