@@ -56,3 +56,7 @@ pub record IsValid (parts : Parts) : Type 0 where
   pub buffer_blocks : count_by (λ block. is_kind_buffer block.kind) parts.blocks ≤ 4096
   pub all_blocks : count_by (λ block. is_kind_all block.kind) parts.blocks ≤ 64
   pub clear : All (IsClear parts.source_x parts.source_y parts.sinks) parts.blocks
+
+-- the parts with these sinks in the place of their own
+abbrev pub with_sinks : Parts → List Sink → Parts
+with_sinks parts sinks = record parts { sinks = sinks }

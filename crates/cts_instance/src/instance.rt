@@ -1,9 +1,13 @@
 //! Instances that hold valid parts alone.
 
-use crate::parts::Parts;
+ghost use Rattle.std.specs.Prelude.{◌≡◌, IfOk};
+
+use crate::parts::{Blocks, Parts, Sinks};
 use cts_block::Block;
 use cts_geom::Die;
-use cts_units::{Params, Sink};
+use cts_num::NoMemory;
+use cts_units::{Library, Params, Sink};
+use std::alloc::Global;
 use std::marker::Model;
 
 /// The parts of an instance, which are valid.
@@ -26,9 +30,9 @@ impl Model for Instance {
 }
 
 impl Instance {
-    ghost use Rattle.std.specs.Prelude.{◌≡◌, None};
+    ghost use Rattle.std.specs.Prelude.{◌≡◌, None, IfOk};
     ghost use Rattle.cts_instance.specs.FirstFault.{first_fault};
-    ghost use Rattle.cts_instance.specs.Validity.{IsValid};
+    ghost use Rattle.cts_instance.specs.Validity.{IsValid, with_sinks};
 
     /// The instance of parts in which no line has a fault.
     pub fn of(parts: Parts) -> Instance
@@ -110,4 +114,37 @@ impl Instance {
     {
         self.parts.blocks.items()
     }
+
+    /// This instance with other sinks, which are valid with its other parts.
+    pub fn with_sinks(&self, alloc: Global, sinks: Vec<Sink>) -> Result<Instance, NoMemory>
+        requires { IsValid (with_sinks self.now sinks.items) }
+        ensures same { IfOk result (λ instance. instance ≡ with_sinks self.now sinks.items) }
+        ensures valid { IfOk result IsValid }
+    {
+        let parts = &self.parts;
+        Ok(Instance {
+            parts: Parts {
+                die: parts.die,
+                source_x: parts.source_x,
+                source_y: parts.source_y,
+                source_r: parts.source_r,
+                params: copy_of(alloc, &parts.params)?,
+                load_limit: parts.load_limit,
+                slew_limit: parts.slew_limit,
+                sinks: Sinks::of(sinks),
+                blocks: Blocks::of(parts.blocks.items().to_vec(alloc)?),
+            },
+        })
+    }
+}
+
+/// The same parameters again.
+fn copy_of(alloc: Global, params: &Params) -> Result<Params, NoMemory>
+    ensures { IfOk result (λ copy. copy ≡ params.now) }
+{
+    Ok(Params {
+        wire: params.wire,
+        library: Library::of(params.library.items().to_vec(alloc)?),
+        insert_at: params.insert_at,
+    })
 }

@@ -61,8 +61,9 @@ pub fn is_in_die(die: &Die, x: i64, y: i64) -> bool
     is_between(die.x1, die.x2, x) && is_between(die.y1, die.y2, y)
 }
 
+/// The point (x, y) lies in the block and off its edges.
 #[tactic(auto, unfolding(crate::specs::Tests::is_inside))]
-fn is_inside(block: &Block, x: i64, y: i64) -> bool
+pub fn is_inside(block: &Block, x: i64, y: i64) -> bool
     ensures { result ≡ is_inside block.now x y }
 {
     is_strictly_between(block.x1, block.x2, x) && is_strictly_between(block.y1, block.y2, y)

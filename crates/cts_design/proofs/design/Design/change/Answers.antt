@@ -1,0 +1,28 @@
+use Rattle.std.proofs.Common.{◌≡◌, None, sym, ap, ◌∙◌}
+use Rattle.cts_design.specs.Decide.{is_known, decide}
+use Rattle.cts_design.specs.Designs.{base_of, told_by}
+use Rattle.cts_design.proofs.Histories.{accepted_passes, keeps_on}
+use Rattle.cts_design.proofs.design.Design.change.Goals as goal
+
+pub append-requires-clause-new : goal.append-requires-clause-new
+append-requires-clause-new c =
+    let none : decide (base_of c.args.self.now) (told_by c.args.self.now) c.args.entry.edit ≡ None = sym c.in_default.ensures in
+    ap (λ s. is_known s c.args.entry.edit) c.args.self.now.kept
+    ∙ (accepted_passes (base_of c.args.self.now) (told_by c.args.self.now) c.args.entry.edit none).known
+
+pub invariant_of-self : goal.invariant_of-self
+invariant_of-self c =
+    let design = c.args.self.now in
+    let none : decide (base_of design) (told_by design) c.args.entry.edit ≡ None = sym c.in_default.ensures in
+    let e = c.append.ensures in
+    let keeps = keeps_on (base_of design) (told_by design) c.append.new.history.items design.sinks c.append.new.sinks c.args.entry c.append.result
+    (record { kept = design.kept; sound = design.sound; short = design.short }) (record { within = c.requires; accepted = none })
+    e.history e.sinks e.same_history e.same_sinks in
+    record {
+      valid = design.valid;
+      same_die = design.same_die;
+      same_walls = design.same_walls;
+      kept = keeps.kept;
+      sound = keeps.sound;
+      short = keeps.short;
+    }

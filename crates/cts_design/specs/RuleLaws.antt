@@ -1,0 +1,37 @@
+-- What the rules of a design are proved from.
+use Rattle.std.specs.Prelude.{◌≡◌, ◌⊎◌, List, [], ◌∷◌, ◌++◌}
+use Rattle.std.proofs.Common.{refl, inl, inr}
+use Rattle.std.proofs.Props.{props}
+use Rattle.cts_design.specs.declared.edit.Edit.{Edit}
+use Rattle.cts_design.specs.declared.edit.Edit.TheVariants.{Add, Remove, Move, SetCap}
+use Rattle.cts_design.specs.declared.edit.Entry.{Entry}
+use Rattle.cts_design.specs.declared.call.EditReply.{EditReply}
+use Rattle.cts_design.specs.declared.call.EditReply.TheVariants.{Accepted, Refused, NoMemory}
+use Rattle.cts_design.specs.declared.call.DesignCall.{DesignCall}
+use Rattle.cts_design.specs.declared.call.DesignCall.TheVariants.{Change, Snapshot}
+use Rattle.cts_design.specs.declared.call.DesignReply.{DesignReply}
+use Rattle.cts_design.specs.declared.call.DesignReply.TheVariants.{Changed, Listed, NoMemory as no_list}
+use Rattle.cts_design.specs.Edits.{IsEdit}
+use Rattle.cts_design.specs.Replies.{after_edit, history_after}
+
+-- that an edit is within the limits is a mere fact
+pub edit_prop : (edit : Edit) → IsProp (IsEdit edit)
+edit_prop (Add id x y c) = hlevel props
+edit_prop (Remove id) = hlevel props
+edit_prop (Move id x y) = hlevel props
+edit_prop (SetCap id c) = hlevel props
+
+-- the history stays, or has one entry more
+abbrev Appends : List Entry → List Entry → Type 0
+Appends history after = (after ≡ history) ⊎ ((entry : Entry) × (after ≡ history ++ entry ∷ []))
+
+appends_edit : (history : List Entry) (entry : Entry) (reply : EditReply) → Appends history (after_edit history entry reply)
+appends_edit history entry (Accepted version) = inr (entry, refl)
+appends_edit history entry (Refused cause version) = inl refl
+appends_edit history entry NoMemory = inl refl
+
+pub appends : (history : List Entry) (call : DesignCall) (reply : DesignReply) → Appends history (history_after history call reply)
+appends history (Change entry) (Changed reply) = appends_edit history entry reply
+appends history (Change entry) (Listed version sinks) = inl refl
+appends history (Change entry) no_list = inl refl
+appends history Snapshot reply = inl refl
