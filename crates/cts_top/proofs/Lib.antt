@@ -1,5 +1,6 @@
 pub mod Fronts
 pub mod Endings
+pub mod Running
 pub mod Inputs
 pub mod Lists
 pub mod Valid

@@ -2,6 +2,7 @@ pub mod Input
 pub mod Notes
 pub mod Outcome
 pub mod Right
+pub mod Runs
 pub mod Text
 pub mod Verdict
 pub mod Words

@@ -1,11 +1,14 @@
 //! What each form does.
 
-ghost use Rattle.std.specs.Prelude.{◌≡◌, ◌≤◌, ◌<◌, ◌^◌, [], length, drop, IfSome, IfOk, IfErr, OnOk, IsErrOf};
+ghost use Rattle.std.specs.Prelude.{◌≡◌, ◌≤◌, ◌<◌, ◌^◌, ℕ, [], length, drop, IfSome, IfOk, IfErr, OnOk, IsErrOf};
 ghost use Rattle.std.specs.Io.KnownBytes.{IsAtEnd};
 ghost use Rattle.cts_io.specs.Faults.{Rose};
 ghost use Rattle.cts_top.specs.Input.{Spells, SpellsFront};
+ghost use Rattle.cts_report.specs.Report.{summary_text};
+ghost use Rattle.cts_script.specs.Generator.{made_parts};
 ghost use Rattle.cts_top.specs.Outcome.{Serves};
-ghost use Rattle.cts_top.specs.Right.{Explains, IsRight};
+ghost use Rattle.cts_top.specs.Right.{ExplainsFront, ExplainsWhole, IsRight};
+ghost use Rattle.cts_top.specs.Text.{TellsSynthesis};
 ghost use Rattle.cts_top.specs.Words.{IsWithinLimits};
 ghost use Rattle.cts_top.specs.Written.{Answers};
 
@@ -23,7 +26,7 @@ use std::thread::Threads;
 /// The most bytes of an input that are accepted: 64 MiB.
 const INPUT_LIMIT: usize = 67_108_864;
 
-/// Does what a form asks for.
+/// Does what a form asks for by one thread.
 pub fn serve<R: Threads + Sync, S: ByteSource, K: ByteSink>(
     rt: &R,
     alloc: Global,
@@ -36,10 +39,10 @@ pub fn serve<R: Threads + Sync, S: ByteSource, K: ByteSink>(
     ensures words { IsErrOf result Stop.Words → ⊥ }
 {
     match form {
-        Form::Synth => serve_synth(alloc, source, sink),
+        Form::Synth { .. } => serve_synth(alloc, source, sink),
         Form::Check => serve_check(rt, alloc, source, sink),
         Form::Make { seed, sinks } => serve_make(alloc, sink, seed, sinks),
-        Form::Job { seed, sinks } => serve_job(alloc, sink, seed, sinks),
+        Form::Job { seed, sinks, .. } => serve_job(alloc, sink, seed, sinks),
     }
 }
 
@@ -49,7 +52,8 @@ fn serve_synth<S: ByteSource, K: ByteSink>(
     source: &mut S,
     sink: &mut K,
 ) -> Result<Answer, Stop>
-    ensures serves { Serves S.left S.faults K.held K.faults Form.Synth source.old source.new sink.old sink.new result }
+    ensures serves { (workers : ℕ)
+        → Serves S.left S.faults K.held K.faults (Form.Synth workers) source.old source.new sink.old sink.new result }
     ensures words { IsErrOf result Stop.Words → ⊥ }
 {
     let instance = read_source(alloc, source)?;
@@ -60,7 +64,7 @@ fn serve_synth<S: ByteSource, K: ByteSink>(
 fn read_source<S: ByteSource>(alloc: Global, source: &mut S) -> Result<Instance, Stop>
     ensures end { OnOk result (IsAtEnd (S.left source.new)) }
     ensures spells { IfOk result (λ instance. IfSome (S.left source.old) (λ bytes. Spells bytes instance)) }
-    ensures explained { IfErr result (λ stop. IfSome (S.left source.old) (Explains Form.Synth stop)) }
+    ensures explained { IfErr result (λ stop. IfSome (S.left source.old) (ExplainsWhole stop)) }
     ensures words { IsErrOf result Stop.Words → ⊥ }
     ensures read_fault { IsErrOf result Stop.ReadFault → Rose (S.faults source.old) (S.faults source.new) }
     ensures write_fault { IsErrOf result Stop.WriteFault → ⊥ }
@@ -97,7 +101,7 @@ fn read_front_source<S: ByteSource>(
     ensures end { OnOk result (IsAtEnd (S.left source.new)) }
     ensures spells { IfOk result (λ r. IfSome (S.left source.old) (λ bytes. SpellsFront bytes r.0 (drop r.2 r.1.items))) }
     ensures within { IfOk result (λ r. r.2 ≤ length r.1.items) }
-    ensures explained { IfErr result (λ stop. IfSome (S.left source.old) (Explains Form.Check stop)) }
+    ensures explained { IfErr result (λ stop. IfSome (S.left source.old) (ExplainsFront stop)) }
     ensures words { IsErrOf result Stop.Words → ⊥ }
     ensures read_fault { IsErrOf result Stop.ReadFault → Rose (S.faults source.old) (S.faults source.new) }
     ensures write_fault { IsErrOf result Stop.WriteFault → ⊥ }
@@ -134,7 +138,7 @@ fn serve_job<K: ByteSink>(
     requires seed { seed < 2 ^ 31 }
     requires some { 1 ≤ sinks }
     requires sinks { sinks ≤ 65536 }
-    ensures { Answers (IsRight (Form.Job seed sinks) []) K.held K.faults sink.old sink.new result }
+    ensures { Answers (TellsSynthesis summary_text (made_parts seed sinks)) K.held K.faults sink.old sink.new result }
 {
     let instance = make_instance(alloc, seed, sinks)?;
     answer_instance(alloc, sink, Telling::Summary, &instance)
