@@ -46,7 +46,7 @@ of_all (Make seed sinks) left Q q = q []
 of_all (Job seed sinks workers) left Q q = q []
 
 -- an input spells one instance
-one_instance : (bytes : List ℕ) (i j : Parts) → Spells bytes i → Spells bytes j → i ≡ j
+pub one_instance : (bytes : List ℕ) (i j : Parts) → Spells bytes i → Spells bytes j → i ≡ j
 one_instance bytes i j s t = let e : Ok i ≡ Ok j = sym s.read ∙ t.read in cc
 
 refused_spells_none : (bytes : List ℕ) (i : Parts) (r : Refusal) → input_of bytes ≡ Err r → Spells bytes i → ⊥

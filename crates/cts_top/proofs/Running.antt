@@ -1,17 +1,15 @@
 -- What a run does, from how its words are answered and its notes written.
-use Rattle.std.proofs.Common.{◌≡◌, ◌≢◌, ◌≤◌, ◌↔◌, ℕ, List, Option, None, Some, Result, Ok, Err, IfErr, IsErrOf, refl, subst, arith}
-use Rattle.cts_io.specs.Faults.{Rose}
+use Rattle.std.proofs.Common.{◌≡◌, ◌≢◌, ◌↔◌, ℕ, List, Option, None, Some, Result, Ok, Err, IfErr, IsErrOf, refl, subst, arith}
 use Rattle.cts_io.specs.Text.{Writes}
 use Rattle.cts_io.specs.declared.write.WriteEnd.{WriteEnd}
 use Rattle.cts_top.specs.declared.stop.Answer.{Answer}
 use Rattle.cts_top.specs.declared.stop.Answer.TheVariants as answer
 use Rattle.cts_top.specs.declared.stop.Stop.{Stop}
 use Rattle.cts_top.specs.declared.stop.Stop.TheVariants as stop
-use Rattle.cts_top.specs.declared.outcome.Status.{Status}
 use Rattle.cts_top.specs.declared.outcome.Status.TheVariants as status
 use Rattle.cts_top.specs.declared.words.Form.{Form}
 use Rattle.cts_top.specs.Notes.{note_of, stop_note}
-use Rattle.cts_top.specs.Outcome.{IsNote, Serves, status_of}
+use Rattle.cts_top.specs.Outcome.{Serves, status_of}
 use Rattle.cts_top.specs.Runs.{AnswersWords, Runs}
 use Rattle.cts_top.proofs.Endings.{complete_at, done_at, no_at, no_tree_at, note_at, refused_at, refuses_at, stop_at, whole_at, write_stop_at}
 

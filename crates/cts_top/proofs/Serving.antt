@@ -19,7 +19,7 @@ pub of_left : (left : Option (List ℕ)) (bytes : List ℕ) (P : List ℕ → Ty
 of_left None bytes P e p = tt
 of_left (Some b) bytes P e p = subst P e p
 
-on_left : (left : Option (List ℕ)) (P Q : List ℕ → Type 0) → ((b : List ℕ) → P b → Q b) → IfSome left P → IfSome left Q
+pub on_left : (left : Option (List ℕ)) (P Q : List ℕ → Type 0) → ((b : List ℕ) → P b → Q b) → IfSome left P → IfSome left Q
 on_left None P Q f p = tt
 on_left (Some b) P Q f p = f b p
 

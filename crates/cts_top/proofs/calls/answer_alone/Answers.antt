@@ -3,7 +3,7 @@ use Rattle.cts_top.specs.declared.words.Form.{Form}
 use Rattle.cts_top.specs.Words.{IsFormAlone}
 use Rattle.cts_top.proofs.Forms.{asked_within}
 use Rattle.cts_top.proofs.Running.{answers_form, answers_none}
-use Rattle.cts_top.proofs.run.answer_alone.Goals as goal
+use Rattle.cts_top.proofs.calls.answer_alone.Goals as goal
 
 pub serve-requires-clause-within : goal.serve-requires-clause-within
 serve-requires-clause-within g c = λ κs ls. asked_within _ c.in-Some.form ((c.form_alone.ensures c.in-Some.form).0 c.in-Some.is).0
