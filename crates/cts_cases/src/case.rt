@@ -3,10 +3,12 @@
 use crate::show;
 use cts_io::{MemSink, MemSource};
 use cts_num::{NoMemory, read_decimal};
-use cts_top::run_alone;
+use cts_top::run;
+use cts_work::OpenGate;
 use std::alloc::Global;
 use std::io::{self, ErrorKind};
 use std::str;
+use std::sync::Wait;
 use std::thread::Threads;
 
 /// How much a read or a write moves where a case doesn't say.
@@ -53,7 +55,8 @@ fn no_memory(_: NoMemory) -> io::Error {
     io::Error::from(ErrorKind::OutOfMemory)
 }
 
-fn words_of(alloc: Global, text: &str) -> io::Result<Vec<String>> {
+/// The words of a text.
+pub fn words_of(alloc: Global, text: &str) -> io::Result<Vec<String>> {
     let mut words = Vec::new(alloc);
     for word in text.split_whitespace() {
         words.push(String::from_str(alloc, word)?)?;
@@ -61,9 +64,17 @@ fn words_of(alloc: Global, text: &str) -> io::Result<Vec<String>> {
     Ok(words)
 }
 
+/// A sink that takes what a made instance of some sinks comes to.
+pub fn much(alloc: Global) -> io::Result<MemSink> {
+    Stream::of(None, None).sink(alloc)
+}
+
 /// Runs a case. Two words for each of its streams, the input, the output and the notes, say how much it moves at once
 /// and which call fails, as in `/ 7 - 7 1 4096 0`. Where the line begins with `-`, the text lacks its last line end.
-pub fn run<R: AllocGlobal + Threads + Sync + Print>(rt: &R, case: &[u8]) -> io::Result<()> {
+pub fn run_case<R: AllocGlobal + Threads + Wait + Sync + Print>(
+    rt: &R,
+    case: &[u8],
+) -> io::Result<()> {
     let end = case
         .iter()
         .position(|byte| *byte == b'\n')
@@ -79,7 +90,7 @@ pub fn run<R: AllocGlobal + Threads + Sync + Print>(rt: &R, case: &[u8]) -> io::
     }
 }
 
-fn run_over<R: AllocGlobal + Threads + Sync + Print>(
+fn run_over<R: AllocGlobal + Threads + Wait + Sync + Print>(
     rt: &R,
     head: &str,
     text: &[u8],
@@ -91,7 +102,16 @@ fn run_over<R: AllocGlobal + Threads + Sync + Print>(
     let mut source = Stream::of(streams.next(), streams.next()).source(alloc, text)?;
     let mut output = Stream::of(streams.next(), streams.next()).sink(alloc)?;
     let mut notes = Stream::of(streams.next(), streams.next()).sink(alloc)?;
-    let outcome = run_alone(rt, alloc, &words, &mut source, &mut output, &mut notes);
+    let gate = OpenGate;
+    let outcome = run(
+        rt,
+        alloc,
+        &words,
+        &mut source,
+        &mut output,
+        &mut notes,
+        &gate,
+    );
     println!(rt; "{:?} after {} reads", outcome.status, source.calls())?;
     show::text(rt, notes.bytes())?;
     show::text(rt, output.bytes())?;

@@ -3,10 +3,12 @@
 use crate::show;
 use cts_io::{MemSink, MemSource};
 use cts_num::NoMemory;
-use cts_top::run_alone;
+use cts_top::run;
+use cts_work::OpenGate;
 use std::alloc::Global;
 use std::fmt::Write;
 use std::io::{self, ErrorKind};
+use std::sync::Wait;
 use std::thread::Threads;
 
 /// The greatest number of sinks.
@@ -23,7 +25,7 @@ const WIRES: [(&str, &str); 3] = [
 ];
 
 /// Prints the verdicts on reports of trees in which every pair but the lowest has a leaf on its right.
-pub fn check<R: AllocGlobal + Threads + Sync + Print>(rt: &R) -> io::Result<()> {
+pub fn check<R: AllocGlobal + Threads + Wait + Sync + Print>(rt: &R) -> io::Result<()> {
     let alloc = rt.alloc();
     let mut words = Vec::new(alloc);
     words.push(String::from_str(alloc, "check")?)?;
@@ -34,7 +36,16 @@ pub fn check<R: AllocGlobal + Threads + Sync + Print>(rt: &R) -> io::Result<()> 
         let mut source = MemSource::new(text.into_bytes(), Vec::new(alloc), 1 << 20);
         let mut output = sink(alloc)?;
         let mut notes = sink(alloc)?;
-        let outcome = run_alone(rt, alloc, &words, &mut source, &mut output, &mut notes);
+        let gate = OpenGate;
+        let outcome = run(
+            rt,
+            alloc,
+            &words,
+            &mut source,
+            &mut output,
+            &mut notes,
+            &gate,
+        );
         println!(rt; "{:?}", outcome.status)?;
         show::text(rt, output.bytes())?;
     }

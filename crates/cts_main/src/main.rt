@@ -6,7 +6,8 @@ ghost use Rattle.std.specs.Process.{exit_status};
 ghost use Rattle.cts_top.specs.Outcome.{code_of};
 
 use cts_io::{HostSink, HostSource};
-use cts_top::{Outcome, end_without_memory, run_alone};
+use cts_top::{Outcome, end_without_memory, run};
+use cts_work::OpenGate;
 use std::alloc::AllocError;
 use std::env::FillError;
 use std::process::ExitCode;
@@ -56,6 +57,15 @@ fn main(rt: HostRuntime) -> ExitCode {
     };
     let mut source = HostSource::new(rt.stdin());
     let mut sink = HostSink::new(rt.stdout());
-    let outcome = run_alone(&rt, rt.alloc(), &words, &mut source, &mut sink, &mut notes);
+    let gate = OpenGate;
+    let outcome = run(
+        &rt,
+        rt.alloc(),
+        &words,
+        &mut source,
+        &mut sink,
+        &mut notes,
+        &gate,
+    );
     exit_code(outcome)
 }

@@ -30,23 +30,23 @@ use Rattle.cts_top.proofs.Valid.{synthesis_same}
 
 -- what follows, bytes by bytes, from what holds of an input
 pub on_input : (form : Form) (left : Option (List ℕ)) (P Q : List ℕ → Type 0) → ((b : List ℕ) → P b → Q b) → OfInput form left P → OfInput form left Q
-on_input Synth None P Q f p = tt
-on_input Synth (Some b) P Q f p = f b p
+on_input (Synth workers) None P Q f p = tt
+on_input (Synth workers) (Some b) P Q f p = f b p
 on_input Check None P Q f p = tt
 on_input Check (Some b) P Q f p = f b p
 on_input (Make seed sinks) left P Q f p = f [] p
-on_input (Job seed sinks) left P Q f p = f [] p
+on_input (Job seed sinks workers) left P Q f p = f [] p
 
 pub of_all : (form : Form) (left : Option (List ℕ)) (Q : List ℕ → Type 0) → ((b : List ℕ) → Q b) → OfInput form left Q
-of_all Synth None Q q = tt
-of_all Synth (Some b) Q q = q b
+of_all (Synth workers) None Q q = tt
+of_all (Synth workers) (Some b) Q q = q b
 of_all Check None Q q = tt
 of_all Check (Some b) Q q = q b
 of_all (Make seed sinks) left Q q = q []
-of_all (Job seed sinks) left Q q = q []
+of_all (Job seed sinks workers) left Q q = q []
 
 -- an input spells one instance
-one_instance : (bytes : List ℕ) (i j : Parts) → Spells bytes i → Spells bytes j → i ≡ j
+pub one_instance : (bytes : List ℕ) (i j : Parts) → Spells bytes i → Spells bytes j → i ≡ j
 one_instance bytes i j s t = let e : Ok i ≡ Ok j = sym s.read ∙ t.read in cc
 
 refused_spells_none : (bytes : List ℕ) (i : Parts) (r : Refusal) → input_of bytes ≡ Err r → Spells bytes i → ⊥
@@ -74,7 +74,7 @@ same_kind tell i kind text s told is =
 -- of one input there is one right kind of text
 one_kind : (form : Form) (bytes : List ℕ) (kind other : Answer) (text : List ℕ) → IsRight form bytes kind text → IsRightKind form bytes other
     → status_of (Ok kind) ≡ status_of (Ok other)
-one_kind Synth bytes kind other text right k =
+one_kind (Synth workers) bytes kind other text right k =
     let i : Parts = right.0 in
     let same : i ≡ k.0 = one_instance bytes i k.0 right.1 k.1 in
     let there : IsSynthesis i k.2.0 = subst (λ x. IsSynthesis x k.2.0) (sym same) k.2.1 in
@@ -84,35 +84,35 @@ one_kind Check bytes kind other text (i, report, spells, tells) (j, others, begi
     let there : IsVerdict i report v = subst (λ (f : Front). IsVerdict (f.0) (f.1) v) (sym same) is in
     ap (λ a. status_of (Ok a)) (tells.kind_is ∙ ap answer_of_verdict (verdict_is_one_lem i report tells.verdict v tells.valid tells.is_verdict there) ∙ sym kind_is)
 one_kind (Make seed sinks) bytes kind other text right k = ap (λ a. status_of (Ok a)) (right.0 ∙ sym k)
-one_kind (Job seed sinks) bytes kind other text right k =
+one_kind (Job seed sinks workers) bytes kind other text right k =
     ap (λ a. status_of (Ok a)) (same_kind summary_text (made_parts seed sinks) kind text k.0 right k.1 ∙ sym k.2)
 
 -- a stop for its input has no right text
 none_too_long : (form : Form) (bytes : List ℕ) (kind : Answer) → Explains form stop.TooLong bytes → IsRightKind form bytes kind → ⊥
-none_too_long Synth bytes kind x k = omega (arith, x, k.1.within)
+none_too_long (Synth workers) bytes kind x k = omega (arith, x, k.1.within)
 none_too_long Check bytes kind x k = omega (arith, x, k.2.within)
 none_too_long (Make seed sinks) bytes kind x k = x
-none_too_long (Job seed sinks) bytes kind x k = x
+none_too_long (Job seed sinks workers) bytes kind x k = x
 
 none_refused : (form : Form) (bytes : List ℕ) (line : ℕ) (cause : _) (kind : Answer) → Explains form (stop.Refused line cause) bytes
     → IsRightKind form bytes kind → ⊥
-none_refused Synth bytes line cause kind x k = refused_spells_none bytes k.0 (line, cause) x.1 k.1
+none_refused (Synth workers) bytes line cause kind x k = refused_spells_none bytes k.0 (line, cause) x.1 k.1
 none_refused Check bytes line cause kind x k = refused_begins_none bytes k.0 k.1 (line, cause) x.1 k.2
 none_refused (Make seed sinks) bytes line cause kind x k = x
-none_refused (Job seed sinks) bytes line cause kind x k = x
+none_refused (Job seed sinks workers) bytes line cause kind x k = x
 
 -- the input of a stop that refuses it
 refused_too_long : (form : Form) (bytes : List ℕ) → Explains form stop.TooLong bytes → RefusesInput form bytes
-refused_too_long Synth bytes x = λ i s. omega (arith, x, s.within)
+refused_too_long (Synth workers) bytes x = λ i s. omega (arith, x, s.within)
 refused_too_long Check bytes x = λ i rest s. omega (arith, x, s.within)
 refused_too_long (Make seed sinks) bytes x = x
-refused_too_long (Job seed sinks) bytes x = x
+refused_too_long (Job seed sinks workers) bytes x = x
 
 refused_line : (form : Form) (bytes : List ℕ) (line : ℕ) (cause : _) → Explains form (stop.Refused line cause) bytes → RefusesInput form bytes
-refused_line Synth bytes line cause x = λ i s. refused_spells_none bytes i (line, cause) x.1 s
+refused_line (Synth workers) bytes line cause x = λ i s. refused_spells_none bytes i (line, cause) x.1 s
 refused_line Check bytes line cause x = λ i rest s. refused_begins_none bytes i rest (line, cause) x.1 s
 refused_line (Make seed sinks) bytes line cause x = x
-refused_line (Job seed sinks) bytes line cause x = x
+refused_line (Job seed sinks workers) bytes line cause x = x
 
 pub refused_at : (form : Form) (ending : Result Answer Stop) (left : Option (List ℕ)) → IfErr ending (λ stop. OfInput form left (Explains form stop))
     → status_of ending ≡ status.Refused → OfInput form left (RefusesInput form)
@@ -149,10 +149,10 @@ complete_at form E (Err stop.NoMemory) left old new d x w r k = of_all form left
 
 -- an input with a right text is not refused
 not_refused : (form : Form) (bytes : List ℕ) (kind : Answer) (text : List ℕ) → IsRight form bytes kind text → RefusesInput form bytes → ⊥
-not_refused Synth bytes kind text right n = n right.0 right.1
+not_refused (Synth workers) bytes kind text right n = n right.0 right.1
 not_refused Check bytes kind text right n = n right.0 right.1 right.2
 not_refused (Make seed sinks) bytes kind text right n = n
-not_refused (Job seed sinks) bytes kind text right n = n
+not_refused (Job seed sinks workers) bytes kind text right n = n
 
 -- a run without a failed read whose input spells no instance
 pub refuses_at : (form : Form) (E F G : Type 0) (ending : Result Answer Stop) (left old new : Option (List ℕ))
@@ -240,18 +240,18 @@ note_refused : (form : Form) (left : Option (List ℕ)) (end : Stop) → OfInput
     → IsNote left (status_of (Err end)) (note_of (Err end))
 unfolding note_of stop_note
 note_refused form left stop.Words x = refl
-note_refused Synth None stop.TooLong x = inl refl
-note_refused Synth (Some bytes) stop.TooLong x = inl (x, refl)
+note_refused (Synth workers) None stop.TooLong x = inl refl
+note_refused (Synth workers) (Some bytes) stop.TooLong x = inl (x, refl)
 note_refused Check None stop.TooLong x = inl refl
 note_refused Check (Some bytes) stop.TooLong x = inl (x, refl)
 note_refused (Make seed sinks) left stop.TooLong x = absurd x
-note_refused (Job seed sinks) left stop.TooLong x = absurd x
-note_refused Synth None (stop.Refused line cause) x = inr (line, cause, refl)
-note_refused Synth (Some bytes) (stop.Refused line cause) x = inr (x.0, line, cause, x.1, refl)
+note_refused (Job seed sinks workers) left stop.TooLong x = absurd x
+note_refused (Synth workers) None (stop.Refused line cause) x = inr (line, cause, refl)
+note_refused (Synth workers) (Some bytes) (stop.Refused line cause) x = inr (x.0, line, cause, x.1, refl)
 note_refused Check None (stop.Refused line cause) x = inr (line, cause, refl)
 note_refused Check (Some bytes) (stop.Refused line cause) x = inr (x.0, line, cause, front_refuses_all bytes (line, cause) x.1, refl)
 note_refused (Make seed sinks) left (stop.Refused line cause) x = absurd x
-note_refused (Job seed sinks) left (stop.Refused line cause) x = absurd x
+note_refused (Job seed sinks workers) left (stop.Refused line cause) x = absurd x
 note_refused form left stop.ReadFault x = refl
 note_refused form left stop.WriteFault x = refl
 note_refused form left stop.NoMemory x = refl

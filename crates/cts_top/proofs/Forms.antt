@@ -1,9 +1,9 @@
 -- What words ask for, by their parts.
-use Rattle.std.proofs.Common.{◌≡◌, ◌≢◌, ◌≤◌, ◌↔◌, ℕ, List, [], ◌∷◌, Option, Some, None, codes, map, subst, ap, arith}
+use Rattle.std.proofs.Common.{◌≡◌, ◌≢◌, ◌≤◌, ◌↔◌, ℕ, List, [], ◌∷◌, Option, Some, None, codes, map, refl, sym, subst, ap, arith}
 use Rattle.std.specs.Option.{option_zip}
 use Rattle.cts_top.specs.declared.words.Form.{Form}
 use Rattle.cts_top.specs.declared.words.Form.TheVariants.{Synth, Check, Make, Job}
-use Rattle.cts_top.specs.Words.{AreMade, AsksFor, IsNumber, IsWithinLimits}
+use Rattle.cts_top.specs.Words.{AreMade, AsksFor, IsAlone, IsNumber, IsWithinLimits, IsWorkers}
 
 -- a seed and a number of sinks, each found where it is within its limits
 pub made_zip : (seed_word sinks_word : List ℕ) (x y : Option ℕ)
@@ -40,21 +40,21 @@ made_zip seed_word sinks_word (Some a) (Some b) p q s n = (
 
 -- what is asked for is within its limits
 pub asked_within : (words : List (List ℕ)) (form : Form) → AsksFor words form → IsWithinLimits form
-asked_within words Synth a = tt
+asked_within words (Synth workers) a = (a.2.1, a.2.2)
 asked_within words Check a = tt
 asked_within words (Make seed sinks) a = (a.3.seed_within, a.3.some_sink, a.3.sinks_within)
-asked_within words (Job seed sinks) a = (a.4.seed_within, a.4.some_sink, a.4.sinks_within)
+asked_within words (Job seed sinks workers) a = (a.4.seed_within, a.4.some_sink, a.4.sinks_within, a.5.1, a.5.2)
 
 module _ (name s n : List ℕ) (z : Option (ℕ × ℕ)) (parts : (x y : ℕ) → (z ≡ Some (x, y)) ↔ AreMade s n x y) where
   -- three words
   pub make_other : name ≢ codes "make" → (form : Form) → (None ≡ Some form) ↔ AsksFor (name ∷ s ∷ n ∷ []) form
-  make_other other Synth = (λ e. absurd cc, λ a. absurd (let e = a.1 in cc))
+  make_other other (Synth workers) = (λ e. absurd cc, λ a. absurd (let e = a.1 in cc))
   make_other other Check = (λ e. absurd cc, λ a. absurd cc)
   make_other other (Make x y) = (λ e. absurd cc, λ a. absurd (other (let e = a.2 in cc)))
-  make_other other (Job x y) = (λ e. absurd cc, λ a. absurd (let e = a.3 in cc))
+  make_other other (Job x y q) = (λ e. absurd cc, λ a. absurd (let e = a.3 in cc))
 
   pub make_none : z ≡ None → (form : Form) → (None ≡ Some form) ↔ AsksFor (name ∷ s ∷ n ∷ []) form
-  make_none none Synth = (λ e. absurd cc, λ a. absurd (let e = a.1 in cc))
+  make_none none (Synth workers) = (λ e. absurd cc, λ a. absurd (let e = a.1 in cc))
   make_none none Check = (λ e. absurd cc, λ a. absurd cc)
   make_none none (Make x y) = (
     λ e. absurd cc,
@@ -66,11 +66,11 @@ module _ (name s n : List ℕ) (z : Option (ℕ × ℕ)) (parts : (x y : ℕ) �
         let some : z ≡ Some (x, y) = (parts x y).1 made in
         absurd cc,
   )
-  make_none none (Job x y) = (λ e. absurd cc, λ a. absurd (let e = a.3 in cc))
+  make_none none (Job x y q) = (λ e. absurd cc, λ a. absurd (let e = a.3 in cc))
 
   pub make_some : (u v : ℕ) → name ≡ codes "make" → z ≡ Some (u, v) → (form : Form)
       → (Some (Make u v) ≡ Some form) ↔ AsksFor (name ∷ s ∷ n ∷ []) form
-  make_some u v is some Synth = (λ e. absurd cc, λ a. absurd (let e = a.1 in cc))
+  make_some u v is some (Synth workers) = (λ e. absurd cc, λ a. absurd (let e = a.1 in cc))
   make_some u v is some Check = (λ e. absurd cc, λ a. absurd cc)
   make_some u v is some (Make x y) = (
     λ e.
@@ -88,30 +88,21 @@ module _ (name s n : List ℕ) (z : Option (ℕ × ℕ)) (parts : (x y : ℕ) �
         let right : v ≡ y = ap (λ p. p.1) pair in
         cc,
   )
-  make_some u v is some (Job x y) = (λ e. absurd cc, λ a. absurd (let e = a.3 in cc))
+  make_some u v is some (Job x y q) = (λ e. absurd cc, λ a. absurd (let e = a.3 in cc))
 
   module _ (w : List ℕ) where
     -- four words
     pub job_other : name ≢ codes "job" → (form : Form) → (None ≡ Some form) ↔ AsksFor (name ∷ s ∷ n ∷ w ∷ []) form
-    job_other other Synth = (λ e. absurd cc, λ a. absurd (let e = a.1 in cc))
+    job_other other (Synth workers) = (λ e. absurd cc, λ a. absurd (let e = a.1 in cc))
     job_other other Check = (λ e. absurd cc, λ a. absurd cc)
     job_other other (Make x y) = (λ e. absurd cc, λ a. absurd (let e = a.2 in cc))
-    job_other other (Job x y) = (λ e. absurd cc, λ a. absurd (other (let e = a.3 in cc)))
-
-    pub job_workers : (IsNumber w 1 → ⊥) → (form : Form) → (None ≡ Some form) ↔ AsksFor (name ∷ s ∷ n ∷ w ∷ []) form
-    job_workers other Synth = (λ e. absurd cc, λ a. absurd (let e = a.1 in cc))
-    job_workers other Check = (λ e. absurd cc, λ a. absurd cc)
-    job_workers other (Make x y) = (λ e. absurd cc, λ a. absurd (let e = a.2 in cc))
-    job_workers other (Job x y) = (
-      λ e. absurd cc,
-      λ a. let e = a.3 in let same : a.2 ≡ w = cc in absurd (other (subst (λ u. IsNumber u 1) same a.5)),
-    )
+    job_other other (Job x y q) = (λ e. absurd cc, λ a. absurd (other (let e = a.3 in cc)))
 
     pub job_none : z ≡ None → (form : Form) → (None ≡ Some form) ↔ AsksFor (name ∷ s ∷ n ∷ w ∷ []) form
-    job_none none Synth = (λ e. absurd cc, λ a. absurd (let e = a.1 in cc))
+    job_none none (Synth workers) = (λ e. absurd cc, λ a. absurd (let e = a.1 in cc))
     job_none none Check = (λ e. absurd cc, λ a. absurd cc)
     job_none none (Make x y) = (λ e. absurd cc, λ a. absurd (let e = a.2 in cc))
-    job_none none (Job x y) = (
+    job_none none (Job x y q) = (
       λ e. absurd cc,
       λ a.
           let e = a.3 in
@@ -122,27 +113,75 @@ module _ (name s n : List ℕ) (z : Option (ℕ × ℕ)) (parts : (x y : ℕ) �
           absurd cc,
     )
 
-    pub job_some : (u v : ℕ) → name ≡ codes "job" → IsNumber w 1 → z ≡ Some (u, v) → (form : Form)
-        → (Some (Job u v) ≡ Some form) ↔ AsksFor (name ∷ s ∷ n ∷ w ∷ []) form
-    job_some u v is one some Synth = (λ e. absurd cc, λ a. absurd (let e = a.1 in cc))
-    job_some u v is one some Check = (λ e. absurd cc, λ a. absurd cc)
-    job_some u v is one some (Make x y) = (λ e. absurd cc, λ a. absurd (let e = a.2 in cc))
-    job_some u v is one some (Job x y) = (
+    pub job_some : (u v t : ℕ) → name ≡ codes "job" → ((q : ℕ) → (Some t ≡ Some q) ↔ IsWorkers w q) → z ≡ Some (u, v) → (form : Form)
+        → (Some (Job u v t) ≡ Some form) ↔ AsksFor (name ∷ s ∷ n ∷ w ∷ []) form
+    job_some u v t is of_word some (Synth workers) = (λ e. absurd cc, λ a. absurd (let e = a.1 in cc))
+    job_some u v t is of_word some Check = (λ e. absurd cc, λ a. absurd cc)
+    job_some u v t is of_word some (Make x y) = (λ e. absurd cc, λ a. absurd (let e = a.2 in cc))
+    job_some u v t is of_word some (Job x y q) = (
       λ e.
           let first : u ≡ x = cc in
           let second : v ≡ y = cc in
-          (s, n, w, cc, (parts x y).0 cc, one),
+          let third : t ≡ q = cc in
+          (s, n, w, cc, (parts x y).0 cc, (of_word q).0 (ap Some third)),
       λ a.
           let e = a.3 in
           let first : a.0 ≡ s = cc in
           let second : a.1 ≡ n = cc in
+          let same : a.2 ≡ w = cc in
           let made : AreMade s n x y = subst (λ q. AreMade s q x y) second (subst (λ q. AreMade q a.1 x y) first a.4) in
           let found : z ≡ Some (x, y) = (parts x y).1 made in
           let pair : ◌≡◌ {A = ℕ × ℕ} (u, v) (x, y) = cc in
           let left : u ≡ x = ap (λ p. p.0) pair in
           let right : v ≡ y = ap (λ p. p.1) pair in
+          let number : Some t ≡ Some q = (of_word q).1 (subst (λ p. IsWorkers p q) same a.5) in
+          let third : t ≡ q = cc in
           cc,
     )
+
+-- four words without a number of workers
+module _ (name s n w : List ℕ) where
+  pub job_workers : ((q : ℕ) → IsWorkers w q → ⊥) → (form : Form) → (None ≡ Some form) ↔ AsksFor (name ∷ s ∷ n ∷ w ∷ []) form
+  job_workers other (Synth workers) = (λ e. absurd cc, λ a. absurd (let e = a.1 in cc))
+  job_workers other Check = (λ e. absurd cc, λ a. absurd cc)
+  job_workers other (Make x y) = (λ e. absurd cc, λ a. absurd (let e = a.2 in cc))
+  job_workers other (Job x y q) = (
+    λ e. absurd cc,
+    λ a. let e = a.3 in let same : a.2 ≡ w = cc in absurd (other q (subst (λ u. IsWorkers u q) same a.5)),
+  )
+
+-- two words
+module _ (w : List ℕ) where
+  pub synth_none : ((q : ℕ) → (None ≡ Some q) ↔ IsWorkers w q) → (form : Form)
+      → (None ≡ Some form) ↔ AsksFor (codes "synth" ∷ w ∷ []) form
+  synth_none of_word (Synth workers) = (
+    λ e. absurd cc,
+    λ a.
+        let e = a.1 in
+        let same : a.0 ≡ w = cc in
+        let none : None ≡ Some workers = (of_word workers).1 (subst (λ p. IsWorkers p workers) same a.2) in
+        absurd cc,
+  )
+  synth_none of_word Check = (λ e. absurd cc, λ a. absurd cc)
+  synth_none of_word (Make x y) = (λ e. absurd cc, λ a. absurd (let e = a.2 in cc))
+  synth_none of_word (Job x y q) = (λ e. absurd cc, λ a. absurd (let e = a.3 in cc))
+
+  pub synth_some : (t : ℕ) → ((q : ℕ) → (Some t ≡ Some q) ↔ IsWorkers w q) → (form : Form)
+      → (Some (Synth t) ≡ Some form) ↔ AsksFor (codes "synth" ∷ w ∷ []) form
+  synth_some t of_word (Synth workers) = (
+    λ e.
+        let third : t ≡ workers = cc in
+        (w, refl, (of_word workers).0 (ap Some third)),
+    λ a.
+        let e = a.1 in
+        let same : a.0 ≡ w = cc in
+        let number : Some t ≡ Some workers = (of_word workers).1 (subst (λ p. IsWorkers p workers) same a.2) in
+        let third : t ≡ workers = cc in
+        cc,
+  )
+  synth_some t of_word Check = (λ e. absurd cc, λ a. absurd cc)
+  synth_some t of_word (Make x y) = (λ e. absurd cc, λ a. absurd (let e = a.2 in cc))
+  synth_some t of_word (Job x y q) = (λ e. absurd cc, λ a. absurd (let e = a.3 in cc))
 
 -- words of these bytes
 pub words_one : {A : Type 0} (f : A → List ℕ) (R : List (List ℕ) → Type 0) (xs : List A) (a : A) (p : List ℕ)
@@ -162,3 +201,16 @@ pub words_four : {A : Type 0} (f : A → List ℕ) (R : List (List ℕ) → Type
     → xs ≡ a ∷ b ∷ c ∷ d ∷ [] → p ≡ f a → q ≡ f b → s ≡ f c → t ≡ f d → R (p ∷ q ∷ s ∷ t ∷ []) → R (map f xs)
 words_four f R xs a b c d p q s t e g h k l r =
     subst R (let m : map f xs ≡ f a ∷ f b ∷ f c ∷ f d ∷ [] = ap (map f) e in let u : p ∷ q ∷ s ∷ t ∷ [] ≡ map f xs = cc in u) r
+
+-- what some words ask for without more than one worker, by what they ask for
+pub alone_some : {W : Type 0} (R : W → Form → Type 0) (words : W) (f : Form) (found : _) → ((form : Form) → (Some f ≡ Some form) ↔ R words form)
+    → ((other : Form) → (found ≡ Some other) ↔ ((other ≡ f) × IsAlone other))
+    → (form : Form) → (found ≡ Some form) ↔ (R words form × IsAlone form)
+alone_some R words f found is of form = (
+  λ e. let a = (of form).0 e in ((is form).0 (ap Some (sym a.0)), a.1),
+  λ r. (of form).1 (let e : Some f ≡ Some form = (is form).1 r.0 in cc, r.1),
+)
+
+pub alone_none : {W : Type 0} (R : W → Form → Type 0) (words : W) → ((form : Form) → (None ≡ Some form) ↔ R words form)
+    → (form : Form) → (None ≡ Some form) ↔ (R words form × IsAlone form)
+alone_none R words is form = (λ e. absurd cc, λ r. absurd (let e : None ≡ Some form = (is form).1 r.0 in cc))

@@ -12,9 +12,8 @@ use Rattle.cts_read.specs.declared.stop.ReadStop.{ReadStop}
 use Rattle.cts_read.specs.declared.stop.ReadStop.TheVariants.{Refused, NoMemory}
 use Rattle.cts_read.specs.Grammar.{Refuses}
 use Rattle.cts_top.specs.Input.{after_line, after_lines, front_of, input_of, input_limit}
-use Rattle.cts_top.specs.declared.words.Form.TheVariants.{Check}
 use Rattle.cts_top.specs.Outcome.{stop_of_text}
-use Rattle.cts_top.specs.Right.{Explains}
+use Rattle.cts_top.specs.Right.{ExplainsFront}
 
 -- how many lines are ended by LF in some bytes
 lfs : List ℕ → ℕ
@@ -142,7 +141,7 @@ front_refuses_all bytes r e = by (instance_of bytes) refl e
     by (Err s) found f = let same : s ≡ r = cc in rw found (ap Err same)
 
 pub front_refused : (bytes : List ℕ) (stop : ReadStop) → length bytes ≤ input_limit → Refuses stop (instance_of bytes)
-    → Explains Check (stop_of_text stop) bytes
+    → ExplainsFront (stop_of_text stop) bytes
 unfolding front_of
 front_refused bytes (Refused line cause) h e = (h, rw e refl)
 front_refused bytes NoMemory h e = tt

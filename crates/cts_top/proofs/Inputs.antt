@@ -8,9 +8,8 @@ use Rattle.cts_read.specs.declared.stop.ReadStop.TheVariants.{Refused, NoMemory}
 use Rattle.cts_read.specs.Grammar.{Left, Refuses, content, left_of}
 use Rattle.cts_read.specs.Whole.{Rests, instance_of, place_at, rest_of}
 use Rattle.cts_top.specs.Input.{input_of, input_limit}
-use Rattle.cts_top.specs.declared.words.Form.TheVariants.{Synth}
 use Rattle.cts_top.specs.Outcome.{stop_of_text}
-use Rattle.cts_top.specs.Right.{Explains}
+use Rattle.cts_top.specs.Right.{ExplainsWhole}
 
 -- the lines after so many bytes, in the form of a slice
 pub left_at : (bytes : List ℕ) (used line : ℕ) → (left_of (place_at bytes used line)).lines ≡ content line (lines_of (take (length bytes - used) (drop used bytes)))
@@ -33,6 +32,6 @@ rest_refused bytes x left (Refused line cause) e f = rw (e, f) refl
 rest_refused bytes x left NoMemory e f = tt
 
 -- a stop of reading explains a stop of the run
-pub refuses_explains : (bytes : List ℕ) (stop : ReadStop) → length bytes ≤ input_limit → Refuses stop (input_of bytes) → Explains Synth (stop_of_text stop) bytes
+pub refuses_explains : (bytes : List ℕ) (stop : ReadStop) → length bytes ≤ input_limit → Refuses stop (input_of bytes) → ExplainsWhole (stop_of_text stop) bytes
 refuses_explains bytes (Refused line cause) h e = (h, e)
 refuses_explains bytes NoMemory h e = tt

@@ -1,5 +1,8 @@
 pub mod Fronts
 pub mod Endings
+pub mod Running
+pub mod Synthesising
+pub mod Remembering
 pub mod Inputs
 pub mod Lists
 pub mod Valid

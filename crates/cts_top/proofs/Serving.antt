@@ -10,7 +10,7 @@ use Rattle.cts_top.specs.declared.words.Form.TheVariants.{Synth, Check, Make, Jo
 use Rattle.cts_top.specs.Input.{Spells, SpellsFront}
 use Rattle.cts_top.specs.Verdict.{TellsVerdict}
 use Rattle.cts_top.specs.Outcome.{Serves}
-use Rattle.cts_top.specs.Right.{DoesNotRead, Explains, IsRight}
+use Rattle.cts_top.specs.Right.{DoesNotRead, ExplainsFront, ExplainsWhole, IsRight}
 use Rattle.cts_top.specs.Text.{TellsSynthesis}
 use Rattle.cts_top.specs.Written.{Answers, IsAnswered, IsAnsweredInPart}
 
@@ -19,7 +19,7 @@ pub of_left : (left : Option (List ℕ)) (bytes : List ℕ) (P : List ℕ → Ty
 of_left None bytes P e p = tt
 of_left (Some b) bytes P e p = subst P e p
 
-on_left : (left : Option (List ℕ)) (P Q : List ℕ → Type 0) → ((b : List ℕ) → P b → Q b) → IfSome left P → IfSome left Q
+pub on_left : (left : Option (List ℕ)) (P Q : List ℕ → Type 0) → ((b : List ℕ) → P b → Q b) → IfSome left P → IfSome left Q
 on_left None P Q f p = tt
 on_left (Some b) P Q f p = f b p
 
@@ -32,7 +32,7 @@ does_not_read stop.ReadFault X k = let e = (k (λ p. cc)).1 in absurd cc
 does_not_read stop.WriteFault X k = tt
 does_not_read stop.NoMemory X k = tt
 
-unexplained : (bytes : List ℕ) (end : Stop) → DoesNotRead end → Explains Synth end bytes × Explains Check end bytes
+unexplained : (bytes : List ℕ) (end : Stop) → DoesNotRead end → ExplainsWhole end bytes × ExplainsFront end bytes
 unexplained bytes stop.Words n = (tt, tt)
 unexplained bytes stop.TooLong n = absurd n
 unexplained bytes (stop.Refused line cause) n = absurd n
@@ -67,14 +67,14 @@ answers_no_words (Err end) a e = not_words end _ a.kept e
 
 -- a run that has read an instance
 pub serves_synth : {S K : Type 0} (left : S → Option (List ℕ)) (reads : S → ℕ) (held : K → Option (List ℕ)) (writes : K → ℕ)
-    (source source' : S) (sink sink' : K) (result : Result Answer Stop) (i : Parts)
+    (source source' : S) (sink sink' : K) (result : Result Answer Stop) (workers : ℕ) (i : Parts)
     → IsAtEnd (left source') → IfSome (left source) (λ b. Spells b i) → reads source ≤ reads source'
     → Answers (TellsSynthesis report_text i) held writes sink sink' result
-    → Serves left reads held writes Synth source source' sink sink' result
-serves_synth left reads held writes source source' sink sink' (Ok kind) i at_end spells counted a = record {
+    → Serves left reads held writes (Synth workers) source source' sink sink' result
+serves_synth left reads held writes source source' sink sink' (Ok kind) workers i at_end spells counted a = record {
   done = (
     at_end,
-    on_left (left source) (λ b. Spells b i) (λ b. IsAnswered (IsRight Synth b) kind (held sink) (held sink'))
+    on_left (left source) (λ b. Spells b i) (λ b. IsAnswered (IsRight (Synth workers) b) kind (held sink) (held sink'))
         (λ b s. (a.done.0, (i, s, a.done.1), a.done.2)) spells,
   );
   write_fault = λ e. cc;
@@ -85,18 +85,18 @@ serves_synth left reads held writes source source' sink sink' (Ok kind) i at_end
   source_counted = counted;
   sink_counted = a.counted;
 }
-serves_synth left reads held writes source source' sink sink' (Err end) i at_end spells counted a =
+serves_synth left reads held writes source source' sink sink' (Err end) workers i at_end spells counted a =
     let none : DoesNotRead end = does_not_read end _ a.kept in
     record {
       done = tt;
       write_fault = λ e. let p : IsAnsweredInPart (TellsSynthesis report_text i) (held sink) (held sink') = a.in_part e in (
         at_end,
         a.rose e,
-        on_left (left source) (λ b. Spells b i) (λ b. IsAnsweredInPart (IsRight Synth b) (held sink) (held sink'))
+        on_left (left source) (λ b. Spells b i) (λ b. IsAnsweredInPart (IsRight (Synth workers) b) (held sink) (held sink'))
             (λ b s. (p.0, p.1, p.2, (i, s, p.3), p.4)) spells,
       );
       read_fault = λ e. absurd (not_a_read end none e);
-      explained = free_of (left source) (Explains Synth end) (λ b. (unexplained b end none).0);
+      explained = free_of (left source) (ExplainsWhole end) (λ b. (unexplained b end none).0);
       kept = λ n. (a.kept n).0;
       others = tt;
       source_counted = counted;
@@ -134,7 +134,7 @@ serves_check left reads held writes source source' sink sink' (Err end) i report
             (λ b s. (p.0, p.1, p.2, (i, report, s, p.3), p.4)) spells,
       );
       read_fault = λ e. absurd (not_a_read end none e);
-      explained = free_of (left source) (Explains Check end) (λ b. (unexplained b end none).1);
+      explained = free_of (left source) (ExplainsFront end) (λ b. (unexplained b end none).1);
       kept = λ n. (a.kept n).0;
       others = tt;
       source_counted = counted;
@@ -143,7 +143,7 @@ serves_check left reads held writes source source' sink sink' (Err end) i report
 
 -- a run that reads nothing
 module _ {S K : Type 0} (left : S → Option (List ℕ)) (reads : S → ℕ) (held : K → Option (List ℕ)) (writes : K → ℕ)
-    (source : S) (sink sink' : K) (counted : reads source ≤ reads source) (seed sinks : ℕ) where
+    (source : S) (sink sink' : K) (counted : reads source ≤ reads source) (seed sinks workers : ℕ) where
   pub serves_make : (result : Result Answer Stop) → Answers (IsRight (Make seed sinks) []) held writes sink sink' result
       → Serves left reads held writes (Make seed sinks) source source sink sink' result
   serves_make (Ok kind) a = record {
@@ -169,8 +169,8 @@ module _ {S K : Type 0} (left : S → Option (List ℕ)) (reads : S → ℕ) (he
         sink_counted = a.counted;
       }
 
-  pub serves_job : (result : Result Answer Stop) → Answers (IsRight (Job seed sinks) []) held writes sink sink' result
-      → Serves left reads held writes (Job seed sinks) source source sink sink' result
+  pub serves_job : (result : Result Answer Stop) → Answers (IsRight (Job seed sinks workers) []) held writes sink sink' result
+      → Serves left reads held writes (Job seed sinks workers) source source sink sink' result
   serves_job (Ok kind) a = record {
     done = (refl, a.done);
     write_fault = λ e. cc;

@@ -1,5 +1,5 @@
 -- The text for a synthesis, from what the synthesis says of its end.
-use Rattle.std.proofs.Common.{◌≡◌, ◌≤◌, ℕ, List, refl, subst}
+use Rattle.std.proofs.Common.{◌≤◌, ℕ, List, refl}
 use Rattle.cts_instance.specs.declared.parts.Parts.{Parts}
 use Rattle.cts_instance.specs.Validity.{IsValid}
 use Rattle.cts_tree.specs.declared.nodes.TreeNode.{TreeNode}
@@ -7,9 +7,6 @@ use Rattle.cts_elmore.specs.declared.figures.Figures.{Figures}
 use Rattle.cts_elmore.specs.Figures.{AreFigures}
 use Rattle.cts_elmore.specs.Sound.{IsSound}
 use Rattle.cts_elmore.proofs.Below.{skew_within}
-use Rattle.cts_plain.specs.Ends.{Ends}
-use Rattle.cts_plain.specs.declared.end.NoTree.{NoTree}
-use Rattle.cts_plain.specs.declared.end.NoTree.TheVariants.{Beyond, Cut}
 use Rattle.cts_plain.specs.Synthesis.{IsSynthesis, made, beyond, cut}
 use Rattle.cts_report.specs.Report.{report_text}
 use Rattle.cts_check.specs.Verdict.{IsRight}
@@ -40,10 +37,3 @@ pub cut_told : (tell : TreeText) (i : Parts) (node : ℕ) → IsValid i → IsSy
     → TellsSynthesis tell i answer.NoTree (no_tree_text (codes "cut") node)
 cut_told tell i node valid is =
     record { valid = valid; synthesis = cut node; is_synthesis = is; kind_is = refl; is_text = refl }
-
--- an end of the synthesis at this node
-pub beyond_end : (i : Parts) (end : NoTree) (node : ℕ) → end ≡ Beyond node → Ends i end → IsSynthesis i (beyond node)
-beyond_end i end node e ends = subst (Ends i) e ends
-
-pub cut_end : (i : Parts) (end : NoTree) (node : ℕ) → end ≡ Cut node → Ends i end → IsSynthesis i (cut node)
-cut_end i end node e ends = subst (Ends i) e ends

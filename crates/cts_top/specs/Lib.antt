@@ -1,7 +1,10 @@
 pub mod Input
+pub mod Memos
 pub mod Notes
 pub mod Outcome
 pub mod Right
+pub mod Runs
+pub mod Synthesised
 pub mod Text
 pub mod Verdict
 pub mod Words
@@ -10,3 +13,6 @@ pub use Rattle.cts_plain.specs.Synthesis
 pub use Rattle.cts_script.specs.Generator
 pub use Rattle.cts_script.specs.Text as InstanceText
 pub use Rattle.cts_check.specs.Verdict as CheckedVerdict
+pub use Rattle.cts_memo.specs.Tables
+pub use Rattle.cts_memo.specs.Numbers
+pub use Rattle.cts_memo.specs.Sound

@@ -17,23 +17,38 @@ pub record AreMade (seed_word sinks_word : List ℕ) (seed sinks : ℕ) : Type 0
   pub some_sink : 1 ≤ sinks
   pub sinks_within : sinks ≤ 65536
 
--- what words of these bytes ask for: `synth 1`, `check`, `make SEED N`, or `job SEED N 1`
+-- a word is a number of workers
+abbrev pub IsWorkers : List ℕ → ℕ → Type 0
+IsWorkers word workers = IsNumber word workers × (1 ≤ workers) × (workers ≤ 64)
+
+-- what words of these bytes ask for: `synth W`, `check`, `make SEED N`, or `job SEED N W`
 abbrev pub AsksFor : List (List ℕ) → Form → Type 0
-AsksFor words Synth = (workers : List ℕ) × (words ≡ codes "synth" ∷ workers ∷ []) × IsNumber workers 1
+AsksFor words (Synth workers) = (w : List ℕ) × (words ≡ codes "synth" ∷ w ∷ []) × IsWorkers w workers
 AsksFor words Check = words ≡ codes "check" ∷ []
 AsksFor words (Make seed sinks) =
     (s : List ℕ) × (n : List ℕ) × (words ≡ codes "make" ∷ s ∷ n ∷ []) × AreMade s n seed sinks
-AsksFor words (Job seed sinks) =
-    (s : List ℕ) × (n : List ℕ) × (workers : List ℕ) × (words ≡ codes "job" ∷ s ∷ n ∷ workers ∷ [])
-    × AreMade s n seed sinks × IsNumber workers 1
+AsksFor words (Job seed sinks workers) =
+    (s : List ℕ) × (n : List ℕ) × (w : List ℕ) × (words ≡ codes "job" ∷ s ∷ n ∷ w ∷ [])
+    × AreMade s n seed sinks × IsWorkers w workers
 
 -- what some words ask for
 abbrev pub IsForm : List (String Global) → Form → Type 0
 IsForm words form = AsksFor (map string_bytes words) form
 
--- the seed and the number of sinks of a form are within their limits
+-- a form that has at most one worker
+abbrev pub IsAlone : Form → Type 0
+IsAlone (Synth workers) = workers ≡ 1
+IsAlone Check = Unit
+IsAlone (Make seed sinks) = Unit
+IsAlone (Job seed sinks workers) = workers ≡ 1
+
+-- what some words ask for, where it is such a form: `synth 1`, `check`, `make SEED N` or `job SEED N 1`
+abbrev pub IsFormAlone : List (String Global) → Form → Type 0
+IsFormAlone words form = IsForm words form × IsAlone form
+
+-- the numbers of a form are within their limits
 abbrev pub IsWithinLimits : Form → Type 0
-IsWithinLimits Synth = Unit
+IsWithinLimits (Synth workers) = (1 ≤ workers) × (workers ≤ 64)
 IsWithinLimits Check = Unit
 IsWithinLimits (Make seed sinks) = (seed < 2 ^ 31) × (1 ≤ sinks) × (sinks ≤ 65536)
-IsWithinLimits (Job seed sinks) = (seed < 2 ^ 31) × (1 ≤ sinks) × (sinks ≤ 65536)
+IsWithinLimits (Job seed sinks workers) = (seed < 2 ^ 31) × (1 ≤ sinks) × (sinks ≤ 65536) × (1 ≤ workers) × (workers ≤ 64)

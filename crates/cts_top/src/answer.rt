@@ -1,28 +1,32 @@
 //! The synthesis of an instance, and the text for it.
 
-ghost use Rattle.std.specs.Prelude.{◌≡◌, ◌<◌, IfOk, IfErr};
+ghost use Rattle.std.specs.Prelude.{◌≡◌, ◌<◌, ◌≤◌, ◌↔◌, Err, IfSome, IsSome};
 ghost use Rattle.cts_io.specs.Text.{Writes};
-ghost use Rattle.cts_elmore.specs.Figures.{AreFigures};
-ghost use Rattle.cts_elmore.specs.Sound.{IsSound};
-ghost use Rattle.cts_report.specs.Report.{IsPrintable, report_text};
-ghost use Rattle.cts_check.specs.Verdict.{IsRight};
+ghost use Rattle.cts_report.specs.Report.{IsPrintable};
 ghost use Rattle.cts_plain.specs.Ends.{Ends};
-ghost use Rattle.cts_plain.specs.Synthesis.{IsSynthesis, made};
-ghost use Rattle.cts_top.specs.Text.{TellsSynthesis, no_tree_text, told_by};
+ghost use Rattle.cts_top.specs.Memos.{IsMemoOf, TellsEnd, TellsOfTree};
+ghost use Rattle.cts_top.specs.Outcome.{status_of};
+ghost use Rattle.cts_top.specs.Synthesised.{IsSynthesised};
+ghost use Rattle.cts_top.specs.Text.{TellsSynthesis, TreeText, no_tree_text, told_by};
 ghost use Rattle.cts_top.specs.Written.{Answers};
 
 use crate::notes::put_numbered;
 use crate::stop::{Answer, Stop, ended};
+use crate::workers::synthesise_by_workers;
 use cts_elmore::Figures;
 use cts_instance::Instance;
 use cts_io::{ByteSink, SinkBuffer, WriteEnd};
+use cts_memo::Table;
 use cts_merge::Steps;
 use cts_plain::{NoTree, synthesise};
 use cts_report::{write_report, write_summary};
 use cts_tree::Tree;
+use cts_work::Gate;
 use std::alloc::Global;
 use std::marker::Brand;
+use std::sync::Wait;
 use std::sync::ledger::{Blank, Ledger};
+use std::thread::Threads;
 
 /// The synthesis of an instance with a counter of its own.
 fn synthesise_counted<L: Ledger>(
@@ -33,12 +37,7 @@ fn synthesise_counted<L: Ledger>(
     requires name { blank.name ≡ L.name }
     requires parts { blank.parts ≡ L.parts }
     requires some { 0 < L.parts }
-    ensures tree { IfOk result (λ r. IsSynthesis instance.now (made r.0)) }
-    ensures figures { IfOk result (λ r. AreFigures instance.now r.0 r.1) }
-    ensures sound { IfOk result (λ r. IsSound instance.now r.0) }
-    ensures printable { IfOk result (λ r. IsPrintable r.0 r.1) }
-    ensures right { IfOk result (λ r. IsRight instance.now (report_text r.0 r.1)) }
-    ensures ends { IfErr result (Ends instance.now) }
+    ensures { IsSynthesised instance.now result }
 {
     // A read call says that the instance is valid, which the limits of what is printed rest on.
     let _die = instance.die();
@@ -48,12 +47,7 @@ fn synthesise_counted<L: Ledger>(
 
 /// The synthesis of an instance, whose merges nobody counts.
 fn synthesise_alone(alloc: Global, instance: &Instance) -> Result<(Tree, Figures), NoTree>
-    ensures tree { IfOk result (λ r. IsSynthesis instance.now (made r.0)) }
-    ensures figures { IfOk result (λ r. AreFigures instance.now r.0 r.1) }
-    ensures sound { IfOk result (λ r. IsSound instance.now r.0) }
-    ensures printable { IfOk result (λ r. IsPrintable r.0 r.1) }
-    ensures right { IfOk result (λ r. IsRight instance.now (report_text r.0 r.1)) }
-    ensures ends { IfErr result (Ends instance.now) }
+    ensures { IsSynthesised instance.now result }
 {
     synthesise_counted::<Brand>(alloc, Blank::new(1), instance)
 }
@@ -68,6 +62,24 @@ fn write_no_tree<K: ByteSink>(sink: &mut K, why: &[u8], node: u32) -> Result<(),
     put_numbered(&mut out, sink, b" at node ", node as u64);
     out.put(sink, b"\n");
     out.finish(sink)
+}
+
+/// Writes that an instance has no tree, unless memory ran out.
+fn answer_no_tree<K: ByteSink>(
+    sink: &mut K,
+    instance: &Instance,
+    end: NoTree,
+) -> Result<Answer, Stop>
+    requires { Ends instance.now end }
+    ensures answers { (tell : TreeText) → Answers (TellsSynthesis tell instance.now) K.held K.faults sink.old sink.new result }
+    ensures told { TellsEnd (Err end) (status_of result) }
+{
+    let _die = instance.die();
+    match end {
+        NoTree::Beyond { node } => ended(write_no_tree(sink, b"beyond", node), Answer::NoTree),
+        NoTree::Cut { node } => ended(write_no_tree(sink, b"cut", node), Answer::NoTree),
+        NoTree::NoMemory => Err(Stop::NoMemory),
+    }
 }
 
 /// How a tree is told.
@@ -95,8 +107,29 @@ fn write_tree<K: ByteSink>(
     }
 }
 
-/// Writes the text for the synthesis of an instance: its tree, told so, or the line that says why it has
+/// Writes the text for a synthesis of an instance: its tree, told so, or the line that says why it has
 /// none.
+fn answer_synthesis<K: ByteSink>(
+    sink: &mut K,
+    telling: Telling,
+    instance: &Instance,
+    synthesis: Result<(Tree, Figures), NoTree>,
+) -> Result<Answer, Stop>
+    requires { IsSynthesised instance.now synthesis }
+    ensures answers { Answers (TellsSynthesis (told_by telling) instance.now) K.held K.faults sink.old sink.new result }
+    ensures told { TellsEnd synthesis (status_of result) }
+{
+    let _die = instance.die();
+    match synthesis {
+        Ok((tree, figures)) => {
+            let written = write_tree(sink, telling, instance, &tree, &figures);
+            ended(written, Answer::Text)
+        }
+        Err(end) => answer_no_tree(sink, instance, end),
+    }
+}
+
+/// Writes the text for the synthesis of an instance by one thread.
 pub fn answer_instance<K: ByteSink>(
     alloc: Global,
     sink: &mut K,
@@ -105,16 +138,26 @@ pub fn answer_instance<K: ByteSink>(
 ) -> Result<Answer, Stop>
     ensures { Answers (TellsSynthesis (told_by telling) instance.now) K.held K.faults sink.old sink.new result }
 {
-    let _die = instance.die();
-    match synthesise_alone(alloc, instance) {
-        Ok((tree, figures)) => {
-            let written = write_tree(sink, telling, instance, &tree, &figures);
-            ended(written, Answer::Text)
-        }
-        Err(NoTree::Beyond { node }) => {
-            ended(write_no_tree(sink, b"beyond", node), Answer::NoTree)
-        }
-        Err(NoTree::Cut { node }) => ended(write_no_tree(sink, b"cut", node), Answer::NoTree),
-        Err(NoTree::NoMemory) => Err(Stop::NoMemory),
-    }
+    answer_synthesis(sink, telling, instance, synthesise_alone(alloc, instance))
+}
+
+/// Writes the text for the synthesis of an instance by so many workers, and gives the table of the memo
+/// that they shared, unless memory ran out.
+pub fn answer_by_workers<R: Threads + Wait + Sync, K: ByteSink, G: Gate>(
+    rt: &R,
+    alloc: Global,
+    gate: &G,
+    sink: &mut K,
+    telling: Telling,
+    instance: &Instance,
+    workers: u32,
+) -> (Result<Answer, Stop>, Option<Table>)
+    requires some { 1 ≤ workers }
+    requires few { workers ≤ 64 }
+    ensures answers { Answers (TellsSynthesis (told_by telling) instance.now) K.held K.faults sink.old sink.new result.0 }
+    ensures kept { IsSome result.1 ↔ TellsOfTree (status_of result.0) }
+    ensures memo { IfSome result.1 (IsMemoOf instance.now) }
+{
+    let (synthesis, memo) = synthesise_by_workers(rt, alloc, gate, instance, workers);
+    (answer_synthesis(sink, telling, instance, synthesis), memo)
 }

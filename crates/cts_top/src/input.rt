@@ -3,10 +3,9 @@
 ghost use Rattle.std.specs.Prelude.{◌≡◌, ◌≤◌, length, drop, IfOk, IfErr, IsErrOf, Ok};
 ghost use Rattle.cts_read.specs.Grammar.{Refuses};
 ghost use Rattle.cts_top.specs.Input.{Spells, SpellsFront, input_limit, input_of};
-ghost use Rattle.cts_top.specs.Right.{Explains};
+ghost use Rattle.cts_top.specs.Right.{ExplainsFront, ExplainsWhole};
 
 use crate::stop::Stop;
-use crate::words::Form;
 use cts_instance::Instance;
 use cts_read::{ReadStop, read_instance, read_rest};
 use std::alloc::Global;
@@ -27,7 +26,7 @@ fn read_whole(alloc: Global, bytes: &[u8]) -> Result<Instance, ReadStop>
 pub fn read_input(alloc: Global, bytes: &[u8]) -> Result<Instance, Stop>
     requires { length bytes.now ≤ input_limit }
     ensures spells { IfOk result (Spells bytes.now) }
-    ensures explained { IfErr result (λ stop. Explains Form.Synth stop bytes.now) }
+    ensures explained { IfErr result (λ stop. ExplainsWhole stop bytes.now) }
     ensures words { IsErrOf result Stop.Words → ⊥ }
     ensures read_fault { IsErrOf result Stop.ReadFault → ⊥ }
     ensures write_fault { IsErrOf result Stop.WriteFault → ⊥ }
@@ -42,7 +41,7 @@ pub fn read_front(alloc: Global, bytes: &[u8]) -> Result<(Instance, usize), Stop
     requires { length bytes.now ≤ input_limit }
     ensures spells { IfOk result (λ r. SpellsFront bytes.now r.0 (drop r.1 bytes.now)) }
     ensures within { IfOk result (λ r. r.1 ≤ length bytes.now) }
-    ensures explained { IfErr result (λ stop. Explains Form.Check stop bytes.now) }
+    ensures explained { IfErr result (λ stop. ExplainsFront stop bytes.now) }
     ensures words { IsErrOf result Stop.Words → ⊥ }
     ensures read_fault { IsErrOf result Stop.ReadFault → ⊥ }
     ensures write_fault { IsErrOf result Stop.WriteFault → ⊥ }

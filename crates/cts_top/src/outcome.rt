@@ -1,5 +1,7 @@
 //! How a run ended.
 
+use cts_memo::Table;
+
 /// How a run ended.
 #[derive(Clone, Copy, Debug, PartialEq, Eq)]
 pub enum Status {
@@ -43,7 +45,9 @@ impl Status {
 }
 
 /// What a run tells its caller.
-#[derive(Clone, Copy, Debug, PartialEq, Eq)]
+#[derive(Drop)]
 pub struct Outcome {
     pub status: Status,
+    /// The table of the memo over which more than one worker made a tree, or found that there is none.
+    pub memo: Option<Table>,
 }

@@ -1,29 +1,37 @@
-//! What each form does.
+//! What each form does, by one thread or by the workers that it asks for.
 
-ghost use Rattle.std.specs.Prelude.{◌≡◌, ◌≤◌, ◌<◌, ◌^◌, [], length, drop, IfSome, IfOk, IfErr, OnOk, IsErrOf};
+ghost use Rattle.std.specs.Prelude.{◌≡◌, ◌≤◌, ◌<◌, ◌^◌, ◌↔◌, ℕ, [], length, drop, IfSome, IfOk, IfErr, OnOk, IsErrOf, IsSome};
 ghost use Rattle.std.specs.Io.KnownBytes.{IsAtEnd};
 ghost use Rattle.cts_io.specs.Faults.{Rose};
 ghost use Rattle.cts_top.specs.Input.{Spells, SpellsFront};
-ghost use Rattle.cts_top.specs.Outcome.{Serves};
-ghost use Rattle.cts_top.specs.Right.{Explains, IsRight};
+ghost use Rattle.cts_report.specs.Report.{summary_text};
+ghost use Rattle.cts_script.specs.Generator.{made_parts};
+ghost use Rattle.cts_top.specs.Memos.{HasWorkers, HoldsMemo, IsMemoOf, TellsOfTree};
+ghost use Rattle.cts_top.specs.Outcome.{Serves, status_of};
+ghost use Rattle.cts_top.specs.Right.{ExplainsFront, ExplainsWhole, IsRight};
+ghost use Rattle.cts_top.specs.Text.{TellsSynthesis};
 ghost use Rattle.cts_top.specs.Words.{IsWithinLimits};
 ghost use Rattle.cts_top.specs.Written.{Answers};
 
-use crate::answer::{Telling, answer_instance};
+use crate::answer::{Telling, answer_by_workers, answer_instance};
 use crate::input::{read_front, read_input};
 use crate::stop::{Answer, Stop, ended};
 use crate::verdict::answer_verdict;
-use crate::words::Form;
+use crate::words::{Form, is_alone};
 use cts_instance::Instance;
 use cts_io::{ByteSink, ByteSource, read_all};
+use cts_memo::Table;
+use cts_num::NoMemory;
 use cts_script::{make_instance, write_instance};
+use cts_work::Gate;
 use std::alloc::Global;
+use std::sync::Wait;
 use std::thread::Threads;
 
 /// The most bytes of an input that are accepted: 64 MiB.
 const INPUT_LIMIT: usize = 67_108_864;
 
-/// Does what a form asks for.
+/// Does what a form asks for by one thread.
 pub fn serve<R: Threads + Sync, S: ByteSource, K: ByteSink>(
     rt: &R,
     alloc: Global,
@@ -36,10 +44,10 @@ pub fn serve<R: Threads + Sync, S: ByteSource, K: ByteSink>(
     ensures words { IsErrOf result Stop.Words → ⊥ }
 {
     match form {
-        Form::Synth => serve_synth(alloc, source, sink),
+        Form::Synth { .. } => serve_synth(alloc, source, sink),
         Form::Check => serve_check(rt, alloc, source, sink),
         Form::Make { seed, sinks } => serve_make(alloc, sink, seed, sinks),
-        Form::Job { seed, sinks } => serve_job(alloc, sink, seed, sinks),
+        Form::Job { seed, sinks, .. } => serve_job(alloc, sink, seed, sinks),
     }
 }
 
@@ -49,7 +57,8 @@ fn serve_synth<S: ByteSource, K: ByteSink>(
     source: &mut S,
     sink: &mut K,
 ) -> Result<Answer, Stop>
-    ensures serves { Serves S.left S.faults K.held K.faults Form.Synth source.old source.new sink.old sink.new result }
+    ensures serves { (workers : ℕ)
+        → Serves S.left S.faults K.held K.faults (Form.Synth workers) source.old source.new sink.old sink.new result }
     ensures words { IsErrOf result Stop.Words → ⊥ }
 {
     let instance = read_source(alloc, source)?;
@@ -60,7 +69,7 @@ fn serve_synth<S: ByteSource, K: ByteSink>(
 fn read_source<S: ByteSource>(alloc: Global, source: &mut S) -> Result<Instance, Stop>
     ensures end { OnOk result (IsAtEnd (S.left source.new)) }
     ensures spells { IfOk result (λ instance. IfSome (S.left source.old) (λ bytes. Spells bytes instance)) }
-    ensures explained { IfErr result (λ stop. IfSome (S.left source.old) (Explains Form.Synth stop)) }
+    ensures explained { IfErr result (λ stop. IfSome (S.left source.old) (ExplainsWhole stop)) }
     ensures words { IsErrOf result Stop.Words → ⊥ }
     ensures read_fault { IsErrOf result Stop.ReadFault → Rose (S.faults source.old) (S.faults source.new) }
     ensures write_fault { IsErrOf result Stop.WriteFault → ⊥ }
@@ -97,7 +106,7 @@ fn read_front_source<S: ByteSource>(
     ensures end { OnOk result (IsAtEnd (S.left source.new)) }
     ensures spells { IfOk result (λ r. IfSome (S.left source.old) (λ bytes. SpellsFront bytes r.0 (drop r.2 r.1.items))) }
     ensures within { IfOk result (λ r. r.2 ≤ length r.1.items) }
-    ensures explained { IfErr result (λ stop. IfSome (S.left source.old) (Explains Form.Check stop)) }
+    ensures explained { IfErr result (λ stop. IfSome (S.left source.old) (ExplainsFront stop)) }
     ensures words { IsErrOf result Stop.Words → ⊥ }
     ensures read_fault { IsErrOf result Stop.ReadFault → Rose (S.faults source.old) (S.faults source.new) }
     ensures write_fault { IsErrOf result Stop.WriteFault → ⊥ }
@@ -134,8 +143,89 @@ fn serve_job<K: ByteSink>(
     requires seed { seed < 2 ^ 31 }
     requires some { 1 ≤ sinks }
     requires sinks { sinks ≤ 65536 }
-    ensures { Answers (IsRight (Form.Job seed sinks) []) K.held K.faults sink.old sink.new result }
+    ensures { Answers (TellsSynthesis summary_text (made_parts seed sinks)) K.held K.faults sink.old sink.new result }
 {
     let instance = make_instance(alloc, seed, sinks)?;
     answer_instance(alloc, sink, Telling::Summary, &instance)
+}
+
+/// Does what a form asks for, by as many workers as it asks for, and gives the table of the memo that
+/// they shared.
+pub fn serve_by_workers<R: Threads + Wait + Sync, S: ByteSource, K: ByteSink, G: Gate>(
+    rt: &R,
+    alloc: Global,
+    gate: &G,
+    form: Form,
+    source: &mut S,
+    sink: &mut K,
+) -> (Result<Answer, Stop>, Option<Table>)
+    requires within { IsWithinLimits form }
+    ensures serves { Serves S.left S.faults K.held K.faults form source.old source.new sink.old sink.new result.0 }
+    ensures words { IsErrOf result.0 Stop.Words → ⊥ }
+    ensures kept { IsSome result.1 ↔ (HasWorkers form × TellsOfTree (status_of result.0)) }
+    ensures memo { HoldsMemo form (S.left source.old) result.1 }
+{
+    if is_alone(form) {
+        return (serve(rt, alloc, form, source, sink), None);
+    }
+    match form {
+        Form::Synth { workers } => synth_by_workers(rt, alloc, gate, source, sink, workers),
+        Form::Job {
+            seed,
+            sinks,
+            workers,
+        } => job_by_workers(rt, alloc, gate, sink, seed, sinks, workers),
+        Form::Check | Form::Make { .. } => (serve(rt, alloc, form, source, sink), None),
+    }
+}
+
+/// Reads an instance, and writes the report of its tree, which so many workers make.
+fn synth_by_workers<R: Threads + Wait + Sync, S: ByteSource, K: ByteSink, G: Gate>(
+    rt: &R,
+    alloc: Global,
+    gate: &G,
+    source: &mut S,
+    sink: &mut K,
+    workers: u32,
+) -> (Result<Answer, Stop>, Option<Table>)
+    requires some { 1 ≤ workers }
+    requires few { workers ≤ 64 }
+    ensures serves { Serves S.left S.faults K.held K.faults (Form.Synth workers) source.old source.new sink.old sink.new result.0 }
+    ensures words { IsErrOf result.0 Stop.Words → ⊥ }
+    ensures kept { IsSome result.1 ↔ TellsOfTree (status_of result.0) }
+    ensures memo { HoldsMemo (Form.Synth workers) (S.left source.old) result.1 }
+{
+    match read_source(alloc, source) {
+        Ok(instance) => {
+            answer_by_workers(rt, alloc, gate, sink, Telling::Report, &instance, workers)
+        }
+        Err(stop) => (Err(stop), None),
+    }
+}
+
+/// Writes the summary of the tree of the instance that is made from a seed, which so many workers make.
+fn job_by_workers<R: Threads + Wait + Sync, K: ByteSink, G: Gate>(
+    rt: &R,
+    alloc: Global,
+    gate: &G,
+    sink: &mut K,
+    seed: u32,
+    sinks: u32,
+    workers: u32,
+) -> (Result<Answer, Stop>, Option<Table>)
+    requires seed { seed < 2 ^ 31 }
+    requires some { 1 ≤ sinks }
+    requires sinks { sinks ≤ 65536 }
+    requires some_worker { 1 ≤ workers }
+    requires few { workers ≤ 64 }
+    ensures answers { Answers (TellsSynthesis summary_text (made_parts seed sinks)) K.held K.faults sink.old sink.new result.0 }
+    ensures kept { IsSome result.1 ↔ TellsOfTree (status_of result.0) }
+    ensures memo { IfSome result.1 (IsMemoOf (made_parts seed sinks)) }
+{
+    match make_instance(alloc, seed, sinks) {
+        Ok(instance) => {
+            answer_by_workers(rt, alloc, gate, sink, Telling::Summary, &instance, workers)
+        }
+        Err(NoMemory) => (Err(Stop::NoMemory), None),
+    }
 }

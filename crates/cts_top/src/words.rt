@@ -1,24 +1,24 @@
 //! The words that the program is called with.
 
 ghost use Rattle.std.specs.Prelude.{◌≡◌, ◌↔◌, ◌≤◌, ◌<◌, ◌^◌, ℕ, Some, IsTrue, codes, [], ◌∷◌};
-ghost use Rattle.cts_top.specs.Words.{AreMade, AsksFor, IsForm, IsNumber};
+ghost use Rattle.cts_top.specs.Words.{AreMade, AsksFor, IsAlone, IsForm, IsFormAlone, IsNumber, IsWorkers};
 
 use cts_num::read_decimal;
 
 /// What the words ask for.
 #[derive(Clone, Copy)]
 pub enum Form {
-    /// The report of the tree of the instance that the input spells.
-    Synth,
+    /// The report of the tree of the instance that the input spells, made by so many workers.
+    Synth { workers: u32 },
     /// The verdict on the report that follows the instance in the input.
     Check,
     /// The text of the instance that is made from a seed, with so many sinks.
     Make { seed: u32, sinks: u32 },
-    /// The summary of the tree of that instance.
-    Job { seed: u32, sinks: u32 },
+    /// The summary of the tree of that instance, made by so many workers.
+    Job { seed: u32, sinks: u32, workers: u32 },
 }
 
-/// What the words ask for: `synth 1`, `check`, `make SEED N` or `job SEED N 1`.
+/// What the words ask for: `synth W`, `check`, `make SEED N` or `job SEED N W`.
 pub fn form_of(words: &[String]) -> Option<Form>
     ensures { (form : Form) → (result ≡ Some form) ↔ IsForm words.now form }
 {
@@ -36,6 +36,32 @@ pub fn form_of(words: &[String]) -> Option<Form>
     }
 }
 
+/// The same, where it is one of the forms without more than one worker.
+pub fn form_alone(words: &[String]) -> Option<Form>
+    ensures { (form : Form) → (result ≡ Some form) ↔ IsFormAlone words.now form }
+{
+    match form_of(words) {
+        Some(form) => alone(form),
+        None => None,
+    }
+}
+
+fn alone(form: Form) -> Option<Form>
+    ensures { (other : Form) → (result ≡ Some other) ↔ ((other ≡ form) × IsAlone other) }
+{
+    if is_alone(form) { Some(form) } else { None }
+}
+
+/// Whether a form has at most one worker.
+pub fn is_alone(form: Form) -> bool
+    ensures { IsTrue result ↔ IsAlone form }
+{
+    match form {
+        Form::Synth { workers } | Form::Job { workers, .. } => workers == 1,
+        Form::Check | Form::Make { .. } => true,
+    }
+}
+
 fn check(name: &[u8]) -> Option<Form>
     ensures { (form : Form) → (result ≡ Some form) ↔ AsksFor (name.now ∷ []) form }
 {
@@ -49,10 +75,20 @@ fn check(name: &[u8]) -> Option<Form>
 fn synth(name: &[u8], workers: &[u8]) -> Option<Form>
     ensures { (form : Form) → (result ≡ Some form) ↔ AsksFor (name.now ∷ workers.now ∷ []) form }
 {
-    if name == b"synth".as_slice() && is_number(workers, 1) {
-        Some(Form::Synth)
+    if name == b"synth".as_slice() {
+        synth_of(workers)
     } else {
         None
+    }
+}
+
+/// The synthesis by as many workers as a word says.
+fn synth_of(workers: &[u8]) -> Option<Form>
+    ensures { (form : Form) → (result ≡ Some form) ↔ AsksFor (codes "synth" ∷ workers.now ∷ []) form }
+{
+    match workers_of(workers) {
+        Some(workers) => Some(Form::Synth { workers }),
+        None => None,
     }
 }
 
@@ -92,13 +128,16 @@ fn job_of(seed: &[u8], sinks: &[u8], workers: &[u8]) -> Option<Form>
     ensures { (form : Form) → (result ≡ Some form)
         ↔ AsksFor (codes "job" ∷ seed.now ∷ sinks.now ∷ workers.now ∷ []) form }
 {
-    if is_number(workers, 1) {
-        match made(seed, sinks) {
-            Some((seed, sinks)) => Some(Form::Job { seed, sinks }),
+    match workers_of(workers) {
+        Some(workers) => match made(seed, sinks) {
+            Some((seed, sinks)) => Some(Form::Job {
+                seed,
+                sinks,
+                workers,
+            }),
             None => None,
-        }
-    } else {
-        None
+        },
+        None => None,
     }
 }
 
@@ -108,6 +147,13 @@ fn made(seed: &[u8], sinks: &[u8]) -> Option<(u32, u32)>
     ensures { (s n : ℕ) → (result ≡ Some (s, n)) ↔ AreMade seed.now sinks.now s n }
 {
     number(seed, 0, 2_147_483_647).zip(number(sinks, 1, 65_536))
+}
+
+/// The number of workers that a word is.
+fn workers_of(word: &[u8]) -> Option<u32>
+    ensures { (n : ℕ) → (result ≡ Some n) ↔ IsWorkers word.now n }
+{
+    number(word, 1, 64)
 }
 
 /// The number that a word is, where it is within these limits.
@@ -120,11 +166,4 @@ fn number(word: &[u8], least: u32, most: u32) -> Option<u32>
     } else {
         None
     }
-}
-
-/// Whether a word is this number.
-fn is_number(word: &[u8], number: u64) -> bool
-    ensures { IsTrue result ↔ IsNumber word.now number }
-{
-    matches!(read_decimal(word, 0), Ok(read) if read == number)
 }

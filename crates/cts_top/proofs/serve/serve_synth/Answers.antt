@@ -2,8 +2,8 @@ use Rattle.cts_top.proofs.Serving.{answers_no_words, serves_synth}
 use Rattle.cts_top.proofs.serve.serve_synth.Goals as goal
 
 pub returns-clause-serves : goal.returns-clause-serves
-returns-clause-serves g c =
-    serves_synth _ _ _ _ _ _ _ _ c.answer_instance.result _ c.in_ok-instance.ensures.end c.in_ok-instance.ensures.spells
+returns-clause-serves g c = λ workers.
+    serves_synth _ _ _ _ _ _ _ _ c.answer_instance.result workers _ c.in_ok-instance.ensures.end c.in_ok-instance.ensures.spells
     c.in_ok-instance.ensures.counted c.answer_instance.ensures
 
 pub returns-clause-words : goal.returns-clause-words

@@ -1,6 +1,6 @@
 use Rattle.cts_top.specs.Notes.{note_of, stop_note}
 use Rattle.cts_top.proofs.Endings.{whole_at}
-use Rattle.cts_top.proofs.run.end_without_memory.Goals as goal
+use Rattle.cts_top.proofs.calls.end_without_memory.Goals as goal
 
 pub returns-clause-note : goal.returns-clause-note
 unfolding note_of stop_note

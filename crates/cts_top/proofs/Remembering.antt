@@ -1,0 +1,121 @@
+-- The memo of a run, by the synthesis that was made over it.
+use Rattle.std.proofs.Common.{◌≡◌, ◌≤◌, ◌↔◌, ◌⊎◌, ℕ, inl, List, length, Option, None, Some, IfSome, IsSome, Result, Ok, Err, IfErr, OnOk, IsErrOf, refl, sym, subst, arith}
+use Rattle.cts_instance.specs.declared.parts.Parts.{Parts}
+use Rattle.cts_instance.specs.Validity.{IsValid}
+use Rattle.cts_io.specs.declared.write.WriteEnd.{WriteEnd}
+use Rattle.cts_topo.specs.declared.shape.ShapeNode.{ShapeNode}
+use Rattle.cts_topo.specs.Topology.{shape_of}
+use Rattle.cts_tree.specs.declared.nodes.TreeNode.{TreeNode}
+use Rattle.cts_up.specs.Ends.{Ends}
+use Rattle.cts_up.specs.Plan.{IsLeastBeyond}
+use Rattle.cts_up.specs.declared.end.UpEnd.{UpEnd}
+use Rattle.cts_up.specs.declared.end.UpEnd.TheVariants as up
+use Rattle.cts_elmore.specs.declared.figures.Figures.{Figures}
+use Rattle.cts_memo.specs.declared.table.Table.{Table}
+use Rattle.cts_memo.specs.Numbers.{AreKnown}
+use Rattle.cts_memo.specs.Sound.{IsSound, max_entries}
+use Rattle.cts_memo.specs.Tables.{base_of, told_by}
+use Rattle.cts_plain.specs.declared.end.NoTree.{NoTree}
+use Rattle.cts_plain.specs.declared.end.NoTree.TheVariants as end
+use Rattle.cts_plain.specs.Synthesis.{IsSynthesis, made, beyond}
+use Rattle.cts_script.specs.Generator.{made_parts}
+use Rattle.cts_top.specs.declared.stop.Answer.{Answer}
+use Rattle.cts_top.specs.declared.stop.Stop.{Stop}
+use Rattle.cts_top.specs.declared.stop.Stop.TheVariants as stop
+use Rattle.cts_top.specs.declared.outcome.Status.{Status}
+use Rattle.cts_top.specs.declared.words.Form.{Form}
+use Rattle.cts_top.specs.declared.words.Form.TheVariants.{Synth, Check, Make, Job}
+use Rattle.cts_top.specs.Input.{Spells}
+use Rattle.cts_top.specs.Memos.{HasWorkers, HoldsMemo, IsKept, IsMemoOf, TellsEnd, TellsOfTree}
+use Rattle.cts_top.specs.Outcome.{status_of}
+use Rattle.cts_top.specs.Words.{IsAlone}
+use Rattle.cts_top.specs.Written.{ended_of}
+use Rattle.cts_top.proofs.Endings.{one_instance}
+use Rattle.cts_top.proofs.Serving.{on_left}
+use Rattle.cts_top.proofs.Valid.{synthesis_same}
+
+-- an answer of a synthesis
+abbrev Made : Type 0
+Made = Result (List TreeNode × Figures) NoTree
+
+-- what is known of a plan is known where there is a tree
+with_tree : {P : Type 0} (i : Parts) → IsValid i → (shape : List ShapeNode) → shape ≡ shape_of i.sinks → (plan : Result P UpEnd) (K : Type 0)
+    → OnOk plan K → IfErr plan (Ends i.params i.sinks shape) → (IsErrOf plan up.NoMemory → ⊥)
+    → (tree : List TreeNode) → IsSynthesis i (made tree) → K
+with_tree i valid shape e (Ok p) K known ends not tree is = known
+with_tree i valid shape e (Err (up.Beyond n)) K known ends not tree is =
+    let other : IsSynthesis i (beyond n) = inl (subst (λ s. IsLeastBeyond i.params i.sinks s n) e ends) in
+    let same : made tree ≡ beyond n = synthesis_same i valid (made tree) (beyond n) is other in
+    absurd cc
+with_tree i valid shape e (Err up.NoMemory) K known ends not tree is = absurd (not refl)
+
+-- memory didn't run out where a table is kept
+not_kept : (synthesis : Made) (table : Table) → IsKept synthesis (Some table) → IsErrOf synthesis end.NoMemory → ⊥
+not_kept (Ok r) table k e = cc
+not_kept (Err (end.Beyond n)) table k e = cc
+not_kept (Err (end.Cut n)) table k e = cc
+not_kept (Err end.NoMemory) table k e = k refl
+
+pub memo_of : {P : Type 0} (i : Parts) → IsValid i → (shape : List ShapeNode) → shape ≡ shape_of i.sinks → (plan : Result P UpEnd) (synthesis : Made)
+    (table : Table) → base_of table ≡ i.params → IsSound (base_of table) (told_by table)
+    → OnOk plan ((length (told_by table) ≡ max_entries) ⊎ AreKnown (told_by table) i.sinks shape) → IfErr plan (Ends i.params i.sinks shape)
+    → (IsErrOf plan up.NoMemory → IsErrOf synthesis end.NoMemory)
+    → (memo : Option Table) → IsKept synthesis memo → IfSome memo (λ kept. kept ≡ table) → IfSome memo (IsMemoOf i)
+memo_of i valid shape e plan synthesis table base sound known ends out None kept same = tt
+memo_of i valid shape e plan synthesis table base sound known ends out (Some t) kept same =
+    subst (IsMemoOf i) (sym same)
+    (record {
+      base = base;
+      sound = subst (λ p. IsSound p (told_by table)) base sound;
+      known = λ tree is.
+          subst (λ s. (length (told_by table) ≡ max_entries) ⊎ AreKnown (told_by table) i.sinks s) e
+          (with_tree i valid shape e plan _ known ends (λ n. not_kept synthesis t kept (out n)) tree is);
+    })
+
+-- a written text tells of the tree, whole or in part
+pub tells_ended : (written : Result Unit WriteEnd) (kind : Answer) → TellsOfTree (status_of (Ok kind)) → TellsOfTree (status_of (ended_of written kind))
+tells_ended (Ok done) kind t = t
+tells_ended (Err end) kind t = tt
+
+-- the table is kept exactly where the status tells of the tree
+pub kept_told : (synthesis : Made) (s : Status) (memo : Option Table) → IsKept synthesis memo → TellsEnd synthesis s → IsSome memo ↔ TellsOfTree s
+kept_told (Ok r) s memo kept told = (λ m. told, λ t. kept)
+kept_told (Err (end.Beyond n)) s memo kept told = (λ m. told, λ t. kept)
+kept_told (Err (end.Cut n)) s memo kept told = (λ m. told, λ t. kept)
+kept_told (Err end.NoMemory) s memo kept told = (λ m. absurd (kept m), λ t. absurd (told t))
+
+-- a run that stopped before it wrote tells of no tree
+pub stopped_untold : (end : Stop) → (IsErrOf {T = Answer} (Err end) stop.WriteFault → ⊥) → TellsOfTree (status_of (Err end)) → ⊥
+stopped_untold stop.Words n t = t
+stopped_untold stop.TooLong n t = t
+stopped_untold (stop.Refused line cause) n t = t
+stopped_untold stop.ReadFault n t = t
+stopped_untold stop.WriteFault n t = n refl
+stopped_untold stop.NoMemory n t = t
+
+-- the memo of a run that has read an instance
+pub holds_synth : (workers : ℕ) (left : Option (List ℕ)) (i : Parts) (memo : Option Table) → IfSome left (λ b. Spells b i) → IfSome memo (IsMemoOf i)
+    → HoldsMemo (Synth workers) left memo
+holds_synth workers left i None spells is = tt
+holds_synth workers left i (Some table) spells is =
+    on_left left (λ b. Spells b i) (λ b. (j : Parts) → Spells b j → IsMemoOf j table)
+    (λ b s j other. subst (λ p. IsMemoOf p table) (one_instance b i j s other) is) spells
+
+-- and of one that made it
+pub holds_job : (seed sinks workers : ℕ) (left : Option (List ℕ)) (memo : Option Table) → IfSome memo (IsMemoOf (made_parts seed sinks))
+    → HoldsMemo (Job seed sinks workers) left memo
+holds_job seed sinks workers left None is = tt
+holds_job seed sinks workers left (Some table) is = λ j same. subst (λ p. IsMemoOf p table) (sym same) is
+
+-- a form of one thread keeps no memo
+pub alone_keeps_none : (form : Form) (X : Type 0) → IsAlone form → HasWorkers form × X → ⊥
+alone_keeps_none (Synth workers) X one has = omega (arith, one, has.0)
+alone_keeps_none Check X one has = has.0
+alone_keeps_none (Make seed sinks) X one has = has.0
+alone_keeps_none (Job seed sinks workers) X one has = omega (arith, one, has.0)
+
+pub more_workers : (workers : ℕ) → 1 ≤ workers → (workers ≡ 1 → ⊥) → 2 ≤ workers
+more_workers workers some not = omega (arith, some, not)
+
+pub with_workers : (P Q H : Type 0) → P ↔ Q → H → P ↔ (H × Q)
+with_workers P Q H both h = (λ p. (h, both.0 p), λ q. both.1 q.1)

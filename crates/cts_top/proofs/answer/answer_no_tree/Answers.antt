@@ -1,0 +1,25 @@
+use Rattle.std.proofs.Common.{codes, subst}
+use Rattle.cts_plain.specs.Ends.{Ends}
+use Rattle.cts_top.specs.declared.stop.Answer.TheVariants as answer
+use Rattle.cts_top.specs.Text.{TellsSynthesis, no_tree_text}
+use Rattle.cts_top.proofs.Told.{beyond_told, cut_told}
+use Rattle.cts_top.proofs.Writing.{answers_by}
+use Rattle.cts_top.proofs.answer.answer_no_tree.Goals as goal
+
+pub returns-in-Beyond-clause-answers : goal.returns-in-Beyond-clause-answers
+returns-in-Beyond-clause-answers g c = λ tell.
+    rw c.ended.ensures
+    (answers_by (TellsSynthesis tell c.args.instance.now) _ _ _ _ answer.NoTree (no_tree_text (codes "beyond") c.in-Beyond.node)
+    c.write_no_tree.result
+    (beyond_told tell c.args.instance.now c.in-Beyond.node c.die-die.ensures.valid
+    (subst (Ends c.args.instance.now) c.in-Beyond.is c.requires))
+    c.write_no_tree.ensures)
+
+pub returns-in-Cut-clause-answers : goal.returns-in-Cut-clause-answers
+returns-in-Cut-clause-answers g c = λ tell.
+    rw c.ended-in-Cut.ensures
+    (answers_by (TellsSynthesis tell c.args.instance.now) _ _ _ _ answer.NoTree (no_tree_text (codes "cut") c.in-Cut.node)
+    c.write_no_tree-in-Cut.result
+    (cut_told tell c.args.instance.now c.in-Cut.node c.die-die.ensures.valid
+    (subst (Ends c.args.instance.now) c.in-Cut.is c.requires))
+    c.write_no_tree-in-Cut.ensures)

@@ -1,0 +1,15 @@
+use Rattle.cts_top.specs.Text.{told_by}
+use Rattle.cts_top.proofs.Synthesising.{tree_of}
+use Rattle.cts_top.proofs.Writing.{answers_by}
+use Rattle.cts_top.proofs.answer.answer_synthesis.Goals as goal
+
+pub returns-in-Ok-clause-answers : goal.returns-in-Ok-clause-answers
+returns-in-Ok-clause-answers g c =
+    rw c.ended.ensures
+    (answers_by _ _ _ _ _ _ _ c.write_tree-written.result
+    (tree_of (told_by c.args.telling) c.args.instance.now c.args.synthesis c.in-Ok.tree c.in-Ok.figures c.die-die.ensures.valid c.in-Ok.is
+    c.requires)
+    c.write_tree-written.ensures)
+
+pub returns-in-Err-clause-answers : goal.returns-in-Err-clause-answers
+returns-in-Err-clause-answers g c = c.answer_no_tree.ensures.answers (told_by c.args.telling)

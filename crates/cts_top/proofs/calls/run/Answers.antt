@@ -1,0 +1,9 @@
+use Rattle.cts_top.specs.Words.{IsForm}
+use Rattle.cts_top.proofs.Running.{runs}
+use Rattle.cts_top.proofs.calls.run.Goals as goal
+
+pub returns-clause-runs : goal.returns-clause-runs
+returns-clause-runs g c =
+    rw c.status_of.ensures
+    (runs _ _ _ _ (IsForm c.args.words.now) _ _ _ _ _ _ _ _ c.answer-ending.result.0 c.write_note.result c.answer-ending.ensures.answers
+    c.write_note.ensures)

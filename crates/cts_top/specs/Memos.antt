@@ -1,0 +1,76 @@
+-- What the memo of a run holds, and when a run keeps it.
+use Rattle.std.specs.Prelude.{◌≡◌, ◌⊎◌, ◌≤◌, ℕ, List, length, Option, IfSome, IsSome, Result, Ok, Err}
+use Rattle.cts_instance.specs.declared.parts.Parts.{Parts}
+use Rattle.cts_topo.specs.Topology.{shape_of}
+use Rattle.cts_tree.specs.declared.nodes.TreeNode.{TreeNode}
+use Rattle.cts_elmore.specs.declared.figures.Figures.{Figures}
+use Rattle.cts_memo.specs.declared.table.Table.{Table}
+use Rattle.cts_memo.specs.Numbers.{AreKnown}
+use Rattle.cts_memo.specs.Sound.{IsSound, max_entries}
+use Rattle.cts_memo.specs.Tables.{base_of, told_by}
+use Rattle.cts_plain.specs.declared.end.NoTree.{NoTree}
+use Rattle.cts_plain.specs.declared.end.NoTree.TheVariants as end
+use Rattle.cts_plain.specs.Synthesis.{IsSynthesis, made}
+use Rattle.cts_script.specs.Generator.{made_parts}
+use Rattle.cts_top.specs.declared.outcome.Status.{Status}
+use Rattle.cts_top.specs.declared.outcome.Status.TheVariants as status
+use Rattle.cts_top.specs.declared.words.Form.{Form}
+use Rattle.cts_top.specs.declared.words.Form.TheVariants.{Synth, Check, Make, Job}
+use Rattle.cts_top.specs.Input.{Spells}
+use Rattle.cts_top.specs.Right.{OfInput}
+
+-- A table is that of a memo over which an instance was synthesised: its entries were made with the instance's parameters,
+-- and it is sound. Where the instance has a tree, the table has as many entries as it can have, or a number for every node of
+-- the shape of the sinks.
+pub record IsMemoOf (i : Parts) (table : Table) : Type 0 where
+  pub base : base_of table ≡ i.params
+  pub sound : IsSound i.params (told_by table)
+  pub known : (tree : List TreeNode) → IsSynthesis i (made tree)
+      → (length (told_by table) ≡ max_entries) ⊎ AreKnown (told_by table) i.sinks (shape_of i.sinks)
+
+-- at these statuses a run tells of a synthesis: a tree, or that there is none, whole or in part
+abbrev pub TellsOfTree : Status → Type 0
+TellsOfTree status.Done = Unit
+TellsOfTree status.No = ⊥
+TellsOfTree status.Words = ⊥
+TellsOfTree status.Refused = ⊥
+TellsOfTree status.NoTree = Unit
+TellsOfTree status.ReadFault = ⊥
+TellsOfTree status.WriteFault = Unit
+TellsOfTree status.NoMemory = ⊥
+
+-- a table is kept exactly where memory did not run out
+abbrev pub IsKept : Result (List TreeNode × Figures) NoTree → Option Table → Type 0
+IsKept (Ok r) memo = IsSome memo
+IsKept (Err (end.Beyond node)) memo = IsSome memo
+IsKept (Err (end.Cut node)) memo = IsSome memo
+IsKept (Err end.NoMemory) memo = IsSome memo → ⊥
+
+-- a run that tells of this answer of a synthesis has such a status
+abbrev pub TellsEnd : Result (List TreeNode × Figures) NoTree → Status → Type 0
+TellsEnd (Ok r) s = TellsOfTree s
+TellsEnd (Err (end.Beyond node)) s = TellsOfTree s
+TellsEnd (Err (end.Cut node)) s = TellsOfTree s
+TellsEnd (Err end.NoMemory) s = TellsOfTree s → ⊥
+
+-- a form whose tree is made by more than one worker
+abbrev pub HasWorkers : Form → Type 0
+HasWorkers (Synth workers) = 2 ≤ workers
+HasWorkers Check = ⊥
+HasWorkers (Make seed sinks) = ⊥
+HasWorkers (Job seed sinks workers) = 2 ≤ workers
+
+-- a run keeps its memo, where `Asks` says what its words ask for and this is its status
+abbrev pub KeepsMemo : (Form → Type 0) → Status → Type 0
+KeepsMemo Asks s = (form : Form) × Asks form × HasWorkers form × TellsOfTree s
+
+-- the instance that a form's tree is of, where these bytes were the input
+abbrev pub IsInstance : Form → List ℕ → Parts → Type 0
+IsInstance (Synth workers) bytes i = Spells bytes i
+IsInstance Check bytes i = ⊥
+IsInstance (Make seed sinks) bytes i = ⊥
+IsInstance (Job seed sinks workers) bytes i = i ≡ made_parts seed sinks
+
+-- the memo of a run on a form is that of the instance, where the input tells it
+abbrev pub HoldsMemo : Form → Option (List ℕ) → Option Table → Type 0
+HoldsMemo form left memo = IfSome memo (λ table. OfInput form left (λ bytes. (i : Parts) → IsInstance form bytes i → IsMemoOf i table))

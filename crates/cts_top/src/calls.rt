@@ -1,0 +1,171 @@
+//! The top calls: words, an input and an output to a status.
+
+ghost use Rattle.std.specs.Prelude.{◌≡◌, ◌≤◌, ◌↔◌, None, IsSome, codes};
+ghost use Rattle.std.specs.Io.KnownBytes.{Appends};
+ghost use Rattle.cts_io.specs.Faults.{Rose};
+ghost use Rattle.cts_top.specs.Memos.{HoldsMemo, KeepsMemo};
+ghost use Rattle.cts_top.specs.Outcome.{status_of};
+ghost use Rattle.cts_top.specs.Runs.{AnswersWords, Runs};
+ghost use Rattle.cts_top.specs.Words.{IsForm, IsFormAlone};
+
+use crate::notes::write_note;
+use crate::outcome::{Outcome, Status};
+use crate::serve::{serve, serve_by_workers};
+use crate::stop::{Answer, Stop, status_of};
+use crate::words::{Form, form_alone, form_of};
+use cts_io::{ByteSink, ByteSource};
+use cts_memo::Table;
+use cts_work::Gate;
+use std::alloc::Global;
+use std::sync::Wait;
+use std::thread::Threads;
+
+/// Does what the words ask for, where one thread serves it.
+fn answer_alone<R: Threads + Sync, S: ByteSource, K: ByteSink>(
+    rt: &R,
+    alloc: Global,
+    words: &[String],
+    source: &mut S,
+    sink: &mut K,
+) -> Result<Answer, Stop>
+    ensures { AnswersWords S.left S.faults K.held K.faults (IsFormAlone words.now) source.old source.new sink.old sink.new result }
+{
+    match form_alone(words) {
+        Some(form) => serve(rt, alloc, form, source, sink),
+        None => Err(Stop::Words),
+    }
+}
+
+/// Does what the words ask for, by as many workers as they ask for, and gives the table of the memo that
+/// these shared.
+fn answer<R: Threads + Wait + Sync, S: ByteSource, K: ByteSink, G: Gate>(
+    rt: &R,
+    alloc: Global,
+    words: &[String],
+    source: &mut S,
+    sink: &mut K,
+    gate: &G,
+) -> (Result<Answer, Stop>, Option<Table>)
+    ensures answers { AnswersWords S.left S.faults K.held K.faults (IsForm words.now) source.old source.new sink.old sink.new result.0 }
+    ensures kept { IsSome result.1 ↔ KeepsMemo (IsForm words.now) (status_of result.0) }
+    ensures memo { (form : Form) → IsForm words.now form → HoldsMemo form (S.left source.old) result.1 }
+{
+    match form_of(words) {
+        Some(form) => serve_by_workers(rt, alloc, gate, form, source, sink),
+        None => (Err(Stop::Words), None),
+    }
+}
+
+/// Runs the program on its words, its input and its output, and tells the notes why nothing came
+/// out whole where nothing did. The words are `synth W`, `check`, `make SEED N` or `job SEED N W`, with W
+/// from 1 to 64.
+///
+/// - `Done`: the text was written, and nothing else. For `synth W` it is the report of the instance that
+///   the input spells, the same for every number of workers; for `check` the line `yes`, since what
+///   follows the instance in the input is the report of a sound tree; for `make` the canonical text of the
+///   instance that is made from the seed; for `job` the summary of that instance's tree.
+/// - `No`: exactly where what follows the instance is not that; the line that says at which line it is no
+///   text of a report, or which rule it breaks first at which node, was written, and nothing else.
+/// - `NoTree`: the instance has no tree, since a node is beyond the limits or no route reaches it; the
+///   line that says so was written, and nothing else.
+/// - `Words`: exactly where the words are none of these forms; source and sink are as they were.
+/// - `Refused`: exactly where an input is read that spells no instance, or for `check` begins with none, or
+///   is longer than 64 MiB; the sink is as it was.
+/// - `ReadFault`, `WriteFault`: only where the count of faults of source or sink rose in this call.
+///   After a write fault the sink holds its old bytes and a front of the text.
+/// - `NoMemory`: after the words and before the first write; the sink is as it was.
+///
+/// `make` and `job` leave the source as it is. The notes get at most one line. Where they fail, nothing
+/// else changes.
+///
+/// More than one worker share a memo of the subtrees that are done. The outcome has its table at the
+/// statuses `Done`, `NoTree` and `WriteFault`. The gate is called as the workers go. One worker goes the
+/// way of [`run_alone`], without a memo.
+///
+/// The workers wait for each other, so no clause says that this call returns.
+pub fn run<R: Threads + Wait + Sync, S: ByteSource, K: ByteSink, N: ByteSink, G: Gate>(
+    rt: &R,
+    alloc: Global,
+    words: &[String],
+    source: &mut S,
+    sink: &mut K,
+    notes: &mut N,
+    gate: &G,
+) -> Outcome
+    ensures runs { Runs S.left S.faults K.held K.faults N.held N.faults (IsForm words.now)
+        source.old source.new sink.old sink.new notes.old notes.new result.status }
+
+    // The memo is there exactly where more than one worker went and the status tells of a tree ..
+    ensures memo_kept { IsSome result.memo ↔ KeepsMemo (IsForm words.now) result.status }
+    // .. and it is that of the instance.
+    ensures memo { (form : Form) → IsForm words.now form → HoldsMemo form (S.left source.old) result.memo }
+{
+    let (ending, memo) = answer(rt, alloc, words, source, sink, gate);
+    // A note that can't be written changes nothing.
+    let _ = write_note(notes, &ending);
+    Outcome {
+        status: status_of(&ending),
+        memo,
+    }
+}
+
+/// Runs the program on its words, its input and its output, and tells the notes why nothing came
+/// out whole where nothing did. The words are `synth 1`, `check`, `make SEED N` or `job SEED N 1`. It takes
+/// one thread, but for sums of `check`, and returns.
+///
+/// What it does is what [`run`] does on these words, and on others it ends with `Words`.
+///
+/// - `Done`: the text was written, and nothing else. For `synth 1` it is the report of the instance that
+///   the input spells; for `check` the line `yes`, since what follows the instance in the input is the
+///   report of a sound tree; for `make` the canonical text of the instance that is made from the seed; for
+///   `job` the summary of that instance's tree.
+/// - `No`: exactly where what follows the instance is not that; the line that says at which line it is no
+///   text of a report, or which rule it breaks first at which node, was written, and nothing else.
+/// - `NoTree`: the instance has no tree, since a node is beyond the limits or no route reaches it; the
+///   line that says so was written, and nothing else.
+/// - `Words`: exactly where the words are none of these forms; source and sink are as they were.
+/// - `Refused`: exactly where an input is read that spells no instance, or for `check` begins with none, or
+///   is longer than 64 MiB; the sink is as it was.
+/// - `ReadFault`, `WriteFault`: only where the count of faults of source or sink rose in this call.
+///   After a write fault the sink holds its old bytes and a front of the text.
+/// - `NoMemory`: after the words and before the first write; the sink is as it was.
+///
+/// `make` and `job` leave the source as it is. The notes get at most one line. Where they fail, nothing
+/// else changes.
+pub fn run_alone<R: Threads + Sync, S: ByteSource, K: ByteSink, N: ByteSink>(
+    rt: &R,
+    alloc: Global,
+    words: &[String],
+    source: &mut S,
+    sink: &mut K,
+    notes: &mut N,
+) -> Outcome
+    ensures runs { Runs S.left S.faults K.held K.faults N.held N.faults (IsFormAlone words.now)
+        source.old source.new sink.old sink.new notes.old notes.new result.status }
+    ensures memo { result.memo ≡ None }
+{
+    let ending = answer_alone(rt, alloc, words, source, sink);
+    // A note that can't be written changes nothing.
+    let _ = write_note(notes, &ending);
+    Outcome {
+        status: status_of(&ending),
+        memo: None,
+    }
+}
+
+/// Ends a run whose words found no memory, and tells the notes so.
+pub fn end_without_memory<N: ByteSink>(notes: &mut N) -> Outcome
+    ensures status { result.status ≡ Status.NoMemory }
+    ensures memo { result.memo ≡ None }
+    ensures counted { N.faults notes.old ≤ N.faults notes.new }
+    ensures note { (Rose (N.faults notes.old) (N.faults notes.new) → ⊥)
+        → Appends (N.held notes.old) (N.held notes.new) (codes "no memory\n") }
+{
+    let ending = Err(Stop::NoMemory);
+    // A note that can't be written changes nothing.
+    let _ = write_note(notes, &ending);
+    Outcome {
+        status: status_of(&ending),
+        memo: None,
+    }
+}
