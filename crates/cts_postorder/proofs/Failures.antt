@@ -15,7 +15,7 @@ use Rattle.cts_postorder.proofs.Places.{place, in_left, in_right, at_root, past,
 use Rattle.cts_postorder.proofs.Lists.{Whole, whole_of, length-occurrences_of}
 
 -- a subtree has no more nodes than stand up to its number
-size-subtree : {N : Type 0} (t : BinaryTree N) (j : ℕ) (d : BinaryTree N) → j < size t
+pub size-subtree : {N : Type 0} (t : BinaryTree N) (j : ℕ) (d : BinaryTree N) → j < size t
     → size (get_or (subtrees t) j d) ≤ j + 1
 unfolding subtrees size
 size-subtree (tip n) zero d h = omega arith

@@ -10,9 +10,7 @@ use Rattle.cts_topo.specs.declared.shape.ShapeNode.TheVariants.{Leaf, Pair}
 use Rattle.cts_topo.specs.Shape.{children}
 use Rattle.cts_merge.specs.declared.side.Finished.{Finished}
 use Rattle.cts_merge.specs.Merge.{IsLeaf}
-use Rattle.cts_up.specs.declared.end.UpEnd.{UpEnd}
-use Rattle.cts_up.specs.declared.end.UpEnd.TheVariants.{Beyond, NoMemory}
-use Rattle.cts_up.specs.Plan.{IsFinished, IsBeyondPair}
+use Rattle.cts_up.specs.Plan.{IsFinished}
 use Rattle.cts_turn.specs.declared.turn.Pass.{Pass}
 use Rattle.cts_turn.specs.Passes.{seen_by, share_of}
 use Rattle.cts_memo.specs.declared.key.Key.{Key}
@@ -59,11 +57,6 @@ tree_at nodes k = slice_index_or (trees_of children nodes) k (tip (Leaf 0))
 -- the tree at number k is the pair of those at its children's numbers
 abbrev pub IsPairAt : List ShapeNode → ℕ → ℕ → ℕ → Type 0
 IsPairAt nodes k left right = tree_at nodes k ≡ fork (tree_at nodes left) (tree_at nodes right) (Pair left right)
-
--- a node may end the pass so: it is beyond, or memory ran out
-abbrev pub EndsAt : Params → List Sink → List ShapeNode → ℕ → UpEnd → Type 0
-EndsAt params sinks nodes k (Beyond node) = (node ≡ k) × IsBeyondPair params sinks (tree_at nodes k)
-EndsAt params sinks nodes k NoMemory = Unit {0}
 
 -- the key of a pair of parts with these numbers
 abbrev pub IsPairKey : Option ℕ → Option ℕ → Key → Type 0

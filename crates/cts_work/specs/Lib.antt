@@ -1,1 +1,4 @@
 pub mod Built
+pub mod Work
+pub mod Pieces
+pub mod Done

@@ -3,7 +3,11 @@
 
 mod gate;
 mod node;
+mod part;
+mod pieces;
 mod upward;
+mod work;
+mod workers;
 
 pub use gate::{Gate, OpenGate};
 pub use upward::rebuild;

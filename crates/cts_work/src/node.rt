@@ -4,21 +4,20 @@ ghost use Rattle.std.specs.Prelude.{◌≡◌, ◌+◌, ◌≤◌, ◌∷◌, []
 ghost use Rattle.cts_merge.specs.Merge.{IsBeyond, IsLeaf, IsMerged};
 ghost use Rattle.cts_merge.specs.Side.{IsMergeable};
 ghost use Rattle.cts_topo.specs.Sinks.{IsPlaced};
-ghost use Rattle.cts_up.specs.Plan.{IsBeyondPair};
-ghost use Rattle.cts_up.specs.Sinks.{AreSinksInRange, IsSinkInRange};
+ghost use Rattle.cts_up.specs.Sinks.{IsSinkInRange};
 ghost use Rattle.cts_turn.specs.Passes.{seen_by};
 ghost use Rattle.cts_memo.specs.Keys.{entry};
-ghost use Rattle.cts_memo.specs.Numbers.{missing_in};
 ghost use Rattle.cts_memo.specs.Passes.{IsPassOf, params_of};
 ghost use Rattle.cts_memo.specs.Replies.{IsAbsent};
 ghost use Rattle.cts_memo.specs.Sound.{IsMadeOf, NamesEntries, max_entries};
-ghost use Rattle.cts_work.specs.Built.{EndsAt, GoesOn, IsBuilt, IsBuiltLeaf, IsKept, IsPairAt, IsPairKey, tree_at};
+ghost use Rattle.cts_work.specs.Built.{GoesOn, IsBuiltLeaf, IsKept, IsPairAt, IsPairKey};
+ghost use Rattle.cts_work.specs.Work.{EndsAt, IsBuiltAt, IsReady, missing_at};
 
 use crate::gate::Gate;
+use crate::work::{Work, Worker};
 use cts_memo::{Answer, Key, Memo, MemoPass, PutEnd};
 use cts_merge::{Beyond, Finished, Steps, leaf, merge};
 use cts_num::NoMemory;
-use cts_topo::ShapeNode;
 use cts_units::Sink;
 use cts_up::UpEnd;
 use std::sync::Wait;
@@ -35,11 +34,9 @@ pub(crate) struct Built {
 
 /// Publishes what was made of a key that was absent. Its number, or `None` where the memo is full.
 fn publish<R: Wait, G: Gate>(
-    rt: &R,
+    worker: &Worker<'_, R, G>,
     memo: &Memo,
     pass: &mut MemoPass,
-    gate: &G,
-    number: u32,
     key: Key,
     finished: Finished,
 ) -> Result<Option<u32>, NoMemory>
@@ -49,8 +46,8 @@ fn publish<R: Wait, G: Gate>(
     ensures pass { GoesOn memo.now pass.old pass.new }
     ensures kept { IfOk result (IsKept (seen_by pass.new) key finished) }
 {
-    gate.between(number);
-    match memo.put(rt, pass, key, finished) {
+    worker.gate.between(worker.number);
+    match memo.put(worker.rt, pass, key, finished) {
         PutEnd::At { number } => Ok(Some(number)),
         PutEnd::Full => Ok(None),
         PutEnd::NoMemory => Err(NoMemory),
@@ -59,11 +56,9 @@ fn publish<R: Wait, G: Gate>(
 
 /// The leaf of a sink: looked up, or made and published.
 pub(crate) fn build_leaf<R: Wait, G: Gate>(
-    rt: &R,
+    worker: &Worker<'_, R, G>,
     memo: &Memo,
     pass: &mut MemoPass,
-    gate: &G,
-    number: u32,
     sink: &Sink,
 ) -> Result<Built, NoMemory>
     requires own { IsPassOf memo.now pass.old }
@@ -72,14 +67,14 @@ pub(crate) fn build_leaf<R: Wait, G: Gate>(
     ensures built { IfOk result (IsBuiltLeaf (seen_by pass.new) sink.now) }
 {
     let key = Key::of_sink(sink);
-    if let Answer::Have { number, finished } = memo.ask(rt, pass, key) {
+    if let Answer::Have { number, finished } = memo.ask(worker.rt, pass, key) {
         return Ok(Built {
             number: Some(number),
             finished,
         });
     }
     let finished = leaf(sink);
-    let number = publish(rt, memo, pass, gate, number, key, finished)?;
+    let number = publish(worker, memo, pass, key, finished)?;
     Ok(Built { number, finished })
 }
 
@@ -123,34 +118,30 @@ fn pair_key(left: Option<u32>, right: Option<u32>) -> Option<Key>
 
 /// A pair whose key is absent: made and published.
 fn make_pair<L: Ledger, R: Wait, G: Gate>(
-    rt: &R,
-    memo: &Memo,
+    worker: &Worker<'_, R, G>,
+    work: &Work<'_>,
     pass: &mut MemoPass,
-    gate: &G,
-    number: u32,
-    sinks: &[Sink],
-    nodes: &[ShapeNode],
     at: PairNumbers,
     a: &Built,
     b: &Built,
     key: Key,
     steps: &mut Steps<L>,
 ) -> Result<Built, UpEnd>
-    requires own { IsPassOf memo.now pass.old }
-    requires sinks { AreSinksInRange sinks.now }
-    requires here { IsPairAt nodes.now at.node at.left at.right }
-    requires a { IsBuilt (params_of memo.now) sinks.now (seen_by pass.old) (tree_at nodes.now at.left) a.now }
-    requires b { IsBuilt (params_of memo.now) sinks.now (seen_by pass.old) (tree_at nodes.now at.right) b.now }
+    requires own { IsPassOf work.now.memo.now pass.old }
+    requires ready { IsReady work.now }
+    requires here { IsPairAt work.now.nodes.now at.node at.left at.right }
+    requires a { IsBuiltAt work.now (seen_by pass.old) at.left a.now }
+    requires b { IsBuiltAt work.now (seen_by pass.old) at.right b.now }
     requires key { IsPairKey a.now.number b.now.number key }
     requires absent { IsAbsent (seen_by pass.old) key }
-    ensures pass { GoesOn memo.now pass.old pass.new }
-    ensures built { IfOk result (IsBuilt (params_of memo.now) sinks.now (seen_by pass.new) (tree_at nodes.now at.node)) }
-    ensures ends { IfErr result (EndsAt (params_of memo.now) sinks.now nodes.now at.node) }
-    ensures merges { steps.new ≤ steps.old + missing_in (seen_by pass.old) sinks.now (tree_at nodes.now at.node ∷ []) }
+    ensures pass { GoesOn work.now.memo.now pass.old pass.new }
+    ensures built { IfOk result (IsBuiltAt work.now (seen_by pass.new) at.node) }
+    ensures ends { IfErr result (EndsAt work.now at.node) }
+    ensures merges { steps.new ≤ steps.old + missing_at work.now (seen_by pass.old) at.node }
 {
-    match merge_sides(memo, &a.finished, &b.finished, steps) {
+    match merge_sides(work.memo, &a.finished, &b.finished, steps) {
         Ok(finished) => {
-            let number = publish(rt, memo, pass, gate, number, key, finished)?;
+            let number = publish(worker, work.memo, pass, key, finished)?;
             Ok(Built { number, finished })
         }
         Err(Beyond) => Err(UpEnd::Beyond { node: at.node }),
@@ -159,71 +150,59 @@ fn make_pair<L: Ledger, R: Wait, G: Gate>(
 
 /// A pair whose two parts have numbers in the memo: looked up, or made and published.
 fn ask_pair<L: Ledger, R: Wait, G: Gate>(
-    rt: &R,
-    memo: &Memo,
+    worker: &Worker<'_, R, G>,
+    work: &Work<'_>,
     pass: &mut MemoPass,
-    gate: &G,
-    number: u32,
-    sinks: &[Sink],
-    nodes: &[ShapeNode],
     at: PairNumbers,
     a: &Built,
     b: &Built,
     key: Key,
     steps: &mut Steps<L>,
 ) -> Result<Built, UpEnd>
-    requires own { IsPassOf memo.now pass.old }
-    requires sinks { AreSinksInRange sinks.now }
-    requires here { IsPairAt nodes.now at.node at.left at.right }
-    requires a { IsBuilt (params_of memo.now) sinks.now (seen_by pass.old) (tree_at nodes.now at.left) a.now }
-    requires b { IsBuilt (params_of memo.now) sinks.now (seen_by pass.old) (tree_at nodes.now at.right) b.now }
+    requires own { IsPassOf work.now.memo.now pass.old }
+    requires ready { IsReady work.now }
+    requires here { IsPairAt work.now.nodes.now at.node at.left at.right }
+    requires a { IsBuiltAt work.now (seen_by pass.old) at.left a.now }
+    requires b { IsBuiltAt work.now (seen_by pass.old) at.right b.now }
     requires key { IsPairKey a.now.number b.now.number key }
-    ensures pass { GoesOn memo.now pass.old pass.new }
-    ensures built { IfOk result (IsBuilt (params_of memo.now) sinks.now (seen_by pass.new) (tree_at nodes.now at.node)) }
-    ensures ends { IfErr result (EndsAt (params_of memo.now) sinks.now nodes.now at.node) }
-    ensures merges { steps.new ≤ steps.old + missing_in (seen_by pass.old) sinks.now (tree_at nodes.now at.node ∷ []) }
+    ensures pass { GoesOn work.now.memo.now pass.old pass.new }
+    ensures built { IfOk result (IsBuiltAt work.now (seen_by pass.new) at.node) }
+    ensures ends { IfErr result (EndsAt work.now at.node) }
+    ensures merges { steps.new ≤ steps.old + missing_at work.now (seen_by pass.old) at.node }
 {
-    match memo.ask(rt, pass, key) {
+    match work.memo.ask(worker.rt, pass, key) {
         Answer::Have { number, finished } => Ok(Built {
             number: Some(number),
             finished,
         }),
-        Answer::Absent => make_pair(
-            rt, memo, pass, gate, number, sinks, nodes, at, a, b, key, steps,
-        ),
+        Answer::Absent => make_pair(worker, work, pass, at, a, b, key, steps),
     }
 }
 
 /// The pair at a number, from its two parts. Above a part that has no number in the memo it is made
 /// without asking.
 pub(crate) fn build_pair<L: Ledger, R: Wait, G: Gate>(
-    rt: &R,
-    memo: &Memo,
+    worker: &Worker<'_, R, G>,
+    work: &Work<'_>,
     pass: &mut MemoPass,
-    gate: &G,
-    number: u32,
-    sinks: &[Sink],
-    nodes: &[ShapeNode],
     at: PairNumbers,
     a: &Built,
     b: &Built,
     steps: &mut Steps<L>,
 ) -> Result<Built, UpEnd>
-    requires own { IsPassOf memo.now pass.old }
-    requires sinks { AreSinksInRange sinks.now }
-    requires here { IsPairAt nodes.now at.node at.left at.right }
-    requires a { IsBuilt (params_of memo.now) sinks.now (seen_by pass.old) (tree_at nodes.now at.left) a.now }
-    requires b { IsBuilt (params_of memo.now) sinks.now (seen_by pass.old) (tree_at nodes.now at.right) b.now }
-    ensures pass { GoesOn memo.now pass.old pass.new }
-    ensures built { IfOk result (IsBuilt (params_of memo.now) sinks.now (seen_by pass.new) (tree_at nodes.now at.node)) }
-    ensures ends { IfErr result (EndsAt (params_of memo.now) sinks.now nodes.now at.node) }
-    ensures merges { steps.new ≤ steps.old + missing_in (seen_by pass.old) sinks.now (tree_at nodes.now at.node ∷ []) }
+    requires own { IsPassOf work.now.memo.now pass.old }
+    requires ready { IsReady work.now }
+    requires here { IsPairAt work.now.nodes.now at.node at.left at.right }
+    requires a { IsBuiltAt work.now (seen_by pass.old) at.left a.now }
+    requires b { IsBuiltAt work.now (seen_by pass.old) at.right b.now }
+    ensures pass { GoesOn work.now.memo.now pass.old pass.new }
+    ensures built { IfOk result (IsBuiltAt work.now (seen_by pass.new) at.node) }
+    ensures ends { IfErr result (EndsAt work.now at.node) }
+    ensures merges { steps.new ≤ steps.old + missing_at work.now (seen_by pass.old) at.node }
 {
     match pair_key(a.number, b.number) {
-        Some(key) => ask_pair(
-            rt, memo, pass, gate, number, sinks, nodes, at, a, b, key, steps,
-        ),
-        None => match merge_sides(memo, &a.finished, &b.finished, steps) {
+        Some(key) => ask_pair(worker, work, pass, at, a, b, key, steps),
+        None => match merge_sides(work.memo, &a.finished, &b.finished, steps) {
             Ok(finished) => Ok(Built {
                 number: None,
                 finished,

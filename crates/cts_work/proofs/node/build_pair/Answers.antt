@@ -10,42 +10,42 @@ use Rattle.cts_work.proofs.node.build_pair.Goals as goal
 
 pub merge_sides-requires-clause-a : goal.merge_sides-requires-clause-a
 merge_sides-requires-clause-a g c =
-    mergeable (params_of c.args.memo.now) c.args.sinks.now (seen_by c.args.pass.now) _ c.args.a.now (params_within c.args.memo.now)
-    c.requires.sinks c.requires.a
+    mergeable (params_of c.args.work.now.memo.now) c.args.work.now.sinks.now (seen_by c.args.pass.now) _ c.args.a.now (params_within c.args.work.now.memo.now)
+    c.requires.ready.sinks c.requires.a
 
 pub merge_sides-requires-clause-b : goal.merge_sides-requires-clause-b
 merge_sides-requires-clause-b g c =
-    mergeable (params_of c.args.memo.now) c.args.sinks.now (seen_by c.args.pass.now) _ c.args.b.now (params_within c.args.memo.now)
-    c.requires.sinks c.requires.b
+    mergeable (params_of c.args.work.now.memo.now) c.args.work.now.sinks.now (seen_by c.args.pass.now) _ c.args.b.now (params_within c.args.work.now.memo.now)
+    c.requires.ready.sinks c.requires.b
 
 pub returns-in-Ok-clause-built : goal.returns-in-Ok-clause-built
 returns-in-Ok-clause-built g c =
-    subst (λ t. IsBuilt (params_of c.args.memo.now) c.args.sinks.now (seen_by c.args.pass.now) t (record { number = None; finished = c.in-Ok.finished }))
+    subst (λ t. IsBuilt (params_of c.args.work.now.memo.now) c.args.work.now.sinks.now (seen_by c.args.pass.now) t (record { number = None; finished = c.in-Ok.finished }))
     (sym c.requires.here)
-    (unnumbered_pair (params_of c.args.memo.now) c.args.sinks.now (seen_by c.args.pass.now) (sound_for c.args.memo.now c.args.pass.now c.requires.own)
+    (unnumbered_pair (params_of c.args.work.now.memo.now) c.args.work.now.sinks.now (seen_by c.args.pass.now) (sound_for c.args.work.now.memo.now c.args.pass.now c.requires.own)
     _ _ (Pair c.args.at.left c.args.at.right) c.args.a.now c.args.b.now c.requires.a c.requires.b c.in-Ok.finished c.in-None.ensures.none
     c.in-Ok.ensures.merged)
 
 pub returns-in-Ok-clause-merges : goal.returns-in-Ok-clause-merges
 returns-in-Ok-clause-merges g c =
-    one_merge (seen_by c.args.pass.now) c.args.sinks.now _ _ (Pair c.args.at.left c.args.at.right) _ c.args.steps.now c.merge_sides.new.steps
+    one_merge (seen_by c.args.pass.now) c.args.work.now.sinks.now _ _ (Pair c.args.at.left c.args.at.right) _ c.args.steps.now c.merge_sides.new.steps
     c.requires.here
-    (unnumbered (params_of c.args.memo.now) c.args.sinks.now (seen_by c.args.pass.now) (sound_for c.args.memo.now c.args.pass.now c.requires.own)
+    (unnumbered (params_of c.args.work.now.memo.now) c.args.work.now.sinks.now (seen_by c.args.pass.now) (sound_for c.args.work.now.memo.now c.args.pass.now c.requires.own)
     _ _ (Pair c.args.at.left c.args.at.right) c.args.a.now c.args.b.now c.requires.a c.requires.b c.in-None.ensures.none)
     c.merge_sides.ensures.tick
 
 pub returns-in-Err-clause-ends : goal.returns-in-Err-clause-ends
 returns-in-Err-clause-ends g c = (
   refl,
-  subst (IsBeyondPair (params_of c.args.memo.now) c.args.sinks.now) (sym c.requires.here)
-      (pair_beyond (params_of c.args.memo.now) c.args.sinks.now (seen_by c.args.pass.now) (sound_for c.args.memo.now c.args.pass.now c.requires.own)
+  subst (IsBeyondPair (params_of c.args.work.now.memo.now) c.args.work.now.sinks.now) (sym c.requires.here)
+      (pair_beyond (params_of c.args.work.now.memo.now) c.args.work.now.sinks.now (seen_by c.args.pass.now) (sound_for c.args.work.now.memo.now c.args.pass.now c.requires.own)
       _ _ (Pair c.args.at.left c.args.at.right) c.args.a.now c.args.b.now c.requires.a c.requires.b c.in-Err.ensures.beyond),
 )
 
 pub returns-in-Err-clause-merges : goal.returns-in-Err-clause-merges
 returns-in-Err-clause-merges g c =
-    one_merge (seen_by c.args.pass.now) c.args.sinks.now _ _ (Pair c.args.at.left c.args.at.right) _ c.args.steps.now c.merge_sides.new.steps
+    one_merge (seen_by c.args.pass.now) c.args.work.now.sinks.now _ _ (Pair c.args.at.left c.args.at.right) _ c.args.steps.now c.merge_sides.new.steps
     c.requires.here
-    (unnumbered (params_of c.args.memo.now) c.args.sinks.now (seen_by c.args.pass.now) (sound_for c.args.memo.now c.args.pass.now c.requires.own)
+    (unnumbered (params_of c.args.work.now.memo.now) c.args.work.now.sinks.now (seen_by c.args.pass.now) (sound_for c.args.work.now.memo.now c.args.pass.now c.requires.own)
     _ _ (Pair c.args.at.left c.args.at.right) c.args.a.now c.args.b.now c.requires.a c.requires.b c.in-None.ensures.none)
     c.merge_sides.ensures.tick

@@ -1,0 +1,4 @@
+pub mod Counts
+pub mod Seats
+pub mod Distinct
+pub mod Keeps

@@ -1,0 +1,5 @@
+pub mod Counts
+pub mod Views
+pub mod Dealing
+pub mod Steps
+pub mod Hands

@@ -1,0 +1,21 @@
+//! What is built, and by whom.
+
+use cts_memo::Memo;
+use cts_topo::ShapeNode;
+use cts_units::Sink;
+
+/// The nodes of a shape over sinks, which are built over a memo.
+#[derive(Clone, Copy)]
+pub(crate) struct Work<'a> {
+    pub(crate) memo: &'a Memo,
+    pub(crate) sinks: &'a [Sink],
+    pub(crate) nodes: &'a [ShapeNode],
+}
+
+/// A worker or caller, with its number, and the gate at which it can be watched.
+#[derive(Clone, Copy)]
+pub(crate) struct Worker<'a, R, G> {
+    pub(crate) rt: &'a R,
+    pub(crate) gate: &'a G,
+    pub(crate) number: u32,
+}
