@@ -1,0 +1,60 @@
+-- What a draw gives: the tree of a version, or why there is none.
+use Rattle.std.specs.Prelude.{◌≡◌, ◌⊎◌, ℕ, List, All, length}
+use Rattle.cts_instance.specs.declared.parts.Parts.{Parts}
+use Rattle.cts_instance.specs.Validity.{IsValid}
+use Rattle.cts_topo.specs.Topology.{shape_of}
+use Rattle.cts_up.specs.Plan.{IsLeastBeyond as IsBeyondInPlan}
+use Rattle.cts_elmore.specs.Figures.{AreFigures, AreFiguresInRange}
+use Rattle.cts_elmore.specs.Sound.{IsSound}
+use Rattle.cts_plain.specs.declared.end.NoTree.{NoTree}
+use Rattle.cts_plain.specs.declared.end.NoTree.TheVariants.{Beyond, Cut}
+use Rattle.cts_plain.specs.declared.end.NoTree.TheVariants.{NoMemory as no_memory}
+use Rattle.cts_plain.specs.Synthesis.{IsSynthesis, StandsInDie, beyond, cut, made}
+use Rattle.cts_memo.specs.declared.entry.MemoEntry.{MemoEntry}
+use Rattle.cts_memo.specs.Numbers.{AreKnown}
+use Rattle.cts_memo.specs.Sound.{max_entries}
+use Rattle.cts_design.specs.declared.edit.Entry.{Entry}
+use Rattle.cts_session.specs.declared.draw.Drawn.{Drawn}
+use Rattle.cts_session.specs.declared.draw.TreeEnd.{TreeEnd}
+use Rattle.cts_session.specs.declared.draw.TreeEnd.TheVariants.{None as no_tree, NoMemory}
+use Rattle.cts_session.specs.Desks.{version_of}
+
+-- The tree of the version after these edits, with its figures.
+pub record IsDrawn (base : Parts) (edits : List Entry) (drawn : Drawn) : Type 0 where
+  pub version : drawn.version ≡ length edits
+  pub valid : IsValid (version_of base edits)
+  pub tree : IsSynthesis (version_of base edits) (made drawn.tree)
+  pub figures : AreFigures (version_of base edits) drawn.tree drawn.figures
+  pub sound : IsSound (version_of base edits) drawn.tree
+  pub one_each : length drawn.figures.nodes ≡ length drawn.tree
+  pub in_range : AreFiguresInRange drawn.figures
+  pub in_die : All (StandsInDie (version_of base edits).die) drawn.tree
+
+-- The version after these edits has no tree: the synthesis of its sinks comes to a node that is beyond, or cut. Or memory ran
+-- out.
+abbrev pub EndsDraw : Parts → List Entry → TreeEnd → Type 0
+EndsDraw base edits (no_tree version (Beyond node)) = (version ≡ length edits) × IsSynthesis (version_of base edits) (beyond node)
+EndsDraw base edits (no_tree version (Cut node)) = (version ≡ length edits) × IsSynthesis (version_of base edits) (cut node)
+EndsDraw base edits (no_tree version no_memory) = ⊥
+EndsDraw base edits NoMemory = Unit {0}
+
+-- how a draw of a version ends that has no tree
+abbrev pub end_at : ℕ → NoTree → TreeEnd
+end_at version (Beyond node) = no_tree version (Beyond node)
+end_at version (Cut node) = no_tree version (Cut node)
+end_at version no_memory = NoMemory
+
+-- a memo has a number for every node of an instance's tree, or is full
+abbrev pub KnowsTree : Parts → List MemoEntry → Type 0
+KnowsTree i entries = (length entries ≡ max_entries) ⊎ AreKnown entries i.sinks (shape_of i.sinks)
+
+-- The same where there is no tree, but for a node that is beyond in the plan.
+abbrev pub KnowsUntil : Parts → List MemoEntry → NoTree → Type 0
+KnowsUntil i entries (Beyond node) = IsBeyondInPlan i.params i.sinks (shape_of i.sinks) node ⊎ KnowsTree i entries
+KnowsUntil i entries (Cut node) = KnowsTree i entries
+KnowsUntil i entries no_memory = Unit {0}
+
+-- and the same of a draw that ends so
+abbrev pub KnowsAtEnd : Parts → List MemoEntry → TreeEnd → Type 0
+KnowsAtEnd i entries (no_tree version why) = KnowsUntil i entries why
+KnowsAtEnd i entries NoMemory = Unit {0}

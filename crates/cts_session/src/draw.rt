@@ -1,0 +1,184 @@
+//! The tree of a version of the sinks, over the memo.
+
+ghost use Rattle.std.specs.Prelude.{◌≡◌, ◌+◌, ◌≤◌, All, length, IfOk, IfErr, OnOk};
+ghost use mathlib.Core.List.{IsPrefix};
+ghost use Rattle.cts_instance.specs.Validity.{IsValid};
+ghost use Rattle.cts_topo.specs.Topology.{shape_of};
+ghost use Rattle.cts_elmore.specs.Figures.{AreFigures, AreFiguresInRange};
+ghost use Rattle.cts_elmore.specs.Sound.{IsSound};
+ghost use Rattle.cts_plain.specs.Ends.{Ends};
+ghost use Rattle.cts_plain.specs.Synthesis.{IsSynthesis, StandsInDie, made};
+ghost use Rattle.cts_turn.specs.Passes.{made_by, seen_by, share_of};
+ghost use Rattle.cts_memo.specs.Numbers.{missing};
+ghost use Rattle.cts_memo.specs.Passes.{params_of};
+ghost use Rattle.cts_memo.specs.Passes.{IsPassOf as IsMemoPassOf};
+ghost use Rattle.cts_design.specs.Passes.{instance_of};
+ghost use Rattle.cts_design.specs.Passes.{IsPassOf as IsDesignPassOf};
+ghost use Rattle.cts_session.specs.Desks.{AreHandsOf, GoesOn, base_of, known_by, version_of};
+ghost use Rattle.cts_session.specs.Draws.{EndsDraw, IsDrawn, KnowsAtEnd, KnowsTree, KnowsUntil, end_at};
+
+use crate::desk::{Desk, Hands};
+use cts_design::{Design, snapshot};
+use cts_elmore::Figures;
+use cts_instance::Instance;
+use cts_memo::{Memo, MemoPass};
+use cts_merge::Steps;
+use cts_num::NoMemory;
+use cts_plain::{NoTree, finish};
+use cts_topo::topology;
+use cts_tree::Tree;
+use cts_turn::{Pass, Turn};
+use cts_work::{Gate, rebuild};
+use std::alloc::Global;
+use std::sync::Wait;
+use std::sync::ledger::Ledger;
+
+/// The tree of a version, with its figures. A version is a number of accepted edits.
+#[derive(Drop)]
+pub struct Drawn {
+    pub version: u32,
+    pub tree: Tree,
+    pub figures: Figures,
+}
+
+/// Why a draw gives no tree.
+#[derive(Clone, Copy, Debug)]
+pub enum TreeEnd {
+    /// The sinks of this version have no tree: a node is beyond the limits, or cut.
+    None { version: u32, why: NoTree },
+    /// Memory ran out.
+    NoMemory,
+}
+
+impl From<NoMemory> for TreeEnd {
+    ghost use Rattle.cts_session.specs.declared.draw.TreeEnd.TheVariants.{NoMemory};
+
+    ghost from_gives = { λ _ end. end ≡ NoMemory };
+
+    fn from(_error: NoMemory) -> TreeEnd {
+        TreeEnd::NoMemory
+    }
+}
+
+/// How a draw of this version ends that has no tree.
+fn end_at(version: u32, why: NoTree) -> TreeEnd
+    ensures { result ≡ end_at version why }
+{
+    match why {
+        NoTree::Beyond { .. } | NoTree::Cut { .. } => TreeEnd::None { version, why },
+        NoTree::NoMemory => TreeEnd::NoMemory,
+    }
+}
+
+/// The instance with the sinks as they are when it is this call's turn, and how many edits were accepted
+/// so far.
+pub(crate) fn instance_now<R: Wait>(
+    rt: &R,
+    alloc: Global,
+    instance: &Instance,
+    design: &Turn<Design>,
+    pass: &mut Pass<Design>,
+) -> Result<(u32, Instance), NoMemory>
+    requires base { instance_of design.now ≡ instance.now }
+    requires own { IsDesignPassOf design.now pass.old }
+    ensures own { IsDesignPassOf design.now pass.new }
+    ensures share { share_of pass.new ≡ share_of pass.old }
+    ensures made { made_by pass.new ≡ made_by pass.old }
+    ensures goes_on { IsPrefix (seen_by pass.old) (seen_by pass.new) }
+    ensures version { IfOk result (λ now. now.0 ≡ length (seen_by pass.new)) }
+    ensures instance { IfOk result (λ now. now.1 ≡ version_of instance.now (seen_by pass.new)) }
+    ensures valid { IfOk result (λ now. IsValid now.1) }
+{
+    let (version, sinks) = snapshot(design, rt, pass)?;
+    let instance = instance.with_sinks(alloc, sinks)?;
+    Ok((version, instance))
+}
+
+/// The synthesis of an instance, whose plan is made over the memo.
+///
+/// The memo is as good as empty for the answer, which is that of the synthesis by one thread; it saves
+/// the merges of the pairs that have a number in it. Where the plan has no node beyond the memo has
+/// afterwards a number for every node of the tree, or is full.
+pub(crate) fn draw<L: Ledger, R: Wait, G: Gate>(
+    rt: &R,
+    alloc: Global,
+    memo: &Memo,
+    pass: &mut MemoPass,
+    gate: &G,
+    caller: u32,
+    instance: &Instance,
+    steps: &mut Steps<L>,
+) -> Result<(Tree, Figures), NoTree>
+    requires own { IsMemoPassOf memo.now pass.old }
+    requires params { params_of memo.now ≡ instance.now.params }
+    ensures own { IsMemoPassOf memo.now pass.new }
+    ensures share { share_of pass.new ≡ share_of pass.old }
+    ensures goes_on { IsPrefix (seen_by pass.old) (seen_by pass.new) }
+    ensures tree { IfOk result (λ r. IsSynthesis instance.now (made r.0)) }
+    ensures figures { IfOk result (λ r. AreFigures instance.now r.0 r.1) }
+    ensures sound { IfOk result (λ r. IsSound instance.now r.0) }
+    ensures one_each { IfOk result (λ r. length r.1.nodes ≡ length r.0) }
+    ensures in_range { IfOk result (λ r. AreFiguresInRange r.1) }
+    ensures in_die { IfOk result (λ r. All (StandsInDie instance.now.die) r.0) }
+    ensures ends { IfErr result (Ends instance.now) }
+    ensures known { OnOk result (KnowsTree instance.now (seen_by pass.new)) }
+    ensures known_until { IfErr result (KnowsUntil instance.now (seen_by pass.new)) }
+    ensures merges { steps.new ≤ steps.old + missing (seen_by pass.old) instance.now.sinks (shape_of instance.now.sinks) }
+{
+    let sinks = instance.sinks();
+    let shape = topology(alloc, sinks)?;
+    let plan = rebuild(rt, alloc, memo, pass, gate, caller, sinks, &shape, steps)?;
+    finish(alloc, instance, &shape, &plan)
+}
+
+/// The tree of the sinks as they are when it is this call's turn. Nothing of an earlier draw is kept but
+/// the memo.
+pub(crate) fn draw_now<L: Ledger, R: Wait, G: Gate>(
+    rt: &R,
+    alloc: Global,
+    desk: &Desk,
+    hands: &mut Hands,
+    gate: &G,
+    caller: u32,
+    steps: &mut Steps<L>,
+) -> Result<Drawn, TreeEnd>
+    requires own { AreHandsOf desk.now hands.old }
+    ensures own { AreHandsOf desk.now hands.new }
+    ensures goes_on { GoesOn (known_by hands.old) (known_by hands.new) }
+    ensures known { known_by hands.new ≡ record (known_by hands.old) {
+      entries = (known_by hands.new).entries;
+      entries_made = (known_by hands.new).entries_made;
+      edits = (known_by hands.new).edits;
+    } }
+    ensures drawn { IfOk result (IsDrawn (base_of desk.now) (known_by hands.new).edits) }
+    ensures ends { IfErr result (EndsDraw (base_of desk.now) (known_by hands.new).edits) }
+    ensures remembered { OnOk result (KnowsTree (version_of (base_of desk.now) (known_by hands.new).edits) (known_by hands.new).entries) }
+    ensures remembered_until { IfErr result (KnowsAtEnd (version_of (base_of desk.now) (known_by hands.new).edits) (known_by hands.new).entries) }
+    ensures merges { let sinks = (version_of (base_of desk.now) (known_by hands.new).edits).sinks in
+        steps.new ≤ steps.old + missing (known_by hands.old).entries sinks (shape_of sinks) }
+{
+    let (version, instance) = instance_now(
+        rt,
+        alloc,
+        &desk.instance,
+        &desk.design,
+        &mut hands.design,
+    )?;
+    match draw(
+        rt,
+        alloc,
+        &desk.memo,
+        &mut hands.memo,
+        gate,
+        caller,
+        &instance,
+        steps,
+    ) {
+        Ok((tree, figures)) => Ok(Drawn {
+            version,
+            tree,
+            figures,
+        }),
+        Err(why) => Err(end_at(version, why)),
+    }
+}
