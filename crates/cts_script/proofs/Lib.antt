@@ -1,7 +1,10 @@
 pub mod Draws
+pub mod Limits
+pub mod StepLists
 pub mod Lists
 pub mod Valid
 mod Rows
+mod ScriptRows
 pub mod WrittenWords
 pub mod WrittenLines
 pub mod WrittenText

@@ -1,3 +1,5 @@
 pub mod Generator
 pub mod Text
 pub mod Laws
+pub mod Steps
+pub mod Scripts
