@@ -9,3 +9,5 @@ pub mod WrittenWords
 pub mod WrittenLines
 pub mod WrittenText
 pub mod WrittenInstance
+pub mod WrittenSteps
+pub mod WrittenScripts
