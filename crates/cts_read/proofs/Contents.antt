@@ -5,7 +5,7 @@ use Rattle.cts_read.specs.Place.{Place}
 use Rattle.cts_read.specs.Lines.{is_skipped, is_printable}
 use Rattle.cts_read.specs.declared.stop.Cause.TheVariants.{NotAscii, Word}
 use Rattle.cts_read.specs.Whole.{rest_of}
-use Rattle.cts_read.specs.Grammar.{content, left_of, line_at}
+use Rattle.cts_read.specs.Grammar.{Left, content, first_line, left_of, line_at}
 
 pub content_skip : (n : ℕ) (l : List ℕ) (ls : List (List ℕ)) → is_skipped l ≡ true → content n (l ∷ ls) ≡ content (n + 1) ls
 unfolding content
@@ -49,11 +49,21 @@ unfolding left_of
 missing_none s e = omega (arith, ap length e)
 
 -- what is left begins with a line that may not follow
-pub rest_refused : (n : ℕ) (l : List ℕ) (ls : List (List ℕ)) (printable : Bool) → is_skipped l ≡ false → is_printable l ≡ printable
-    → rest_of (content n (l ∷ ls)) ≡ Err (n + 1, cond printable Word NotAscii)
+rest_by : (lines : List (ℕ × List ℕ)) (missing : ℕ) (next : ℕ × List ℕ) (after : Left) (printable : Bool)
+    → first_line lines missing ≡ Ok (next, after) → is_printable next.1 ≡ printable
+    → rest_of lines ≡ Err (next.0, cond printable Word NotAscii)
 unfolding rest_of
-rest_refused n l ls printable h p = ap rest_of (content_keep n l ls h) ∙ rw p refl
+rest_by [] missing next after printable e p = cc
+rest_by (l ∷ ls) missing next after printable e p =
+    let whole : ◌≡◌ {A = (ℕ × List ℕ) × Left} (l, record { lines = ls; missing = missing }) (next, after) = cc in
+    let same : l ≡ next = ap (λ (x : (ℕ × List ℕ) × Left). x.0) whole in
+    rw (same, p) refl
 
-pub rest_none : (n : ℕ) → rest_of (content n []) ≡ Ok tt
-unfolding rest_of content
-rest_none n = refl
+pub rest_refused : (left : Left) (next : ℕ × List ℕ) (after : Left) (printable : Bool) → line_at left ≡ Ok (next, after)
+    → is_printable next.1 ≡ printable → rest_of left.lines ≡ Err (next.0, cond printable Word NotAscii)
+unfolding line_at
+rest_refused left next after printable e p = rest_by left.lines left.missing next after printable e p
+
+pub rest_none : (left : Left) → left.lines ≡ [] → rest_of left.lines ≡ Ok tt
+unfolding rest_of
+rest_none left e = rw e refl

@@ -1,7 +1,7 @@
 -- The lines of a text against the lines of a grammar.
 use Rattle.std.specs.Prelude.{◌≡◌, ℕ, ◌+◌, not, nat_eq, if◌then◌else◌, List, [], ◌∷◌, length, Option, None, Some, Result, Ok, Err}
 use Rattle.std.specs.Str.{bytes_eq}
-use Rattle.cts_io.specs.Lines.{lines_of}
+use Rattle.cts_io.specs.Lines.{LinesLeft, lines_of}
 use Rattle.cts_num.specs.declared.read.DecimalFault.{DecimalFault}
 use Rattle.cts_num.specs.Reading.{reading_of}
 use Rattle.cts_instance.specs.declared.fault.Fault.{Fault as InstanceFault}
@@ -25,6 +25,10 @@ content line (l ∷ ls) = if is_skipped l then content (line + 1) ls else (line 
 
 unfoldable pub left_of : Place → Left
 left_of s = record { lines = content s.line (lines_of s.rest); missing = s.line + length (lines_of s.rest) + 1 }
+
+-- the same of lines that are left, whatever text they came from
+abbrev pub left_in : LinesLeft → Left
+left_in lines = left_of (record { text = lines.rest; rest = lines.rest; line = lines.line })
 
 -- the number of the line that offends first, and its first cause
 abbrev pub Refusal : Type 0

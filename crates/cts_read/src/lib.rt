@@ -3,18 +3,24 @@
 //!
 //! The layers above may use [`read_instance`] and [`read_rest`] with the grammar of `specs/` that
 //! their contracts cite: `Lines` (which lines are skipped, and words), `Grammar` (a line against a
-//! line of the grammar), `Header` and `Items` (the lines of an instance) and `Whole`.
+//! line of the grammar), `Header` and `Items` (the lines of an instance) and `Whole`. The reader of
+//! scripts, whose lines follow those of an instance, uses the calls for the lines that are left and
+//! for the words and numbers of a line.
 #![tactic(auto)]
 
 mod cursor;
-mod fields;
+pub mod fields;
 mod header;
 mod items;
 pub mod laws;
+mod left;
 mod lists;
 mod read;
 mod stop;
 mod words;
 
+pub use left::{line_left, none_left};
+pub use lists::at_line;
 pub use read::{Taken, read_instance, read_rest};
 pub use stop::{Cause, ReadStop};
+pub use words::{count_words, is_printable, word_at};

@@ -13,9 +13,9 @@ ghost use Rattle.cts_read.specs.Whole.{IsSoundHead, IsSoundLists, Rests, end_at,
 use crate::cursor::{Cursor, next_line};
 use crate::header::{Limits, Source, die_of, limits_of, source_of, version_of, wire_of};
 use crate::items::{block_count_of, buffer_count_of, end_of, sink_count_of};
+use crate::left::none_left;
 use crate::lists::{at_line, read_blocks, read_buffers, read_sinks};
 use crate::stop::{Cause, ReadStop};
-use crate::words::{is_printable, is_skipped};
 use cts_geom::Die;
 use cts_instance::{Blocks, Instance, Parts, Sinks};
 use cts_io::Lines;
@@ -180,24 +180,11 @@ pub fn read_instance(alloc: Global, bytes: &[u8]) -> Result<Taken, ReadStop>
 /// - `Ok`: exactly where only skipped lines are left.
 /// - `Refused`: the first other line, with `NotAscii` where it holds a byte that it can't, else with
 ///   `Word`.
+#[tactic(auto, unfolding(crate::specs::Grammar::left_of))]
 pub fn read_rest(bytes: &[u8], lines: u32) -> Result<(), ReadStop>
     requires bytes { length bytes.now ≤ 67108864 }
     requires lines { lines ≤ 67108864 }
     ensures { Rests result (rest_of (content lines (lines_of bytes.now))) }
 {
-    let mut left = Lines::new(bytes, lines);
-    while let Some((number, line)) = left.next() {
-        if !is_skipped(line) {
-            let cause = if is_printable(line) {
-                Cause::Word
-            } else {
-                Cause::NotAscii
-            };
-            return Err(ReadStop::Refused {
-                line: number,
-                cause,
-            });
-        }
-    }
-    Ok(())
+    none_left(&mut Lines::new(bytes, lines))
 }

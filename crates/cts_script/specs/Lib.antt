@@ -1,3 +1,6 @@
 pub mod Generator
 pub mod Text
+pub mod Steps
+pub mod Scripts
+pub mod ScriptText
 pub mod Laws

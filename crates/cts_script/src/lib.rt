@@ -1,15 +1,24 @@
-//! Instances that are made from a number, and the canonical text of an instance.
+//! Scripts of edits, instances that are made from a number, and the canonical text of an instance.
 //!
-//! A layer above uses [`make_instance`], whose result is told by `specs/Generator.antt`, and
-//! [`write_instance`], which writes the text of `specs/Text.antt`. The [`laws`] say that the reader of
-//! instances takes every valid instance back from that text. Scripts of edits will stand here too.
+//! A layer above uses [`read_script`], which reads the scripts of all callers from the text that
+//! `specs/Steps.antt` and `specs/Scripts.antt` define, [`make_instance`], whose result is told by
+//! `specs/Generator.antt`, and [`write_instance`], which writes the text of `specs/Text.antt`. The
+//! [`laws`] say that the reader of instances takes every valid instance back from that text.
 #![tactic(auto)]
 
 mod generator;
 pub mod laws;
 mod make;
+mod read;
+mod script;
+mod step;
 mod words;
 mod write;
 
 pub use make::make_instance;
+pub use read::read_script;
+pub use script::{Act, Script, ScriptStep};
 pub use write::write_instance;
+
+#[cfg(test)]
+mod tests;
