@@ -1,3 +1,4 @@
 pub mod Desks
 pub mod Draws
 pub mod Sessions
+pub mod Laws

@@ -12,8 +12,12 @@
 
 mod desk;
 mod draw;
+pub mod laws;
 mod session;
 
 pub use desk::{Desk, DeskOut, Hands};
 pub use draw::{Drawn, TreeEnd};
 pub use session::Session;
+
+#[cfg(test)]
+mod tests;
