@@ -50,7 +50,7 @@ design_pass_send : IsSend (pass.the_field design.the_row entry.the_row call.the_
 design_pass_send = search (crosses, seat.the_send, design_send, sendable) depth 60 fits 20000
 
 pub hands_field_send : IsSend (hands.the_field).row
-pub hands_field_send = struct_send (shape hands.the_type) (memo_pass_send, (design_pass_send, tt))
+hands_field_send = struct_send (shape hands.the_type) (memo_pass_send, (design_pass_send, tt))
 
 pub hands_send : IsSend hands.the_row
 hands_send =
