@@ -3,7 +3,8 @@
 //! A layer above uses [`read_script`], which reads the scripts of all callers from the text that
 //! `specs/Steps.antt` and `specs/Scripts.antt` define, [`make_instance`], whose result is told by
 //! `specs/Generator.antt`, and [`write_instance`], which writes the text of `specs/Text.antt`. The
-//! [`laws`] say that the reader of instances takes every valid instance back from that text.
+//! [`laws`] say that the readers take every valid instance back from that text, and every script from
+//! that of `specs/ScriptText.antt`.
 #![tactic(auto)]
 
 mod generator;
