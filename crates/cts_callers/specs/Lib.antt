@@ -1,0 +1,5 @@
+pub mod Replies
+pub mod Legal
+pub mod Turns
+pub mod Runs
+pub mod Laws

@@ -1,0 +1,15 @@
+//! The text of a history of edits and of the replies to the callers who made it, written to a sink.
+//!
+//! The text is told line by line in `specs/History.antt`, where an edit has the words that it has in a
+//! script. What is told of the tree after the history follows this text on the same sink, by its own
+//! writer. The writer takes no memory, and gives the sink some KiB at a time.
+#![tactic(auto)]
+
+mod history;
+mod reply;
+mod words;
+
+pub use history::write_history;
+
+#[cfg(test)]
+mod tests;
