@@ -14,3 +14,6 @@ mod reply;
 
 pub use edit::{Run, run_callers};
 pub use reply::Reply;
+
+#[cfg(test)]
+mod tests;
