@@ -1,12 +1,14 @@
--- What is right at a history is right at every history that begins with it.
+-- What is right at a history is right at every history that begins with it. What begins a sound history is sound, so that its
+-- versions are valid.
 use Rattle.std.proofs.Common.{◌≡◌, ℕ, ◌+◌, ◌-◌, ◌<◌, ◌≤◌, List, [], ◌∷◌, ◌++◌, take, length, slice_get, Some, sym, ap, ◌∙◌, subst, arith, length-append}
 use mathlib.Core.List.{IsPrefix}
 use Rattle.std.specs.List.{AllZip}
 use Rattle.std.proofs.lemmas.List.{take-append-le, get_or_append_left}
 use Rattle.std.proofs.lemmas.Option.{slice_get-get_or, slice_get_within, get_or_from_slice_get}
 use Rattle.cts_turn.proofs.Prefixes.{prefix_length}
+use Rattle.cts_memo.proofs.Publications.{front_of}
 use Rattle.cts_instance.specs.declared.parts.Parts.{Parts}
-use Rattle.cts_instance.specs.Validity.{with_sinks}
+use Rattle.cts_instance.specs.Validity.{IsValid, with_sinks}
 use Rattle.cts_elmore.specs.Figures.{AreFigures}
 use Rattle.cts_plain.specs.declared.end.NoTree.{NoTree as Why}
 use Rattle.cts_plain.specs.Ends.{Ends}
@@ -18,6 +20,8 @@ use Rattle.cts_design.specs.declared.call.EditReply.{EditReply}
 use Rattle.cts_design.specs.declared.call.EditReply.TheVariants.{Accepted, Refused, NoMemory}
 use Rattle.cts_design.specs.Edits.{after}
 use Rattle.cts_design.specs.Decide.{decide}
+use Rattle.cts_design.specs.Sound.{IsAccepted, IsSound as IsHistory}
+use Rattle.cts_design.proofs.Validities.{sound_valid}
 use Rattle.cts_script.specs.declared.script.Act.{Act}
 use Rattle.cts_script.specs.declared.script.Act.TheVariants.{Change, Draw}
 use Rattle.cts_script.specs.declared.script.ScriptStep.{ScriptStep}
@@ -110,5 +114,19 @@ module _ (base : Parts) (history longer : List Entry) (more : IsPrefix history l
   all_answered_stay caller (s ∷ scripts) (r ∷ replies) are =
       (answered_stays caller s r (are.0), all_answered_stay (caller + 1) scripts replies (are.1))
 
+  -- what begins a sound history is sound
+  pub sound_front : IsHistory base longer → IsHistory base history
+  sound_front sound = record {
+    each = λ n e here.
+        let h = slice_get_within history n e here in
+        subst (λ front. IsAccepted base front e.edit) (sym (take_longer n (omega (arith, h)))) (sound.each n e (at_longer n e here));
+  }
+
 pub answers_stay_lem : AnswersStay
 answers_stay_lem base history longer caller scripts replies more are = all_answered_stay base history longer more caller scripts replies are
+
+-- each version of a sound history is valid
+pub version_valid : (base : Parts) (history : List Entry) (version : ℕ) → IsValid base → IsHistory base history
+    → IsValid (at_version base history version)
+version_valid base history version valid sound =
+    sound_valid base (take version history) valid (sound_front base (take version history) history (front_of version history) sound)

@@ -10,6 +10,7 @@ use Rattle.cts_memo.specs.Sound.{IsSound}
 use Rattle.cts_memo.specs.Tables.{told_by}
 use Rattle.cts_design.specs.declared.edit.Entry.{Entry}
 use Rattle.cts_design.specs.Edits.{after}
+use Rattle.cts_design.specs.Sound.{IsSound as IsHistory}
 use Rattle.cts_session.specs.declared.desk.Desk.{Desk}
 use Rattle.cts_session.specs.declared.desk.Hands.{Hands}
 use Rattle.cts_session.specs.declared.draw.Drawn.{Drawn}
@@ -67,6 +68,7 @@ pub record AreClosed (base : Parts) (known : Known) (run : Run) : Type 0 where
   pub table : IsTableOf base.params known.entries run.table
   pub history : run.history.items ≡ known.edits
   pub count : length run.history.items ≡ known.edits_made
+  pub sound : IsHistory base run.history.items
   pub sinks : run.sinks.items ≡ after base.sinks run.history.items
   pub valid : IsValid (with_sinks base run.sinks.items)
 
@@ -93,6 +95,7 @@ module _ (desk : Desk) (opening : Hands) (scripts : List (List ScriptStep)) (ser
       all_answered_stay (base_of desk) (known_by served.hands).edits run.history.items longer 1 scripts (lists_of run.replies.items) answered in
       record {
         instance_is = closed.instance_is;
+        sound = closed.sound;
         legal = record {
           answered = right;
           count = omega (

@@ -10,6 +10,7 @@ use Rattle.cts_plain.specs.Ends.{Ends}
 use Rattle.cts_memo.specs.Tables.{told_by}
 use Rattle.cts_design.specs.declared.edit.Entry.{Entry}
 use Rattle.cts_design.specs.Edits.{after}
+use Rattle.cts_design.specs.Sound.{IsSound as IsHistory}
 use Rattle.cts_session.specs.Desks.{IsTableOf, base_of, version_of}
 use Rattle.cts_session.specs.Draws.{IsDrawn, KnowsTree}
 use Rattle.cts_session.specs.Sessions.{AtDesk, edits_of, entries_of}
@@ -30,10 +31,12 @@ pub record IsLastTree (old new : AtDesk) (synthesis : Result (List TreeNode × F
   pub is_synthesis : IsSynthesisOf (base_of old.desk) (edits_of new) synthesis
   pub known : OnOk synthesis (KnowsTree (version_of (base_of old.desk) (edits_of new)) (entries_of new))
 
--- A run of callers with these scripts: a legal history with their replies, the synthesis of the sinks after it, and a memo's
--- table of the instance, which knows the tree.
+-- A run of callers with these scripts: a history, each entry of which is within the limits and accepted after those before
+-- it, which is legal with their replies; the synthesis of the sinks after it; and a memo's table of the instance, which knows
+-- the tree.
 pub record IsRun (base : Parts) (scripts : List (List ScriptStep)) (run : Run) : Type 0 where
   pub instance_is : run.instance ≡ base
+  pub sound : IsHistory base run.history.items
   pub legal : IsLegal base scripts run.history.items (lists_of run.replies.items)
   pub sinks_are : run.sinks.items ≡ after base.sinks run.history.items
   pub valid : IsValid (with_sinks base run.sinks.items)

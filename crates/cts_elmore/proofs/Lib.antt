@@ -8,6 +8,7 @@ pub mod Root
 pub mod Ends
 pub mod Down
 pub mod HandedDown
+pub mod Limited
 pub mod Measured
 pub mod AddUp
 pub mod Unique

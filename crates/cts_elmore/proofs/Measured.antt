@@ -1,5 +1,5 @@
 -- The figures of the whole tree, from the root's and from what the passes come to.
-use Rattle.std.proofs.Common.{◌≡◌, ℕ, ◌+◌, ◌-◌, ◌^◌, ◌<◌, ◌≤◌, inl, inr, List, [], map, length, get_or, slice_get, Some, None, sym, ap, subst, ◌∙◌, arith}
+use Rattle.std.proofs.Common.{◌≡◌, ℕ, ◌+◌, ◌-◌, ◌^◌, ◌<◌, ◌≤◌, inl, List, [], map, length, get_or, Some, None, sym, ap, subst, ◌∙◌, arith}
 use Rattle.std.specs.Prelude.{IfSome}
 use Rattle.std.specs.List.{All, AllZip}
 use Rattle.std.proofs.lemmas.Slice.Zip.{AllZip-long}
@@ -19,12 +19,13 @@ use Rattle.cts_elmore.specs.declared.drive.Drive.{Drive}
 use Rattle.cts_elmore.specs.declared.descent.Descent.{Descent}
 use Rattle.cts_elmore.specs.Skew.{skew}
 use Rattle.cts_elmore.specs.Fits.{FitsInstance}
-use Rattle.cts_elmore.specs.Limits.{IsPairOver, IsRootOver, IsWithinLimits, long_root, great_leaf_delay}
+use Rattle.cts_elmore.specs.Limits.{IsPairOver, IsWithinLimits, long_root, great_leaf_delay}
 use Rattle.cts_elmore.specs.Figures.{IsNodeFigure, AreFigures, IsFigureInRange, AreFiguresInRange}
 use Rattle.cts_elmore.specs.Subtrees.{IsSubtree, IsDrive, DriveOrOver}
 use Rattle.cts_elmore.specs.Outputs.{IsDescent}
 use Rattle.cts_elmore.proofs.Below.{greatest_delay, least_delay}
 use Rattle.cts_elmore.proofs.Rising.{not_above, least_le_greatest}
+use Rattle.cts_elmore.proofs.Limited.{root_within}
 use Rattle.cts_elmore.proofs.Root.{AtRoot, at_root}
 
 -- within the limits no pair is over them
@@ -44,14 +45,8 @@ module _ (i : Parts) (nodes : List TreeNode) (ok : IsPostOrder (map tree_childre
 
   -- and the root isn't either
   pub driven : IsWithinLimits i nodes → ¬ IfSome (root_of tree_children nodes) (λ root. DriveOrOver i root None)
-  unfolding root_of
   driven sound = λ over.
-      let trees : List (BinaryTree TreeNode) = trees_of tree_children nodes in
-      let found : slice_get trees (length nodes - 1) ≡ Some at.root = at.root_is in
-      let is : get_or trees (length nodes - 1) at.root ≡ at.root =
-      get_or_from_slice_get trees (length nodes - 1) at.root at.root found in
-      sound (length nodes - 1) at.root (slice_get_within trees (length nodes - 1) at.root found)
-      (inr (at.root_is ∙ ap Some (sym is), subst (IsRootOver i) (sym is) (subst (λ o. IfSome o (λ root. DriveOrOver i root None)) at.root_is over)))
+      root_within i nodes at.root sound at.root_is (subst (λ o. IfSome o (λ root. DriveOrOver i root None)) at.root_is over)
 
   module _ (s : Subtree) (root_known : IfSome (root_of tree_children nodes) (λ t. IsSubtree i t s)) (drive : Drive)
       (told : IfSome (root_of tree_children nodes) (λ root. DriveOrOver i root (Some drive))) (e : TreeNode) where

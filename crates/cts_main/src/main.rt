@@ -53,7 +53,7 @@ fn exit_code(outcome: Outcome) -> ExitCode
 fn main(rt: HostRuntime) -> ExitCode {
     let mut notes = HostSink::new(rt.stderr());
     let Ok(words) = words(&rt) else {
-        return exit_code(end_without_memory(&mut notes));
+        return exit_code(end_without_memory(rt.alloc(), &mut notes));
     };
     let mut source = HostSource::new(rt.stdin());
     let mut sink = HostSink::new(rt.stdout());

@@ -5,6 +5,7 @@ pub mod Wires
 pub mod Fitted
 pub mod Unique
 pub mod Sound
+pub mod Valid
 pub mod Uncut
 pub mod Settled
 pub mod FewCorners

@@ -6,7 +6,6 @@ use Rattle.cts_instance.specs.Validity.{IsValid}
 use Rattle.cts_topo.specs.declared.shape.ShapeNode.{ShapeNode}
 use Rattle.cts_topo.specs.Shape.{IsShapeOver}
 use Rattle.cts_topo.specs.Topology.{shape_of}
-use Rattle.cts_topo.proofs.Whole.{shapes_name_each_sink_lem}
 use Rattle.cts_tree.specs.declared.nodes.TreeNode.{TreeNode}
 use Rattle.cts_elmore.specs.declared.figures.Figures.{Figures}
 use Rattle.cts_elmore.specs.Figures.{AreFigures, AreFiguresInRange}
@@ -14,16 +13,16 @@ use Rattle.cts_plain.specs.declared.end.NoTree.{NoTree}
 use Rattle.cts_plain.specs.Synthesis.{IsSynthesis, made}
 use Rattle.cts_plain.proofs.Sound.{tree_ok, trees_sound}
 use Rattle.cts_plain.proofs.FewCorners.{trees_few_corners}
+use Rattle.cts_plain.proofs.Valid.{shape_over}
 use Rattle.cts_report.specs.Report.{report_text}
 use Rattle.cts_check.specs.Verdict.{IsRight}
 use Rattle.cts_check.proofs.Accepted.{Stands, accepted}
-use Rattle.cts_top.proofs.Valid.{sinks_are}
 
 pub right_report : (i : Parts) (tree : List TreeNode) (figures : Figures) → IsValid i → IsSynthesis i (made tree) → AreFigures i tree figures
     → AreFiguresInRange figures → IsRight i (report_text tree figures)
 right_report i tree figures valid is are range =
     let shape : List ShapeNode = shape_of i.sinks in
-    let over : IsShapeOver (length i.sinks) shape = (shapes_name_each_sink_lem i.sinks (sinks_are i valid)).0 in
+    let over : IsShapeOver (length i.sinks) shape = shape_over i valid in
     let sound = trees_sound i shape tree valid over is in
     let stands : All (Stands i.die) tree = λ k d within. ((sound.1 k d within).place, (sound.1 k d within).corners) in
     accepted i valid tree (tree_ok i shape tree valid over is) (sound.2) (sound.0) stands (trees_few_corners i shape tree valid over is) figures are range

@@ -2,7 +2,7 @@
 use Rattle.std.proofs.Common.{◌≡◌, ◌≢◌, ◌≤◌, ◌↔◌, ℕ, List, [], ◌∷◌, Option, Some, None, codes, map, refl, sym, subst, ap, arith}
 use Rattle.std.specs.Option.{option_zip}
 use Rattle.cts_top.specs.declared.words.Form.{Form}
-use Rattle.cts_top.specs.declared.words.Form.TheVariants.{Synth, Check, Make, Job}
+use Rattle.cts_top.specs.declared.words.Form.TheVariants.{Synth, Check, Edit, Make, Job}
 use Rattle.cts_top.specs.Words.{AreMade, AsksFor, IsAlone, IsNumber, IsWithinLimits, IsWorkers}
 
 -- a seed and a number of sinks, each found where it is within its limits
@@ -42,6 +42,7 @@ made_zip seed_word sinks_word (Some a) (Some b) p q s n = (
 pub asked_within : (words : List (List ℕ)) (form : Form) → AsksFor words form → IsWithinLimits form
 asked_within words (Synth workers) a = (a.2.1, a.2.2)
 asked_within words Check a = tt
+asked_within words Edit a = tt
 asked_within words (Make seed sinks) a = (a.3.seed_within, a.3.some_sink, a.3.sinks_within)
 asked_within words (Job seed sinks workers) a = (a.4.seed_within, a.4.some_sink, a.4.sinks_within, a.5.1, a.5.2)
 
@@ -50,12 +51,14 @@ module _ (name s n : List ℕ) (z : Option (ℕ × ℕ)) (parts : (x y : ℕ) �
   pub make_other : name ≢ codes "make" → (form : Form) → (None ≡ Some form) ↔ AsksFor (name ∷ s ∷ n ∷ []) form
   make_other other (Synth workers) = (λ e. absurd cc, λ a. absurd (let e = a.1 in cc))
   make_other other Check = (λ e. absurd cc, λ a. absurd cc)
+  make_other other Edit = (λ e. absurd cc, λ a. absurd cc)
   make_other other (Make x y) = (λ e. absurd cc, λ a. absurd (other (let e = a.2 in cc)))
   make_other other (Job x y q) = (λ e. absurd cc, λ a. absurd (let e = a.3 in cc))
 
   pub make_none : z ≡ None → (form : Form) → (None ≡ Some form) ↔ AsksFor (name ∷ s ∷ n ∷ []) form
   make_none none (Synth workers) = (λ e. absurd cc, λ a. absurd (let e = a.1 in cc))
   make_none none Check = (λ e. absurd cc, λ a. absurd cc)
+  make_none none Edit = (λ e. absurd cc, λ a. absurd cc)
   make_none none (Make x y) = (
     λ e. absurd cc,
     λ a.
@@ -72,6 +75,7 @@ module _ (name s n : List ℕ) (z : Option (ℕ × ℕ)) (parts : (x y : ℕ) �
       → (Some (Make u v) ≡ Some form) ↔ AsksFor (name ∷ s ∷ n ∷ []) form
   make_some u v is some (Synth workers) = (λ e. absurd cc, λ a. absurd (let e = a.1 in cc))
   make_some u v is some Check = (λ e. absurd cc, λ a. absurd cc)
+  make_some u v is some Edit = (λ e. absurd cc, λ a. absurd cc)
   make_some u v is some (Make x y) = (
     λ e.
         let first : u ≡ x = cc in
@@ -95,12 +99,14 @@ module _ (name s n : List ℕ) (z : Option (ℕ × ℕ)) (parts : (x y : ℕ) �
     pub job_other : name ≢ codes "job" → (form : Form) → (None ≡ Some form) ↔ AsksFor (name ∷ s ∷ n ∷ w ∷ []) form
     job_other other (Synth workers) = (λ e. absurd cc, λ a. absurd (let e = a.1 in cc))
     job_other other Check = (λ e. absurd cc, λ a. absurd cc)
+    job_other other Edit = (λ e. absurd cc, λ a. absurd cc)
     job_other other (Make x y) = (λ e. absurd cc, λ a. absurd (let e = a.2 in cc))
     job_other other (Job x y q) = (λ e. absurd cc, λ a. absurd (other (let e = a.3 in cc)))
 
     pub job_none : z ≡ None → (form : Form) → (None ≡ Some form) ↔ AsksFor (name ∷ s ∷ n ∷ w ∷ []) form
     job_none none (Synth workers) = (λ e. absurd cc, λ a. absurd (let e = a.1 in cc))
     job_none none Check = (λ e. absurd cc, λ a. absurd cc)
+    job_none none Edit = (λ e. absurd cc, λ a. absurd cc)
     job_none none (Make x y) = (λ e. absurd cc, λ a. absurd (let e = a.2 in cc))
     job_none none (Job x y q) = (
       λ e. absurd cc,
@@ -117,6 +123,7 @@ module _ (name s n : List ℕ) (z : Option (ℕ × ℕ)) (parts : (x y : ℕ) �
         → (Some (Job u v t) ≡ Some form) ↔ AsksFor (name ∷ s ∷ n ∷ w ∷ []) form
     job_some u v t is of_word some (Synth workers) = (λ e. absurd cc, λ a. absurd (let e = a.1 in cc))
     job_some u v t is of_word some Check = (λ e. absurd cc, λ a. absurd cc)
+    job_some u v t is of_word some Edit = (λ e. absurd cc, λ a. absurd cc)
     job_some u v t is of_word some (Make x y) = (λ e. absurd cc, λ a. absurd (let e = a.2 in cc))
     job_some u v t is of_word some (Job x y q) = (
       λ e.
@@ -144,6 +151,7 @@ module _ (name s n w : List ℕ) where
   pub job_workers : ((q : ℕ) → IsWorkers w q → ⊥) → (form : Form) → (None ≡ Some form) ↔ AsksFor (name ∷ s ∷ n ∷ w ∷ []) form
   job_workers other (Synth workers) = (λ e. absurd cc, λ a. absurd (let e = a.1 in cc))
   job_workers other Check = (λ e. absurd cc, λ a. absurd cc)
+  job_workers other Edit = (λ e. absurd cc, λ a. absurd cc)
   job_workers other (Make x y) = (λ e. absurd cc, λ a. absurd (let e = a.2 in cc))
   job_workers other (Job x y q) = (
     λ e. absurd cc,
@@ -163,6 +171,7 @@ module _ (w : List ℕ) where
         absurd cc,
   )
   synth_none of_word Check = (λ e. absurd cc, λ a. absurd cc)
+  synth_none of_word Edit = (λ e. absurd cc, λ a. absurd cc)
   synth_none of_word (Make x y) = (λ e. absurd cc, λ a. absurd (let e = a.2 in cc))
   synth_none of_word (Job x y q) = (λ e. absurd cc, λ a. absurd (let e = a.3 in cc))
 
@@ -180,6 +189,7 @@ module _ (w : List ℕ) where
         cc,
   )
   synth_some t of_word Check = (λ e. absurd cc, λ a. absurd cc)
+  synth_some t of_word Edit = (λ e. absurd cc, λ a. absurd cc)
   synth_some t of_word (Make x y) = (λ e. absurd cc, λ a. absurd (let e = a.2 in cc))
   synth_some t of_word (Job x y q) = (λ e. absurd cc, λ a. absurd (let e = a.3 in cc))
 

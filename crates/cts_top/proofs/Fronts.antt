@@ -1,19 +1,19 @@
 -- The bytes that follow the instance at the front of an input.
-use Rattle.std.proofs.Common.{◌≡◌, ℕ, zero, suc, ◌+◌, ◌≤◌, ◌==◌, Bool, true, false, inl, inr, List, [], ◌∷◌, ◌++◌, length, length-drop, drop, Result, Ok, Err, refl, sym, ap, ◌∙◌, append_assoc, arith}
+use Rattle.std.proofs.Common.{◌≡◌, ℕ, zero, suc, ◌+◌, ◌≤◌, ◌==◌, Bool, true, false, inl, inr, List, [], ◌∷◌, ◌++◌, length, length-drop, drop, Ok, refl, sym, ap, ◌∙◌, append_assoc, arith}
 use Rattle.std.specs.Prelude.{if◌then◌else◌}
 use Rattle.std.specs.List.{onto_first}
 use Rattle.std.proofs.lemmas.List.{length-map}
 use Rattle.cts_io.specs.Lines.{pieces_of, lines_of, IsLineEnd}
 use Rattle.cts_instance.specs.declared.parts.Parts.{Parts}
-use Rattle.cts_read.specs.Grammar.{◌>>=◌, Left, Refusal}
+use Rattle.cts_read.specs.Grammar.{Left}
 use Rattle.cts_read.specs.Place.{IsAfterLine}
 use Rattle.cts_read.specs.Whole.{instance_of}
 use Rattle.cts_read.specs.declared.stop.ReadStop.{ReadStop}
 use Rattle.cts_read.specs.declared.stop.ReadStop.TheVariants.{Refused, NoMemory}
 use Rattle.cts_read.specs.Grammar.{Refuses}
-use Rattle.cts_top.specs.Input.{after_line, after_lines, front_of, input_of, input_limit}
+use Rattle.cts_top.specs.Input.{after_line, after_lines, front_of, input_limit}
 use Rattle.cts_top.specs.Outcome.{stop_of_text}
-use Rattle.cts_top.specs.Right.{ExplainsFront}
+use Rattle.cts_top.specs.Right.{ExplainsBy}
 
 -- how many lines are ended by LF in some bytes
 lfs : List ℕ → ℕ
@@ -126,22 +126,8 @@ pub front_read : (bytes : List ℕ) (i : Parts) (lines : ℕ) (left : Left) (res
 unfolding front_of
 front_read bytes i lines left rest e f = rw (e, f) refl
 
--- an input that does not begin with an instance is none
-abbrev front_in : List ℕ → Result ((Parts × ℕ) × Left) Refusal → Result (Parts × List ℕ) Refusal
-front_in bytes read = do
-  taken ← read
-  Ok (taken.0.0, after_lines taken.0.1 bytes)
-
-pub front_refuses_all : (bytes : List ℕ) (r : Refusal) → front_of bytes ≡ Err r → input_of bytes ≡ Err r
-unfolding front_of input_of
-front_refuses_all bytes r e = by (instance_of bytes) refl e
-  where
-    by : (o : Result ((Parts × ℕ) × Left) Refusal) → instance_of bytes ≡ o → front_in bytes o ≡ Err r → input_of bytes ≡ Err r
-    by (Ok taken) found f = absurd cc
-    by (Err s) found f = let same : s ≡ r = cc in rw found (ap Err same)
-
 pub front_refused : (bytes : List ℕ) (stop : ReadStop) → length bytes ≤ input_limit → Refuses stop (instance_of bytes)
-    → ExplainsFront (stop_of_text stop) bytes
+    → ExplainsBy front_of (stop_of_text stop) bytes
 unfolding front_of
 front_refused bytes (Refused line cause) h e = (h, rw e refl)
 front_refused bytes NoMemory h e = tt

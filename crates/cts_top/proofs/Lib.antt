@@ -5,10 +5,10 @@ pub mod Synthesising
 pub mod Remembering
 pub mod Inputs
 pub mod Lists
-pub mod Valid
 pub mod Printable
 pub mod Accepting
 pub mod Told
 pub mod Writing
 pub mod Serving
 pub mod Forms
+pub mod Editing

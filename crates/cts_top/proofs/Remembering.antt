@@ -1,5 +1,5 @@
 -- The memo of a run, by the synthesis that was made over it.
-use Rattle.std.proofs.Common.{◌≡◌, ◌≤◌, ◌↔◌, ◌⊎◌, ℕ, inl, List, length, Option, None, Some, IfSome, IsSome, Result, Ok, Err, IfErr, OnOk, IsErrOf, refl, sym, subst, arith}
+use Rattle.std.proofs.Common.{◌≡◌, ◌≤◌, ◌↔◌, ◌⊎◌, ℕ, inl, List, length, Option, None, Some, IfSome, IsSome, Result, Ok, Err, IfErr, OnOk, IsErrOf, refl, sym, subst, ap, ◌∙◌, arith}
 use Rattle.cts_instance.specs.declared.parts.Parts.{Parts}
 use Rattle.cts_instance.specs.Validity.{IsValid}
 use Rattle.cts_io.specs.declared.write.WriteEnd.{WriteEnd}
@@ -18,21 +18,24 @@ use Rattle.cts_memo.specs.Tables.{base_of, told_by}
 use Rattle.cts_plain.specs.declared.end.NoTree.{NoTree}
 use Rattle.cts_plain.specs.declared.end.NoTree.TheVariants as end
 use Rattle.cts_plain.specs.Synthesis.{IsSynthesis, made, beyond}
+use Rattle.cts_script.specs.declared.script.ScriptStep.{ScriptStep}
 use Rattle.cts_script.specs.Generator.{made_parts}
+use Rattle.cts_session.specs.Desks.{version_of}
 use Rattle.cts_top.specs.declared.stop.Answer.{Answer}
 use Rattle.cts_top.specs.declared.stop.Stop.{Stop}
 use Rattle.cts_top.specs.declared.stop.Stop.TheVariants as stop
 use Rattle.cts_top.specs.declared.outcome.Status.{Status}
 use Rattle.cts_top.specs.declared.words.Form.{Form}
-use Rattle.cts_top.specs.declared.words.Form.TheVariants.{Synth, Check, Make, Job}
-use Rattle.cts_top.specs.Input.{Spells}
-use Rattle.cts_top.specs.Memos.{HasWorkers, HoldsMemo, IsKept, IsMemoOf, TellsEnd, TellsOfTree}
+use Rattle.cts_top.specs.declared.words.Form.TheVariants.{Synth, Check, Edit, Make, Job}
+use Rattle.cts_top.specs.Input.{Spells, SpellsScripts}
+use Rattle.cts_top.specs.Log.{Log, no_log}
+use Rattle.cts_top.specs.Memos.{HasLog, HasMemo, HoldsMemo, IsKept, IsMemoOf, TellsEnd, TellsOfTree}
 use Rattle.cts_top.specs.Outcome.{status_of}
 use Rattle.cts_top.specs.Words.{IsAlone}
 use Rattle.cts_top.specs.Written.{ended_of}
-use Rattle.cts_top.proofs.Endings.{one_instance}
+use Rattle.cts_top.proofs.Endings.{Scripted, one_instance, one_scripted}
 use Rattle.cts_top.proofs.Serving.{on_left}
-use Rattle.cts_top.proofs.Valid.{synthesis_same}
+use Rattle.cts_plain.proofs.Valid.{synthesis_same}
 
 -- an answer of a synthesis
 abbrev Made : Type 0
@@ -95,7 +98,7 @@ stopped_untold stop.NoMemory n t = t
 
 -- the memo of a run that has read an instance
 pub holds_synth : (workers : ℕ) (left : Option (List ℕ)) (i : Parts) (memo : Option Table) → IfSome left (λ b. Spells b i) → IfSome memo (IsMemoOf i)
-    → HoldsMemo (Synth workers) left memo
+    → HoldsMemo no_log (Synth workers) left memo
 holds_synth workers left i None spells is = tt
 holds_synth workers left i (Some table) spells is =
     on_left left (λ b. Spells b i) (λ b. (j : Parts) → Spells b j → IsMemoOf j table)
@@ -103,14 +106,31 @@ holds_synth workers left i (Some table) spells is =
 
 -- and of one that made it
 pub holds_job : (seed sinks workers : ℕ) (left : Option (List ℕ)) (memo : Option Table) → IfSome memo (IsMemoOf (made_parts seed sinks))
-    → HoldsMemo (Job seed sinks workers) left memo
+    → HoldsMemo no_log (Job seed sinks workers) left memo
 holds_job seed sinks workers left None is = tt
 holds_job seed sinks workers left (Some table) is = λ j same. subst (λ p. IsMemoOf p table) (sym same) is
 
+-- and of one that has read an instance and scripts
+pub holds_edit : (log : Log) (left : Option (List ℕ)) (i : Parts) (scripts : List (List ScriptStep)) (memo : Option Table)
+    → IfSome left (λ b. SpellsScripts b i scripts) → IfSome memo (IsMemoOf (version_of i log.history)) → HoldsMemo log Edit left memo
+holds_edit log left i scripts None spells is = tt
+holds_edit log left i scripts (Some table) spells is =
+    on_left left (λ b. SpellsScripts b i scripts)
+    (λ b. (j : Parts) → (base : Parts) × (ss : List (List ScriptStep)) × SpellsScripts b base ss × (j ≡ version_of base log.history) → IsMemoOf j table)
+    (λ b s j (base, ss, other, version).
+    let same : i ≡ base = ap (λ (p : Scripted). p.0) (one_scripted b i base scripts ss s other) in
+    subst (λ p. IsMemoOf p table) (ap (λ p. version_of p log.history) same ∙ sym version) is) spells
+
+-- a run has a log of callers only where its words ask for edits
+pub has_log : (Asks : Form → Type 0) (form : Form) (s : Status) (log : Log) → Asks form
+    → (¬ ((form ≡ Edit) × TellsOfTree s) → log ≡ no_log) → HasLog Asks s log
+has_log Asks form s log asks f = λ none. f (λ p. none (subst Asks p.0 asks, p.1))
+
 -- a form of one thread keeps no memo
-pub alone_keeps_none : (form : Form) (X : Type 0) → IsAlone form → HasWorkers form × X → ⊥
+pub alone_keeps_none : (form : Form) (X : Type 0) → IsAlone form → HasMemo form × X → ⊥
 alone_keeps_none (Synth workers) X one has = omega (arith, one, has.0)
 alone_keeps_none Check X one has = has.0
+alone_keeps_none Edit X one has = one
 alone_keeps_none (Make seed sinks) X one has = has.0
 alone_keeps_none (Job seed sinks workers) X one has = omega (arith, one, has.0)
 

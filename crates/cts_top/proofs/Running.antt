@@ -8,6 +8,7 @@ use Rattle.cts_top.specs.declared.stop.Stop.{Stop}
 use Rattle.cts_top.specs.declared.stop.Stop.TheVariants as stop
 use Rattle.cts_top.specs.declared.outcome.Status.TheVariants as status
 use Rattle.cts_top.specs.declared.words.Form.{Form}
+use Rattle.cts_top.specs.Log.{Log}
 use Rattle.cts_top.specs.Notes.{note_of, stop_note}
 use Rattle.cts_top.specs.Outcome.{Serves, status_of}
 use Rattle.cts_top.specs.Runs.{AnswersWords, Runs}
@@ -43,19 +44,19 @@ kept_at X (Err stop.WriteFault) k done verdict none write = absurd (write refl)
 kept_at X (Err stop.NoMemory) k done verdict none write = k (λ p. cc)
 
 module _ {S K : Type 0} (left : S → Option (List ℕ)) (reads : S → ℕ) (held : K → Option (List ℕ)) (writes : K → ℕ)
-    (Asks : Form → Type 0) (source source' : S) (sink sink' : K) where
+    (Asks : Form → Type 0) (log : Log) (source source' : S) (sink sink' : K) where
   pub runs : {N : Type 0} (noted : N → Option (List ℕ)) (notings : N → ℕ) (notes notes' : N) (ending : Result Answer Stop)
       (written : Result Unit WriteEnd)
-      → AnswersWords left reads held writes Asks source source' sink sink' ending
+      → AnswersWords left reads held writes Asks log source source' sink sink' ending
       → Writes noted notings notes notes' (note_of ending) written
-      → Runs left reads held writes noted notings Asks source source' sink sink' notes notes' (status_of ending)
+      → Runs left reads held writes noted notings Asks log source source' sink sink' notes notes' (status_of ending)
   runs noted notings notes notes' ending written a w = record {
     words = (λ e. a.served.0 (words_stop ending e), λ none. words_status ending (a.served.1 none));
     untouched = λ e. a.untouched (words_stop ending e);
     others = λ form is. (a.serves form is).others;
-    done = λ form is s. done_at form _ ending (left source) (held sink) (held sink') s (a.serves form is).done;
-    no = λ form is s. no_at form _ ending (left source) (held sink) (held sink') s (a.serves form is).done;
-    no_tree = λ form is s. no_tree_at form _ ending (left source) (held sink) (held sink') s (a.serves form is).done;
+    done = λ form is s. done_at log form _ ending (left source) (held sink) (held sink') s (a.serves form is).done;
+    no = λ form is s. no_at log form _ ending (left source) (held sink) (held sink') s (a.serves form is).done;
+    no_tree = λ form is s. no_tree_at log form _ ending (left source) (held sink) (held sink') s (a.serves form is).done;
     refused = λ form is s. refused_at form ending (left source) (a.serves form is).explained s;
     read_fault = λ form is s. (a.serves form is).read_fault (stop_at ending s);
     write_fault = λ s. a.write_fault (write_stop_at ending s);
@@ -66,38 +67,38 @@ module _ {S K : Type 0} (left : S → Option (List ℕ)) (reads : S → ℕ) (he
     notes_counted = w.counted;
     complete = λ form is calm sound.
         let serves = a.serves form is in
-        complete_at form _ ending (left source) (held sink) (held sink') serves.done serves.explained (λ e. a.served.0 e form is)
+        complete_at log form _ ending (left source) (held sink) (held sink') serves.done serves.explained (λ e. a.served.0 e form is)
         (λ e. calm (serves.read_fault e).0 (serves.read_fault e).1) (λ e. sound (serves.write_fault e).1);
     refuses = λ form is calm.
         let serves = a.serves form is in
-        refuses_at form _ _ _ ending (left source) (held sink) (held sink') serves.done (λ e. a.served.0 e form is)
+        refuses_at log form _ _ _ ending (left source) (held sink) (held sink') serves.done (λ e. a.served.0 e form is)
         (λ e. calm (serves.read_fault e).0 (serves.read_fault e).1) serves.write_fault;
     note = λ calm. (note_of ending, a.note, whole_at written w calm);
   }
 
   -- words that ask for one form
   pub answers_form : (f : Form) (ending : Result Answer Stop) → ((form : Form) → (Some f ≡ Some form) ↔ Asks form)
-      → Serves left reads held writes f source source' sink sink' ending → (IsErrOf ending stop.Words → ⊥)
-      → AnswersWords left reads held writes Asks source source' sink sink' ending
+      → Serves left reads held writes log f source source' sink sink' ending → (IsErrOf ending stop.Words → ⊥)
+      → AnswersWords left reads held writes Asks log source source' sink sink' ending
   answers_form f ending is s served = record {
     served = (λ e. absurd (served e), λ none. absurd (none f ((is f).0 refl)));
     untouched = λ e. absurd (served e);
     serves = λ form asks.
         let e = (is form).1 asks in
         let same : f ≡ form = cc in
-        subst (λ g. Serves left reads held writes g source source' sink sink' ending) same s;
+        subst (λ g. Serves left reads held writes log g source source' sink sink' ending) same s;
     write_fault = λ e. (s.write_fault e).1;
     kept = s.kept;
-    note = note_at f ending (left source) s.explained;
+    note = note_at f Asks (λ other asks. let e = (is other).1 asks in cc) ending (left source) s.explained;
     source_counted = s.source_counted;
     sink_counted = s.sink_counted;
   }
 
 -- words that ask for none
 module _ {S K : Type 0} (left : S → Option (List ℕ)) (reads : S → ℕ) (held : K → Option (List ℕ)) (writes : K → ℕ)
-    (Asks : Form → Type 0) (source : S) (sink : K) where
+    (Asks : Form → Type 0) (log : Log) (source : S) (sink : K) where
   pub answers_none : ((form : Form) → (None ≡ Some form) ↔ Asks form)
-      → AnswersWords left reads held writes Asks source source sink sink (Err stop.Words)
+      → AnswersWords left reads held writes Asks log source source sink sink (Err stop.Words)
   unfolding note_of stop_note
   answers_none is = record {
     served = (λ e form asks. let n = (is form).1 asks in absurd cc, λ none. refl);

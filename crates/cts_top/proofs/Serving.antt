@@ -2,15 +2,18 @@
 use Rattle.std.proofs.Common.{◌≡◌, ◌≢◌, ◌≤◌, ℕ, List, [], Option, None, Some, IfSome, Result, Ok, Err, IsErrOf, refl, subst}
 use Rattle.std.specs.Io.KnownBytes.{IsAtEnd}
 use Rattle.cts_instance.specs.declared.parts.Parts.{Parts}
+use Rattle.cts_read.specs.Grammar.{Refusal}
 use Rattle.cts_report.specs.Report.{report_text}
+use Rattle.cts_script.specs.declared.script.ScriptStep.{ScriptStep}
 use Rattle.cts_top.specs.declared.stop.Answer.{Answer}
 use Rattle.cts_top.specs.declared.stop.Stop.{Stop}
 use Rattle.cts_top.specs.declared.stop.Stop.TheVariants as stop
-use Rattle.cts_top.specs.declared.words.Form.TheVariants.{Synth, Check, Make, Job}
-use Rattle.cts_top.specs.Input.{Spells, SpellsFront}
+use Rattle.cts_top.specs.declared.words.Form.TheVariants.{Synth, Check, Edit, Make, Job}
+use Rattle.cts_top.specs.Input.{Spells, SpellsFront, SpellsScripts, front_of, input_of, scripted_of}
+use Rattle.cts_top.specs.Log.{Log, no_log}
 use Rattle.cts_top.specs.Verdict.{TellsVerdict}
 use Rattle.cts_top.specs.Outcome.{Serves}
-use Rattle.cts_top.specs.Right.{DoesNotRead, ExplainsFront, ExplainsWhole, IsRight}
+use Rattle.cts_top.specs.Right.{DoesNotRead, ExplainsBy, IsRight, TellsCallers}
 use Rattle.cts_top.specs.Text.{TellsSynthesis}
 use Rattle.cts_top.specs.Written.{Answers, IsAnswered, IsAnsweredInPart}
 
@@ -32,13 +35,13 @@ does_not_read stop.ReadFault X k = let e = (k (λ p. cc)).1 in absurd cc
 does_not_read stop.WriteFault X k = tt
 does_not_read stop.NoMemory X k = tt
 
-unexplained : (bytes : List ℕ) (end : Stop) → DoesNotRead end → ExplainsWhole end bytes × ExplainsFront end bytes
-unexplained bytes stop.Words n = (tt, tt)
-unexplained bytes stop.TooLong n = absurd n
-unexplained bytes (stop.Refused line cause) n = absurd n
-unexplained bytes stop.ReadFault n = (tt, tt)
-unexplained bytes stop.WriteFault n = (tt, tt)
-unexplained bytes stop.NoMemory n = (tt, tt)
+unexplained : {A : Type 0} (reading : List ℕ → Result A Refusal) (bytes : List ℕ) (end : Stop) → DoesNotRead end → ExplainsBy reading end bytes
+unexplained reading bytes stop.Words n = tt
+unexplained reading bytes stop.TooLong n = absurd n
+unexplained reading bytes (stop.Refused line cause) n = absurd n
+unexplained reading bytes stop.ReadFault n = tt
+unexplained reading bytes stop.WriteFault n = tt
+unexplained reading bytes stop.NoMemory n = tt
 
 free_of : (left : Option (List ℕ)) (P : List ℕ → Type 0) → ((b : List ℕ) → P b) → IfSome left P
 free_of None P p = tt
@@ -70,11 +73,11 @@ pub serves_synth : {S K : Type 0} (left : S → Option (List ℕ)) (reads : S �
     (source source' : S) (sink sink' : K) (result : Result Answer Stop) (workers : ℕ) (i : Parts)
     → IsAtEnd (left source') → IfSome (left source) (λ b. Spells b i) → reads source ≤ reads source'
     → Answers (TellsSynthesis report_text i) held writes sink sink' result
-    → Serves left reads held writes (Synth workers) source source' sink sink' result
+    → Serves left reads held writes no_log (Synth workers) source source' sink sink' result
 serves_synth left reads held writes source source' sink sink' (Ok kind) workers i at_end spells counted a = record {
   done = (
     at_end,
-    on_left (left source) (λ b. Spells b i) (λ b. IsAnswered (IsRight (Synth workers) b) kind (held sink) (held sink'))
+    on_left (left source) (λ b. Spells b i) (λ b. IsAnswered (IsRight no_log (Synth workers) b) kind (held sink) (held sink'))
         (λ b s. (a.done.0, (i, s, a.done.1), a.done.2)) spells,
   );
   write_fault = λ e. cc;
@@ -92,11 +95,11 @@ serves_synth left reads held writes source source' sink sink' (Err end) workers 
       write_fault = λ e. let p : IsAnsweredInPart (TellsSynthesis report_text i) (held sink) (held sink') = a.in_part e in (
         at_end,
         a.rose e,
-        on_left (left source) (λ b. Spells b i) (λ b. IsAnsweredInPart (IsRight (Synth workers) b) (held sink) (held sink'))
+        on_left (left source) (λ b. Spells b i) (λ b. IsAnsweredInPart (IsRight no_log (Synth workers) b) (held sink) (held sink'))
             (λ b s. (p.0, p.1, p.2, (i, s, p.3), p.4)) spells,
       );
       read_fault = λ e. absurd (not_a_read end none e);
-      explained = free_of (left source) (ExplainsWhole end) (λ b. (unexplained b end none).0);
+      explained = free_of (left source) (ExplainsBy input_of end) (λ b. unexplained input_of b end none);
       kept = λ n. (a.kept n).0;
       others = tt;
       source_counted = counted;
@@ -108,11 +111,11 @@ pub serves_check : {S K : Type 0} (left : S → Option (List ℕ)) (reads : S �
     (source source' : S) (sink sink' : K) (result : Result Answer Stop) (i : Parts) (report : List ℕ)
     → IsAtEnd (left source') → IfSome (left source) (λ b. SpellsFront b i report) → reads source ≤ reads source'
     → Answers (TellsVerdict i report) held writes sink sink' result
-    → Serves left reads held writes Check source source' sink sink' result
+    → Serves left reads held writes no_log Check source source' sink sink' result
 serves_check left reads held writes source source' sink sink' (Ok kind) i report at_end spells counted a = record {
   done = (
     at_end,
-    on_left (left source) (λ b. SpellsFront b i report) (λ b. IsAnswered (IsRight Check b) kind (held sink) (held sink'))
+    on_left (left source) (λ b. SpellsFront b i report) (λ b. IsAnswered (IsRight no_log Check b) kind (held sink) (held sink'))
         (λ b s. (a.done.0, (i, report, s, a.done.1), a.done.2)) spells,
   );
   write_fault = λ e. cc;
@@ -130,11 +133,49 @@ serves_check left reads held writes source source' sink sink' (Err end) i report
       write_fault = λ e. let p : IsAnsweredInPart (TellsVerdict i report) (held sink) (held sink') = a.in_part e in (
         at_end,
         a.rose e,
-        on_left (left source) (λ b. SpellsFront b i report) (λ b. IsAnsweredInPart (IsRight Check b) (held sink) (held sink'))
+        on_left (left source) (λ b. SpellsFront b i report) (λ b. IsAnsweredInPart (IsRight no_log Check b) (held sink) (held sink'))
             (λ b s. (p.0, p.1, p.2, (i, report, s, p.3), p.4)) spells,
       );
       read_fault = λ e. absurd (not_a_read end none e);
-      explained = free_of (left source) (ExplainsFront end) (λ b. (unexplained b end none).1);
+      explained = free_of (left source) (ExplainsBy front_of end) (λ b. unexplained front_of b end none);
+      kept = λ n. (a.kept n).0;
+      others = tt;
+      source_counted = counted;
+      sink_counted = a.counted;
+    }
+
+-- a run that has read an instance and scripts
+pub serves_edit : {S K : Type 0} (left : S → Option (List ℕ)) (reads : S → ℕ) (held : K → Option (List ℕ)) (writes : K → ℕ)
+    (log : Log) (source source' : S) (sink sink' : K) (result : Result Answer Stop) (i : Parts) (scripts : List (List ScriptStep))
+    → IsAtEnd (left source') → IfSome (left source) (λ b. SpellsScripts b i scripts) → reads source ≤ reads source'
+    → Answers (TellsCallers i scripts log) held writes sink sink' result
+    → Serves left reads held writes log Edit source source' sink sink' result
+serves_edit left reads held writes log source source' sink sink' (Ok kind) i scripts at_end spells counted a = record {
+  done = (
+    at_end,
+    on_left (left source) (λ b. SpellsScripts b i scripts) (λ b. IsAnswered (IsRight log Edit b) kind (held sink) (held sink'))
+        (λ b s. (a.done.0, (i, scripts, s, a.done.1), a.done.2)) spells,
+  );
+  write_fault = λ e. cc;
+  read_fault = λ e. cc;
+  explained = tt;
+  kept = tt;
+  others = tt;
+  source_counted = counted;
+  sink_counted = a.counted;
+}
+serves_edit left reads held writes log source source' sink sink' (Err end) i scripts at_end spells counted a =
+    let none : DoesNotRead end = does_not_read end _ a.kept in
+    record {
+      done = tt;
+      write_fault = λ e. let p : IsAnsweredInPart (TellsCallers i scripts log) (held sink) (held sink') = a.in_part e in (
+        at_end,
+        a.rose e,
+        on_left (left source) (λ b. SpellsScripts b i scripts) (λ b. IsAnsweredInPart (IsRight log Edit b) (held sink) (held sink'))
+            (λ b s. (p.0, p.1, p.2, (i, scripts, s, p.3), p.4)) spells,
+      );
+      read_fault = λ e. absurd (not_a_read end none e);
+      explained = free_of (left source) (ExplainsBy scripted_of end) (λ b. unexplained scripted_of b end none);
       kept = λ n. (a.kept n).0;
       others = tt;
       source_counted = counted;
@@ -144,8 +185,8 @@ serves_check left reads held writes source source' sink sink' (Err end) i report
 -- a run that reads nothing
 module _ {S K : Type 0} (left : S → Option (List ℕ)) (reads : S → ℕ) (held : K → Option (List ℕ)) (writes : K → ℕ)
     (source : S) (sink sink' : K) (counted : reads source ≤ reads source) (seed sinks workers : ℕ) where
-  pub serves_make : (result : Result Answer Stop) → Answers (IsRight (Make seed sinks) []) held writes sink sink' result
-      → Serves left reads held writes (Make seed sinks) source source sink sink' result
+  pub serves_make : (result : Result Answer Stop) → Answers (IsRight no_log (Make seed sinks) []) held writes sink sink' result
+      → Serves left reads held writes no_log (Make seed sinks) source source sink sink' result
   serves_make (Ok kind) a = record {
     done = (refl, a.done);
     write_fault = λ e. cc;
@@ -169,8 +210,8 @@ module _ {S K : Type 0} (left : S → Option (List ℕ)) (reads : S → ℕ) (he
         sink_counted = a.counted;
       }
 
-  pub serves_job : (result : Result Answer Stop) → Answers (IsRight (Job seed sinks workers) []) held writes sink sink' result
-      → Serves left reads held writes (Job seed sinks workers) source source sink sink' result
+  pub serves_job : (result : Result Answer Stop) → Answers (IsRight no_log (Job seed sinks workers) []) held writes sink sink' result
+      → Serves left reads held writes no_log (Job seed sinks workers) source source sink sink' result
   serves_job (Ok kind) a = record {
     done = (refl, a.done);
     write_fault = λ e. cc;

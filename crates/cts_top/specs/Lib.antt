@@ -1,4 +1,5 @@
 pub mod Input
+pub mod Log
 pub mod Memos
 pub mod Notes
 pub mod Outcome
@@ -16,3 +17,7 @@ pub use Rattle.cts_check.specs.Verdict as CheckedVerdict
 pub use Rattle.cts_memo.specs.Tables
 pub use Rattle.cts_memo.specs.Numbers
 pub use Rattle.cts_memo.specs.Sound
+pub use Rattle.cts_script.specs.Scripts
+pub use Rattle.cts_callers.specs.Legal
+pub use Rattle.cts_callers.specs.Replies
+pub use Rattle.cts_history.specs.History

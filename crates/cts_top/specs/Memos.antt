@@ -11,12 +11,15 @@ use Rattle.cts_memo.specs.Tables.{base_of, told_by}
 use Rattle.cts_plain.specs.declared.end.NoTree.{NoTree}
 use Rattle.cts_plain.specs.declared.end.NoTree.TheVariants as end
 use Rattle.cts_plain.specs.Synthesis.{IsSynthesis, made}
+use Rattle.cts_script.specs.declared.script.ScriptStep.{ScriptStep}
 use Rattle.cts_script.specs.Generator.{made_parts}
+use Rattle.cts_session.specs.Desks.{version_of}
 use Rattle.cts_top.specs.declared.outcome.Status.{Status}
 use Rattle.cts_top.specs.declared.outcome.Status.TheVariants as status
 use Rattle.cts_top.specs.declared.words.Form.{Form}
-use Rattle.cts_top.specs.declared.words.Form.TheVariants.{Synth, Check, Make, Job}
-use Rattle.cts_top.specs.Input.{Spells}
+use Rattle.cts_top.specs.declared.words.Form.TheVariants.{Synth, Check, Edit, Make, Job}
+use Rattle.cts_top.specs.Input.{Spells, SpellsScripts}
+use Rattle.cts_top.specs.Log.{Log, no_log}
 use Rattle.cts_top.specs.Right.{OfInput}
 
 -- A table is that of a memo over which an instance was synthesised: its entries were made with the instance's parameters,
@@ -53,24 +56,33 @@ TellsEnd (Err (end.Beyond node)) s = TellsOfTree s
 TellsEnd (Err (end.Cut node)) s = TellsOfTree s
 TellsEnd (Err end.NoMemory) s = TellsOfTree s → ⊥
 
--- a form whose tree is made by more than one worker
-abbrev pub HasWorkers : Form → Type 0
-HasWorkers (Synth workers) = 2 ≤ workers
-HasWorkers Check = ⊥
-HasWorkers (Make seed sinks) = ⊥
-HasWorkers (Job seed sinks workers) = 2 ≤ workers
+-- a form whose tree is made over a memo: by more than one worker, or after the edits of callers
+abbrev pub HasMemo : Form → Type 0
+HasMemo (Synth workers) = 2 ≤ workers
+HasMemo Check = ⊥
+HasMemo Edit = Unit
+HasMemo (Make seed sinks) = ⊥
+HasMemo (Job seed sinks workers) = 2 ≤ workers
 
 -- a run keeps its memo, where `Asks` says what its words ask for and this is its status
 abbrev pub KeepsMemo : (Form → Type 0) → Status → Type 0
-KeepsMemo Asks s = (form : Form) × Asks form × HasWorkers form × TellsOfTree s
+KeepsMemo Asks s = (form : Form) × Asks form × HasMemo form × TellsOfTree s
 
--- the instance that a form's tree is of, where these bytes were the input
-abbrev pub IsInstance : Form → List ℕ → Parts → Type 0
-IsInstance (Synth workers) bytes i = Spells bytes i
-IsInstance Check bytes i = ⊥
-IsInstance (Make seed sinks) bytes i = ⊥
-IsInstance (Job seed sinks workers) bytes i = i ≡ made_parts seed sinks
+-- The instance that a form's last tree is of, where these bytes were the input. After edits it is the version after the
+-- history.
+abbrev pub IsInstance : Log → Form → List ℕ → Parts → Type 0
+IsInstance log (Synth workers) bytes i = Spells bytes i
+IsInstance log Check bytes i = ⊥
+IsInstance log Edit bytes i =
+    (base : Parts) × (scripts : List (List ScriptStep)) × SpellsScripts bytes base scripts × (i ≡ version_of base log.history)
+IsInstance log (Make seed sinks) bytes i = ⊥
+IsInstance log (Job seed sinks workers) bytes i = i ≡ made_parts seed sinks
 
 -- the memo of a run on a form is that of the instance, where the input tells it
-abbrev pub HoldsMemo : Form → Option (List ℕ) → Option Table → Type 0
-HoldsMemo form left memo = IfSome memo (λ table. OfInput form left (λ bytes. (i : Parts) → IsInstance form bytes i → IsMemoOf i table))
+abbrev pub HoldsMemo : Log → Form → Option (List ℕ) → Option Table → Type 0
+HoldsMemo log form left memo = IfSome memo (λ table. OfInput form left (λ bytes. (i : Parts) → IsInstance log form bytes i → IsMemoOf i table))
+
+-- A run has a log of callers only where its words ask for edits and its status tells of a tree; in every other run it is
+-- empty.
+abbrev pub HasLog : (Form → Type 0) → Status → Log → Type 0
+HasLog Asks s log = ¬ (Asks Edit × TellsOfTree s) → log ≡ no_log

@@ -1,4 +1,4 @@
--- The text for a synthesis: the report of its tree, or one line where it has none.
+-- The text for a synthesis: the report of its tree, or one line where it has none. For edits their history stands before it.
 use Rattle.std.specs.Prelude.{◌≡◌, ◌≤◌, ℕ, List, ◌++◌, codes}
 use Rattle.cts_instance.specs.declared.parts.Parts.{Parts}
 use Rattle.cts_instance.specs.Validity.{IsValid}
@@ -14,6 +14,8 @@ use Rattle.cts_top.specs.declared.stop.Answer.TheVariants as answer
 use Rattle.cts_report.specs.Report.{report_text, summary_text}
 use Rattle.cts_top.specs.declared.answer.Telling.{Telling}
 use Rattle.cts_top.specs.declared.answer.Telling.TheVariants as telling
+use Rattle.cts_history.specs.History.{history_text}
+use Rattle.cts_top.specs.Log.{Log}
 use Rattle.cts_top.specs.Notes.{numbered}
 
 -- a text of a tree with its figures
@@ -58,3 +60,10 @@ pub record TellsSynthesis (tell : TreeText) (i : Parts) (kind : Answer) (text : 
   pub is_synthesis : IsSynthesis i synthesis
   pub kind_is : kind ≡ answer_of synthesis
   pub is_text : IsTextOf tell i synthesis text
+
+-- The text for the edits of callers, and its kind: their history with the replies to each caller, and then the text for a
+-- synthesis of the version after it, in which there is no caller and no memo.
+pub record TellsEdits (version : Parts) (log : Log) (kind : Answer) (text : List ℕ) : Type 0 where
+  pub report : List ℕ
+  pub tells : TellsSynthesis report_text version kind report
+  pub told : text ≡ history_text log.history log.replies ++ report

@@ -3,7 +3,7 @@ use Rattle.std.specs.Prelude.{◌≡◌, ℕ, ◌<◌, ◌≤◌, ◌^◌, List,
 use Rattle.std.specs.Global.{Global}
 use Rattle.cts_num.specs.Reading.{reading_of}
 use Rattle.cts_top.specs.declared.words.Form.{Form}
-use Rattle.cts_top.specs.declared.words.Form.TheVariants.{Synth, Check, Make, Job}
+use Rattle.cts_top.specs.declared.words.Form.TheVariants.{Synth, Check, Edit, Make, Job}
 
 -- a word is this number, with no decimal places
 abbrev pub IsNumber : List ℕ → ℕ → Type 0
@@ -21,10 +21,11 @@ pub record AreMade (seed_word sinks_word : List ℕ) (seed sinks : ℕ) : Type 0
 abbrev pub IsWorkers : List ℕ → ℕ → Type 0
 IsWorkers word workers = IsNumber word workers × (1 ≤ workers) × (workers ≤ 64)
 
--- what words of these bytes ask for: `synth W`, `check`, `make SEED N`, or `job SEED N W`
+-- what words of these bytes ask for: `synth W`, `check`, `edit`, `make SEED N`, or `job SEED N W`
 abbrev pub AsksFor : List (List ℕ) → Form → Type 0
 AsksFor words (Synth workers) = (w : List ℕ) × (words ≡ codes "synth" ∷ w ∷ []) × IsWorkers w workers
 AsksFor words Check = words ≡ codes "check" ∷ []
+AsksFor words Edit = words ≡ codes "edit" ∷ []
 AsksFor words (Make seed sinks) =
     (s : List ℕ) × (n : List ℕ) × (words ≡ codes "make" ∷ s ∷ n ∷ []) × AreMade s n seed sinks
 AsksFor words (Job seed sinks workers) =
@@ -35,10 +36,11 @@ AsksFor words (Job seed sinks workers) =
 abbrev pub IsForm : List (String Global) → Form → Type 0
 IsForm words form = AsksFor (map string_bytes words) form
 
--- a form that has at most one worker
+-- a form that is served without more than one worker or caller
 abbrev pub IsAlone : Form → Type 0
 IsAlone (Synth workers) = workers ≡ 1
 IsAlone Check = Unit
+IsAlone Edit = ⊥
 IsAlone (Make seed sinks) = Unit
 IsAlone (Job seed sinks workers) = workers ≡ 1
 
@@ -50,5 +52,6 @@ IsFormAlone words form = IsForm words form × IsAlone form
 abbrev pub IsWithinLimits : Form → Type 0
 IsWithinLimits (Synth workers) = (1 ≤ workers) × (workers ≤ 64)
 IsWithinLimits Check = Unit
+IsWithinLimits Edit = Unit
 IsWithinLimits (Make seed sinks) = (seed < 2 ^ 31) × (1 ≤ sinks) × (sinks ≤ 65536)
 IsWithinLimits (Job seed sinks workers) = (seed < 2 ^ 31) × (1 ≤ sinks) × (sinks ≤ 65536) × (1 ≤ workers) × (workers ≤ 64)

@@ -109,7 +109,7 @@ fn write_tree<K: ByteSink>(
 
 /// Writes the text for a synthesis of an instance: its tree, told so, or the line that says why it has
 /// none.
-fn answer_synthesis<K: ByteSink>(
+pub fn answer_synthesis<K: ByteSink>(
     sink: &mut K,
     telling: Telling,
     instance: &Instance,

@@ -3,18 +3,18 @@
 ghost use Rattle.std.specs.Prelude.{◌≡◌, ◌≤◌, ◌↔◌, None, IsSome, codes};
 ghost use Rattle.std.specs.Io.KnownBytes.{Appends};
 ghost use Rattle.cts_io.specs.Faults.{Rose};
-ghost use Rattle.cts_top.specs.Memos.{HoldsMemo, KeepsMemo};
+ghost use Rattle.cts_top.specs.Log.{log_of, no_log};
+ghost use Rattle.cts_top.specs.Memos.{HasLog, HoldsMemo, KeepsMemo};
 ghost use Rattle.cts_top.specs.Outcome.{status_of};
 ghost use Rattle.cts_top.specs.Runs.{AnswersWords, Runs};
 ghost use Rattle.cts_top.specs.Words.{IsForm, IsFormAlone};
 
 use crate::notes::write_note;
-use crate::outcome::{Outcome, Status};
-use crate::serve::{serve, serve_by_workers};
+use crate::outcome::{Kept, Outcome, Status};
+use crate::serve::{serve, serve_by_threads};
 use crate::stop::{Answer, Stop, status_of};
 use crate::words::{Form, form_alone, form_of};
 use cts_io::{ByteSink, ByteSource};
-use cts_memo::Table;
 use cts_work::Gate;
 use std::alloc::Global;
 use std::sync::Wait;
@@ -28,7 +28,7 @@ fn answer_alone<R: Threads + Sync, S: ByteSource, K: ByteSink>(
     source: &mut S,
     sink: &mut K,
 ) -> Result<Answer, Stop>
-    ensures { AnswersWords S.left S.faults K.held K.faults (IsFormAlone words.now) source.old source.new sink.old sink.new result }
+    ensures { AnswersWords S.left S.faults K.held K.faults (IsFormAlone words.now) no_log source.old source.new sink.old sink.new result }
 {
     match form_alone(words) {
         Some(form) => serve(rt, alloc, form, source, sink),
@@ -36,8 +36,7 @@ fn answer_alone<R: Threads + Sync, S: ByteSource, K: ByteSink>(
     }
 }
 
-/// Does what the words ask for, by as many workers as they ask for, and gives the table of the memo that
-/// these shared.
+/// Does what the words ask for, by as many workers or callers as they ask for, and gives what these leave.
 fn answer<R: Threads + Wait + Sync, S: ByteSource, K: ByteSink, G: Gate>(
     rt: &R,
     alloc: Global,
@@ -45,32 +44,39 @@ fn answer<R: Threads + Wait + Sync, S: ByteSource, K: ByteSink, G: Gate>(
     source: &mut S,
     sink: &mut K,
     gate: &G,
-) -> (Result<Answer, Stop>, Option<Table>)
-    ensures answers { AnswersWords S.left S.faults K.held K.faults (IsForm words.now) source.old source.new sink.old sink.new result.0 }
-    ensures kept { IsSome result.1 ↔ KeepsMemo (IsForm words.now) (status_of result.0) }
-    ensures memo { (form : Form) → IsForm words.now form → HoldsMemo form (S.left source.old) result.1 }
+) -> (Result<Answer, Stop>, Kept)
+    ensures answers { AnswersWords S.left S.faults K.held K.faults (IsForm words.now) (log_of result.1.history result.1.replies)
+        source.old source.new sink.old sink.new result.0 }
+    ensures kept { IsSome result.1.memo ↔ KeepsMemo (IsForm words.now) (status_of result.0) }
+    ensures memo { (form : Form) → IsForm words.now form
+        → HoldsMemo (log_of result.1.history result.1.replies) form (S.left source.old) result.1.memo }
+    ensures log { HasLog (IsForm words.now) (status_of result.0) (log_of result.1.history result.1.replies) }
 {
     match form_of(words) {
-        Some(form) => serve_by_workers(rt, alloc, gate, form, source, sink),
-        None => (Err(Stop::Words), None),
+        Some(form) => serve_by_threads(rt, alloc, gate, form, source, sink),
+        None => (Err(Stop::Words), Kept::without_log(alloc, None)),
     }
 }
 
 /// Runs the program on its words, its input and its output, and tells the notes why nothing came
-/// out whole where nothing did. The words are `synth W`, `check`, `make SEED N` or `job SEED N W`, with W
-/// from 1 to 64.
+/// out whole where nothing did. The words are `synth W`, `check`, `edit`, `make SEED N` or `job SEED N W`,
+/// with W from 1 to 64.
 ///
 /// - `Done`: the text was written, and nothing else. For `synth W` it is the report of the instance that
 ///   the input spells, the same for every number of workers; for `check` the line `yes`, since what
-///   follows the instance in the input is the report of a sound tree; for `make` the canonical text of the
-///   instance that is made from the seed; for `job` the summary of that instance's tree.
+///   follows the instance in the input is the report of a sound tree; for `edit` the history of all
+///   accepted edits, with the replies to each caller of the scripts that follow the instance in the input,
+///   and then the report of the tree of the sinks after it, as a synthesis without callers makes it; for
+///   `make` the canonical text of the instance that is made from the seed; for `job` the summary of that
+///   instance's tree.
 /// - `No`: exactly where what follows the instance is not that; the line that says at which line it is no
 ///   text of a report, or which rule it breaks first at which node, was written, and nothing else.
-/// - `NoTree`: the instance has no tree, since a node is beyond the limits or no route reaches it; the
-///   line that says so was written, and nothing else.
+/// - `NoTree`: the instance, for `edit` with the sinks after the history, has no tree, since a node is
+///   beyond the limits or no route reaches it; the line that says so was written, for `edit` after the
+///   history, and nothing else.
 /// - `Words`: exactly where the words are none of these forms; source and sink are as they were.
 /// - `Refused`: exactly where an input is read that spells no instance, or for `check` begins with none, or
-///   is longer than 64 MiB; the sink is as it was.
+///   for `edit` spells none with scripts after it, or is longer than 64 MiB; the sink is as it was.
 /// - `ReadFault`, `WriteFault`: only where the count of faults of source or sink rose in this call.
 ///   After a write fault the sink holds its old bytes and a front of the text.
 /// - `NoMemory`: after the words and before the first write; the sink is as it was.
@@ -78,11 +84,12 @@ fn answer<R: Threads + Wait + Sync, S: ByteSource, K: ByteSink, G: Gate>(
 /// `make` and `job` leave the source as it is. The notes get at most one line. Where they fail, nothing
 /// else changes.
 ///
-/// More than one worker share a memo of the subtrees that are done. The outcome has its table at the
-/// statuses `Done`, `NoTree` and `WriteFault`. The gate is called as the workers go. One worker goes the
-/// way of [`run_alone`], without a memo.
+/// More than one worker, and the callers of `edit`, share a memo of the subtrees that are done. The outcome
+/// has its table at the statuses `Done`, `NoTree` and `WriteFault`, and for `edit` the history and the
+/// replies that the text tells. The gate is called as workers and callers go. One worker goes the way of
+/// [`run_alone`], without a memo.
 ///
-/// The workers wait for each other, so no clause says that this call returns.
+/// Workers and callers wait for each other, so no clause says that this call returns.
 pub fn run<R: Threads + Wait + Sync, S: ByteSource, K: ByteSink, N: ByteSink, G: Gate>(
     rt: &R,
     alloc: Global,
@@ -92,21 +99,22 @@ pub fn run<R: Threads + Wait + Sync, S: ByteSource, K: ByteSink, N: ByteSink, G:
     notes: &mut N,
     gate: &G,
 ) -> Outcome
-    ensures runs { Runs S.left S.faults K.held K.faults N.held N.faults (IsForm words.now)
+    ensures runs { Runs S.left S.faults K.held K.faults N.held N.faults (IsForm words.now) (log_of result.history result.replies)
         source.old source.new sink.old sink.new notes.old notes.new result.status }
 
-    // The memo is there exactly where more than one worker went and the status tells of a tree ..
+    // The memo is there exactly where workers or callers shared one and the status tells of a tree ..
     ensures memo_kept { IsSome result.memo ↔ KeepsMemo (IsForm words.now) result.status }
     // .. and it is that of the instance.
-    ensures memo { (form : Form) → IsForm words.now form → HoldsMemo form (S.left source.old) result.memo }
+    ensures memo { (form : Form) → IsForm words.now form
+        → HoldsMemo (log_of result.history result.replies) form (S.left source.old) result.memo }
+
+    // History and replies are those of callers, or empty.
+    ensures log { HasLog (IsForm words.now) result.status (log_of result.history result.replies) }
 {
-    let (ending, memo) = answer(rt, alloc, words, source, sink, gate);
+    let (ending, kept) = answer(rt, alloc, words, source, sink, gate);
     // A note that can't be written changes nothing.
     let _ = write_note(notes, &ending);
-    Outcome {
-        status: status_of(&ending),
-        memo,
-    }
+    kept.outcome(status_of(&ending))
 }
 
 /// Runs the program on its words, its input and its output, and tells the notes why nothing came
@@ -140,23 +148,22 @@ pub fn run_alone<R: Threads + Sync, S: ByteSource, K: ByteSink, N: ByteSink>(
     sink: &mut K,
     notes: &mut N,
 ) -> Outcome
-    ensures runs { Runs S.left S.faults K.held K.faults N.held N.faults (IsFormAlone words.now)
+    ensures runs { Runs S.left S.faults K.held K.faults N.held N.faults (IsFormAlone words.now) no_log
         source.old source.new sink.old sink.new notes.old notes.new result.status }
     ensures memo { result.memo ≡ None }
+    ensures log { log_of result.history result.replies ≡ no_log }
 {
     let ending = answer_alone(rt, alloc, words, source, sink);
     // A note that can't be written changes nothing.
     let _ = write_note(notes, &ending);
-    Outcome {
-        status: status_of(&ending),
-        memo: None,
-    }
+    Kept::without_log(alloc, None).outcome(status_of(&ending))
 }
 
 /// Ends a run whose words found no memory, and tells the notes so.
-pub fn end_without_memory<N: ByteSink>(notes: &mut N) -> Outcome
+pub fn end_without_memory<N: ByteSink>(alloc: Global, notes: &mut N) -> Outcome
     ensures status { result.status ≡ Status.NoMemory }
     ensures memo { result.memo ≡ None }
+    ensures log { log_of result.history result.replies ≡ no_log }
     ensures counted { N.faults notes.old ≤ N.faults notes.new }
     ensures note { (Rose (N.faults notes.old) (N.faults notes.new) → ⊥)
         → Appends (N.held notes.old) (N.held notes.new) (codes "no memory\n") }
@@ -164,8 +171,5 @@ pub fn end_without_memory<N: ByteSink>(notes: &mut N) -> Outcome
     let ending = Err(Stop::NoMemory);
     // A note that can't be written changes nothing.
     let _ = write_note(notes, &ending);
-    Outcome {
-        status: status_of(&ending),
-        memo: None,
-    }
+    Kept::without_log(alloc, None).outcome(status_of(&ending))
 }

@@ -1,20 +1,23 @@
-//! What each form does, by one thread or by the workers that it asks for.
+//! What each form does, by one thread, or by the workers or the callers that it asks for.
 
-ghost use Rattle.std.specs.Prelude.{◌≡◌, ◌≤◌, ◌<◌, ◌^◌, ◌↔◌, ℕ, [], length, drop, IfSome, IfOk, IfErr, OnOk, IsErrOf, IsSome};
+ghost use Rattle.std.specs.Prelude.{◌≡◌, ◌≢◌, ◌≤◌, ◌<◌, ◌^◌, ◌↔◌, ℕ, [], length, drop, IfSome, IfOk, IfErr, OnOk, IsErrOf, IsSome};
 ghost use Rattle.std.specs.Io.KnownBytes.{IsAtEnd};
 ghost use Rattle.cts_io.specs.Faults.{Rose};
-ghost use Rattle.cts_top.specs.Input.{Spells, SpellsFront};
+ghost use Rattle.cts_top.specs.Input.{Spells, SpellsFront, front_of, input_of};
+ghost use Rattle.cts_top.specs.Log.{log_of, no_log};
 ghost use Rattle.cts_report.specs.Report.{summary_text};
 ghost use Rattle.cts_script.specs.Generator.{made_parts};
-ghost use Rattle.cts_top.specs.Memos.{HasWorkers, HoldsMemo, IsMemoOf, TellsOfTree};
+ghost use Rattle.cts_top.specs.Memos.{HasMemo, HoldsMemo, IsMemoOf, TellsOfTree};
 ghost use Rattle.cts_top.specs.Outcome.{Serves, status_of};
-ghost use Rattle.cts_top.specs.Right.{ExplainsFront, ExplainsWhole, IsRight};
+ghost use Rattle.cts_top.specs.Right.{ExplainsBy, IsRight};
 ghost use Rattle.cts_top.specs.Text.{TellsSynthesis};
-ghost use Rattle.cts_top.specs.Words.{IsWithinLimits};
+ghost use Rattle.cts_top.specs.Words.{IsAlone, IsWithinLimits};
 ghost use Rattle.cts_top.specs.Written.{Answers};
 
 use crate::answer::{Telling, answer_by_workers, answer_instance};
-use crate::input::{read_front, read_input};
+use crate::edit::serve_edit;
+use crate::input::{INPUT_LIMIT, give_back, read_front, read_input};
+use crate::outcome::Kept;
 use crate::stop::{Answer, Stop, ended};
 use crate::verdict::answer_verdict;
 use crate::words::{Form, is_alone};
@@ -28,9 +31,6 @@ use std::alloc::Global;
 use std::sync::Wait;
 use std::thread::Threads;
 
-/// The most bytes of an input that are accepted: 64 MiB.
-const INPUT_LIMIT: usize = 67_108_864;
-
 /// Does what a form asks for by one thread.
 pub fn serve<R: Threads + Sync, S: ByteSource, K: ByteSink>(
     rt: &R,
@@ -40,12 +40,15 @@ pub fn serve<R: Threads + Sync, S: ByteSource, K: ByteSink>(
     sink: &mut K,
 ) -> Result<Answer, Stop>
     requires within { IsWithinLimits form }
-    ensures serves { Serves S.left S.faults K.held K.faults form source.old source.new sink.old sink.new result }
+    requires alone { IsAlone form }
+    ensures serves { Serves S.left S.faults K.held K.faults no_log form source.old source.new sink.old sink.new result }
     ensures words { IsErrOf result Stop.Words → ⊥ }
 {
     match form {
         Form::Synth { .. } => serve_synth(alloc, source, sink),
         Form::Check => serve_check(rt, alloc, source, sink),
+        // This one is not served alone.
+        Form::Edit => unreachable!(),
         Form::Make { seed, sinks } => serve_make(alloc, sink, seed, sinks),
         Form::Job { seed, sinks, .. } => serve_job(alloc, sink, seed, sinks),
     }
@@ -58,7 +61,7 @@ fn serve_synth<S: ByteSource, K: ByteSink>(
     sink: &mut K,
 ) -> Result<Answer, Stop>
     ensures serves { (workers : ℕ)
-        → Serves S.left S.faults K.held K.faults (Form.Synth workers) source.old source.new sink.old sink.new result }
+        → Serves S.left S.faults K.held K.faults no_log (Form.Synth workers) source.old source.new sink.old sink.new result }
     ensures words { IsErrOf result Stop.Words → ⊥ }
 {
     let instance = read_source(alloc, source)?;
@@ -69,17 +72,15 @@ fn serve_synth<S: ByteSource, K: ByteSink>(
 fn read_source<S: ByteSource>(alloc: Global, source: &mut S) -> Result<Instance, Stop>
     ensures end { OnOk result (IsAtEnd (S.left source.new)) }
     ensures spells { IfOk result (λ instance. IfSome (S.left source.old) (λ bytes. Spells bytes instance)) }
-    ensures explained { IfErr result (λ stop. IfSome (S.left source.old) (ExplainsWhole stop)) }
+    ensures explained { IfErr result (λ stop. IfSome (S.left source.old) (ExplainsBy input_of stop)) }
     ensures words { IsErrOf result Stop.Words → ⊥ }
     ensures read_fault { IsErrOf result Stop.ReadFault → Rose (S.faults source.old) (S.faults source.new) }
     ensures write_fault { IsErrOf result Stop.WriteFault → ⊥ }
     ensures counted { S.faults source.old ≤ S.faults source.new }
 {
-    let mut bytes = read_all(alloc, source, INPUT_LIMIT)?;
+    let bytes = read_all(alloc, source, INPUT_LIMIT)?;
     let read = read_input(alloc, &bytes);
-    // The room of a long input goes back to the system, and is not kept for the lists that come after it.
-    bytes.clear();
-    bytes.shrink_to(1);
+    give_back(bytes);
     read
 }
 
@@ -90,7 +91,7 @@ fn serve_check<R: Threads + Sync, S: ByteSource, K: ByteSink>(
     source: &mut S,
     sink: &mut K,
 ) -> Result<Answer, Stop>
-    ensures serves { Serves S.left S.faults K.held K.faults Form.Check source.old source.new sink.old sink.new result }
+    ensures serves { Serves S.left S.faults K.held K.faults no_log Form.Check source.old source.new sink.old sink.new result }
     ensures words { IsErrOf result Stop.Words → ⊥ }
 {
     let (instance, bytes, used) = read_front_source(alloc, source)?;
@@ -106,7 +107,7 @@ fn read_front_source<S: ByteSource>(
     ensures end { OnOk result (IsAtEnd (S.left source.new)) }
     ensures spells { IfOk result (λ r. IfSome (S.left source.old) (λ bytes. SpellsFront bytes r.0 (drop r.2 r.1.items))) }
     ensures within { IfOk result (λ r. r.2 ≤ length r.1.items) }
-    ensures explained { IfErr result (λ stop. IfSome (S.left source.old) (ExplainsFront stop)) }
+    ensures explained { IfErr result (λ stop. IfSome (S.left source.old) (ExplainsBy front_of stop)) }
     ensures words { IsErrOf result Stop.Words → ⊥ }
     ensures read_fault { IsErrOf result Stop.ReadFault → Rose (S.faults source.old) (S.faults source.new) }
     ensures write_fault { IsErrOf result Stop.WriteFault → ⊥ }
@@ -127,7 +128,7 @@ fn serve_make<K: ByteSink>(
     requires seed { seed < 2 ^ 31 }
     requires some { 1 ≤ sinks }
     requires sinks { sinks ≤ 65536 }
-    ensures { Answers (IsRight (Form.Make seed sinks) []) K.held K.faults sink.old sink.new result }
+    ensures { Answers (IsRight no_log (Form.Make seed sinks) []) K.held K.faults sink.old sink.new result }
 {
     let instance = make_instance(alloc, seed, sinks)?;
     ended(write_instance(sink, &instance), Answer::Text)
@@ -149,9 +150,38 @@ fn serve_job<K: ByteSink>(
     answer_instance(alloc, sink, Telling::Summary, &instance)
 }
 
-/// Does what a form asks for, by as many workers as it asks for, and gives the table of the memo that
-/// they shared.
-pub fn serve_by_workers<R: Threads + Wait + Sync, S: ByteSource, K: ByteSink, G: Gate>(
+/// Does what a form asks for, by as many workers or callers as it asks for, and gives what these leave.
+pub fn serve_by_threads<R: Threads + Wait + Sync, S: ByteSource, K: ByteSink, G: Gate>(
+    rt: &R,
+    alloc: Global,
+    gate: &G,
+    form: Form,
+    source: &mut S,
+    sink: &mut K,
+) -> (Result<Answer, Stop>, Kept)
+    requires within { IsWithinLimits form }
+    ensures serves { Serves S.left S.faults K.held K.faults (log_of result.1.history result.1.replies) form
+        source.old source.new sink.old sink.new result.0 }
+    ensures words { IsErrOf result.0 Stop.Words → ⊥ }
+    ensures kept { IsSome result.1.memo ↔ (HasMemo form × TellsOfTree (status_of result.0)) }
+    ensures memo { HoldsMemo (log_of result.1.history result.1.replies) form (S.left source.old) result.1.memo }
+    ensures log { ¬ ((form ≡ Form.Edit) × TellsOfTree (status_of result.0)) → log_of result.1.history result.1.replies ≡ no_log }
+{
+    if is_alone(form) {
+        let answer = serve(rt, alloc, form, source, sink);
+        return (answer, Kept::without_log(alloc, None));
+    }
+    match form {
+        Form::Edit => serve_edit(rt, alloc, gate, source, sink),
+        _ => {
+            let (answer, memo) = serve_by_workers(rt, alloc, gate, form, source, sink);
+            (answer, Kept::without_log(alloc, memo))
+        }
+    }
+}
+
+/// Does what a form asks for by more than one worker, and gives the table of the memo that they shared.
+fn serve_by_workers<R: Threads + Wait + Sync, S: ByteSource, K: ByteSink, G: Gate>(
     rt: &R,
     alloc: Global,
     gate: &G,
@@ -160,14 +190,13 @@ pub fn serve_by_workers<R: Threads + Wait + Sync, S: ByteSource, K: ByteSink, G:
     sink: &mut K,
 ) -> (Result<Answer, Stop>, Option<Table>)
     requires within { IsWithinLimits form }
-    ensures serves { Serves S.left S.faults K.held K.faults form source.old source.new sink.old sink.new result.0 }
+    requires many { ¬ IsAlone form }
+    requires no_edit { form ≢ Form.Edit }
+    ensures serves { Serves S.left S.faults K.held K.faults no_log form source.old source.new sink.old sink.new result.0 }
     ensures words { IsErrOf result.0 Stop.Words → ⊥ }
-    ensures kept { IsSome result.1 ↔ (HasWorkers form × TellsOfTree (status_of result.0)) }
-    ensures memo { HoldsMemo form (S.left source.old) result.1 }
+    ensures kept { IsSome result.1 ↔ (HasMemo form × TellsOfTree (status_of result.0)) }
+    ensures memo { HoldsMemo no_log form (S.left source.old) result.1 }
 {
-    if is_alone(form) {
-        return (serve(rt, alloc, form, source, sink), None);
-    }
     match form {
         Form::Synth { workers } => synth_by_workers(rt, alloc, gate, source, sink, workers),
         Form::Job {
@@ -175,7 +204,8 @@ pub fn serve_by_workers<R: Threads + Wait + Sync, S: ByteSource, K: ByteSink, G:
             sinks,
             workers,
         } => job_by_workers(rt, alloc, gate, sink, seed, sinks, workers),
-        Form::Check | Form::Make { .. } => (serve(rt, alloc, form, source, sink), None),
+        // These have no workers.
+        Form::Check | Form::Edit | Form::Make { .. } => unreachable!(),
     }
 }
 
@@ -190,10 +220,10 @@ fn synth_by_workers<R: Threads + Wait + Sync, S: ByteSource, K: ByteSink, G: Gat
 ) -> (Result<Answer, Stop>, Option<Table>)
     requires some { 1 ≤ workers }
     requires few { workers ≤ 64 }
-    ensures serves { Serves S.left S.faults K.held K.faults (Form.Synth workers) source.old source.new sink.old sink.new result.0 }
+    ensures serves { Serves S.left S.faults K.held K.faults no_log (Form.Synth workers) source.old source.new sink.old sink.new result.0 }
     ensures words { IsErrOf result.0 Stop.Words → ⊥ }
     ensures kept { IsSome result.1 ↔ TellsOfTree (status_of result.0) }
-    ensures memo { HoldsMemo (Form.Synth workers) (S.left source.old) result.1 }
+    ensures memo { HoldsMemo no_log (Form.Synth workers) (S.left source.old) result.1 }
 {
     match read_source(alloc, source) {
         Ok(instance) => {

@@ -1,4 +1,7 @@
-//! A run by two workers, with a gate that holds the first two pieces until both have been begun.
+//! Runs by more than one worker: a gate holds the first two pieces until both have been begun. Those of callers stand in
+//! `tests/edit.rt`.
+
+mod edit;
 
 use crate::{Status, run, run_alone};
 use cts_io::{MemSink, MemSource};

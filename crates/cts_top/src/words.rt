@@ -12,18 +12,21 @@ pub enum Form {
     Synth { workers: u32 },
     /// The verdict on the report that follows the instance in the input.
     Check,
+    /// The history that the callers of the scripts after the instance in the input make of its sinks, and
+    /// the report of the tree after it.
+    Edit,
     /// The text of the instance that is made from a seed, with so many sinks.
     Make { seed: u32, sinks: u32 },
     /// The summary of the tree of that instance, made by so many workers.
     Job { seed: u32, sinks: u32, workers: u32 },
 }
 
-/// What the words ask for: `synth W`, `check`, `make SEED N` or `job SEED N W`.
+/// What the words ask for: `synth W`, `check`, `edit`, `make SEED N` or `job SEED N W`.
 pub fn form_of(words: &[String]) -> Option<Form>
     ensures { (form : Form) → (result ≡ Some form) ↔ IsForm words.now form }
 {
     match words {
-        [name] => check(name.as_bytes()),
+        [name] => check_or_edit(name.as_bytes()),
         [name, workers] => synth(name.as_bytes(), workers.as_bytes()),
         [name, seed, sinks] => make(name.as_bytes(), seed.as_bytes(), sinks.as_bytes()),
         [name, seed, sinks, workers] => job(
@@ -36,7 +39,7 @@ pub fn form_of(words: &[String]) -> Option<Form>
     }
 }
 
-/// The same, where it is one of the forms without more than one worker.
+/// The same, where it is one of the forms without more than one worker or caller.
 pub fn form_alone(words: &[String]) -> Option<Form>
     ensures { (form : Form) → (result ≡ Some form) ↔ IsFormAlone words.now form }
 {
@@ -52,21 +55,24 @@ fn alone(form: Form) -> Option<Form>
     if is_alone(form) { Some(form) } else { None }
 }
 
-/// Whether a form has at most one worker.
+/// Whether a form is served without more than one worker or caller.
 pub fn is_alone(form: Form) -> bool
     ensures { IsTrue result ↔ IsAlone form }
 {
     match form {
         Form::Synth { workers } | Form::Job { workers, .. } => workers == 1,
         Form::Check | Form::Make { .. } => true,
+        Form::Edit => false,
     }
 }
 
-fn check(name: &[u8]) -> Option<Form>
+fn check_or_edit(name: &[u8]) -> Option<Form>
     ensures { (form : Form) → (result ≡ Some form) ↔ AsksFor (name.now ∷ []) form }
 {
     if name == b"check".as_slice() {
         Some(Form::Check)
+    } else if name == b"edit".as_slice() {
+        Some(Form::Edit)
     } else {
         None
     }

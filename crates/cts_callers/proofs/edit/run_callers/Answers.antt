@@ -24,6 +24,7 @@ returns g c =
       table = subst (λ h. IsTableOf (base_of c.in_ok-desk.desk).params (known_by h).entries c.in-Ok.table) hands c.in-Ok.ensures.table;
       history = c.in-Ok.ensures.edits ∙ ap (λ h. (known_by h).edits) hands;
       count = c.in-Ok.ensures.made ∙ ap (λ h. (known_by h).edits_made) hands;
+      sound = c.in-Ok.ensures.sound;
       sinks = c.in-Ok.ensures.sinks;
       valid = c.in-Ok.ensures.valid;
     }))

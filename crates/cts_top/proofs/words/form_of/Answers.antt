@@ -7,8 +7,8 @@ use Rattle.cts_top.proofs.words.form_of.Goals as goal
 
 pub returns-in-len1 : goal.returns-in-len1
 returns-in-len1 c =
-    words_one string_bytes (λ (l : List (List ℕ)). (form : Form) → (c.check.result ≡ Some form) ↔ AsksFor l form) _ _ _
-    (one_item _ c.name-item.result (omega arith) c.name-item.is) c.as_bytes.ensures.value c.check.ensures
+    words_one string_bytes (λ (l : List (List ℕ)). (form : Form) → (c.check_or_edit.result ≡ Some form) ↔ AsksFor l form) _ _ _
+    (one_item _ c.name-item.result (omega arith) c.name-item.is) c.as_bytes.ensures.value c.check_or_edit.ensures
 
 pub returns-in-len2 : goal.returns-in-len2
 returns-in-len2 c =

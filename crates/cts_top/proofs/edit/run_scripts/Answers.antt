@@ -1,0 +1,40 @@
+use Rattle.std.proofs.Common.{◌≡◌, subst}
+use Rattle.cts_instance.specs.Validity.{IsValid, with_sinks}
+use Rattle.cts_history.proofs.Runs.{runs_can_be_printed_lem}
+use Rattle.cts_session.specs.Desks.{version_of}
+use Rattle.cts_top.specs.Memos.{IsMemoOf}
+use Rattle.cts_top.specs.Synthesised.{IsSynthesised}
+use Rattle.cts_top.proofs.Editing.{last_memo, last_synthesised}
+use Rattle.cts_top.proofs.edit.run_scripts.Goals as goal
+
+pub returns-clause-printable : goal.returns-clause-printable
+returns-clause-printable g c =
+    runs_can_be_printed_lem c.args.instance c.args.scripts.now c.in_ok-instance.field-0 c.die-die.ensures.valid c.in_ok-instance.ensures
+
+pub returns-clause-synthesised : goal.returns-clause-synthesised
+returns-clause-synthesised g c =
+    let run = c.in_ok-instance.ensures in
+    let made = c.in_ok-version.ensures.same in
+    let of_instance = c.in_ok-instance.instance-is in
+    let of_sinks = c.in_ok-instance.sinks-is in
+    let at_base = run.instance_is in
+    let after_edits = run.sinks_are in
+    let same : version_of c.args.instance c.in_ok-instance.field-0.history.items ≡ c.in_ok-version.version = cc in
+    subst (λ i. IsSynthesised i c.in_ok-instance.field-0.synthesis) same
+    (last_synthesised c.args.instance c.in_ok-instance.field-0.history.items
+    (subst (λ sinks. IsValid (with_sinks c.args.instance sinks)) after_edits run.valid) c.in_ok-instance.field-0.synthesis
+    run.is_synthesis)
+
+pub returns-clause-memo : goal.returns-clause-memo
+returns-clause-memo g c =
+    let run = c.in_ok-instance.ensures in
+    let made = c.in_ok-version.ensures.same in
+    let of_instance = c.in_ok-instance.instance-is in
+    let of_sinks = c.in_ok-instance.sinks-is in
+    let at_base = run.instance_is in
+    let after_edits = run.sinks_are in
+    let same : version_of c.args.instance c.in_ok-instance.field-0.history.items ≡ c.in_ok-version.version = cc in
+    subst (λ i. IsMemoOf i c.in_ok-instance.field-0.table) same
+    (last_memo c.args.instance c.in_ok-instance.field-0.history.items
+    (subst (λ sinks. IsValid (with_sinks c.args.instance sinks)) after_edits run.valid) c.in_ok-instance.field-0.synthesis
+    run.is_synthesis c.in_ok-instance.field-0.table run.memo run.known)

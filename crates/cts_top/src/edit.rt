@@ -1,0 +1,190 @@
+//! The edits of callers: their scripts, their run beside each other, and the text for it.
+
+ghost use Rattle.std.specs.Prelude.{◌≡◌, ◌≢◌, ◌≤◌, ◌↔◌, length, IfOk, IfErr, IfSome, OnOk, IsErrOf, IsSome};
+ghost use Rattle.std.specs.Io.KnownBytes.{IsAtEnd};
+ghost use Rattle.cts_callers.specs.Legal.{IsLegal};
+ghost use Rattle.cts_callers.specs.Turns.{lists_of};
+ghost use Rattle.cts_history.specs.History.{IsPrintable};
+ghost use Rattle.cts_io.specs.Faults.{Rose};
+ghost use Rattle.cts_script.specs.Steps.{IsCallerCount};
+ghost use Rattle.cts_session.specs.Desks.{version_of};
+ghost use Rattle.cts_top.specs.Input.{SpellsScripts, scripted_of};
+ghost use Rattle.cts_top.specs.Log.{log_of, no_log};
+ghost use Rattle.cts_top.specs.Memos.{HoldsMemo, IsMemoOf, TellsOfTree};
+ghost use Rattle.cts_top.specs.Outcome.{Serves, status_of};
+ghost use Rattle.cts_top.specs.Right.{ExplainsBy, TellsCallers};
+ghost use Rattle.cts_top.specs.Synthesised.{IsSynthesised};
+ghost use Rattle.cts_top.specs.Text.{TellsEdits};
+ghost use Rattle.cts_top.specs.Written.{Answers};
+
+use crate::answer::{Telling, answer_synthesis};
+use crate::input::{INPUT_LIMIT, give_back, read_scripts};
+use crate::outcome::Kept;
+use crate::stop::{Answer, Stop};
+use crate::words::Form;
+use cts_callers::{Reply, Run, run_callers};
+use cts_design::Entry;
+use cts_elmore::Figures;
+use cts_history::write_history;
+use cts_instance::Instance;
+use cts_io::{ByteSink, ByteSource, read_all};
+use cts_memo::Table;
+use cts_num::NoMemory;
+use cts_plain::NoTree;
+use cts_script::Script;
+use cts_tree::Tree;
+use cts_work::Gate;
+use std::alloc::Global;
+use std::sync::Wait;
+use std::thread::Threads;
+
+/// What the callers of an instance leave: the instance with the sinks after all edits, the history of
+/// these, the replies to each caller, the synthesis of that instance, and the table of the memo.
+#[derive(Drop)]
+struct Edited {
+    version: Instance,
+    history: Vec<Entry>,
+    replies: Vec<Vec<Reply>>,
+    synthesis: Result<(Tree, Figures), NoTree>,
+    table: Table,
+}
+
+/// The instance at the front of an input, which is read to its end, and the scripts of all callers after
+/// it. The bytes go before the first caller begins.
+fn read_source<S: ByteSource>(
+    alloc: Global,
+    source: &mut S,
+) -> Result<(Instance, Vec<Script>), Stop>
+    ensures end { OnOk result (IsAtEnd (S.left source.new)) }
+    ensures spells { IfOk result (λ r. IfSome (S.left source.old) (λ bytes. SpellsScripts bytes r.0 r.1.items)) }
+    ensures callers { IfOk result (λ r. IsCallerCount (length r.1.items)) }
+    ensures explained { IfErr result (λ stop. IfSome (S.left source.old) (ExplainsBy scripted_of stop)) }
+    ensures words { IsErrOf result Stop.Words → ⊥ }
+    ensures read_fault { IsErrOf result Stop.ReadFault → Rose (S.faults source.old) (S.faults source.new) }
+    ensures write_fault { IsErrOf result Stop.WriteFault → ⊥ }
+    ensures counted { S.faults source.old ≤ S.faults source.new }
+{
+    let bytes = read_all(alloc, source, INPUT_LIMIT)?;
+    let read = read_scripts(alloc, &bytes);
+    give_back(bytes);
+    read
+}
+
+/// The run of the callers of these scripts beside each other.
+fn run_scripts<R: Threads + Wait + Sync, G: Gate>(
+    rt: &R,
+    alloc: Global,
+    gate: &G,
+    instance: Instance,
+    scripts: &[Script],
+) -> Result<Edited, NoMemory>
+    requires { IsCallerCount (length scripts.now) }
+    ensures legal { IfOk result (λ e. IsLegal instance scripts.now e.history.items (lists_of e.replies.items)) }
+    ensures version { IfOk result (λ e. e.version ≡ version_of instance e.history.items) }
+    ensures printable { IfOk result (λ e. IsPrintable e.history.items (lists_of e.replies.items)) }
+    ensures synthesised { IfOk result (λ e. IsSynthesised e.version e.synthesis) }
+    ensures told { IfOk result (λ e. IfErr e.synthesis (λ why. why ≢ NoTree.NoMemory)) }
+    ensures memo { IfOk result (λ e. IsMemoOf e.version e.table) }
+{
+    let _die = instance.die();
+    let Run {
+        instance,
+        history,
+        sinks,
+        replies,
+        synthesis,
+        table,
+    } = run_callers(rt, alloc, gate, instance, scripts)?;
+    let version = instance.with_sinks(alloc, sinks)?;
+    Ok(Edited {
+        version,
+        history,
+        replies,
+        synthesis,
+        table,
+    })
+}
+
+/// Writes a history with the replies to its callers, and then the text for the synthesis of the version
+/// after it. It takes no memory.
+fn answer_edits<K: ByteSink>(
+    sink: &mut K,
+    version: &Instance,
+    history: &[Entry],
+    replies: &[Vec<Reply>],
+    synthesis: Result<(Tree, Figures), NoTree>,
+) -> Result<Answer, Stop>
+    requires printable { IsPrintable history.now (lists_of replies.now) }
+    requires synthesised { IsSynthesised version.now synthesis }
+    requires told { IfErr synthesis (λ why. why ≢ NoTree.NoMemory) }
+    ensures answers { Answers (TellsEdits version.now (record { history = history.now; replies = lists_of replies.now }))
+        K.held K.faults sink.old sink.new result }
+    ensures told { TellsOfTree (status_of result) }
+{
+    let _die = version.die();
+    write_history(sink, history, replies)?;
+    answer_synthesis(sink, Telling::Report, version, synthesis)
+}
+
+/// Runs the callers of these scripts, and writes the text for their edits.
+fn answer_callers<R: Threads + Wait + Sync, K: ByteSink, G: Gate>(
+    rt: &R,
+    alloc: Global,
+    gate: &G,
+    sink: &mut K,
+    instance: Instance,
+    scripts: &[Script],
+) -> (Result<Answer, Stop>, Kept)
+    requires { IsCallerCount (length scripts.now) }
+    ensures answers { Answers (TellsCallers instance scripts.now (log_of result.1.history result.1.replies))
+        K.held K.faults sink.old sink.new result.0 }
+    ensures kept { IsSome result.1.memo ↔ TellsOfTree (status_of result.0) }
+    ensures memo { IfSome result.1.memo (IsMemoOf (version_of instance result.1.history.items)) }
+    ensures log { ¬ TellsOfTree (status_of result.0) → log_of result.1.history result.1.replies ≡ no_log }
+{
+    match run_scripts(rt, alloc, gate, instance, scripts) {
+        Ok(
+            Edited {
+                version,
+                history,
+                replies,
+                synthesis,
+                table,
+            },
+        ) => {
+            let answer = answer_edits(sink, &version, &history, &replies, synthesis);
+            let memo = Some(table);
+            (
+                answer,
+                Kept {
+                    memo,
+                    history,
+                    replies,
+                },
+            )
+        }
+        Err(NoMemory) => (Err(Stop::NoMemory), Kept::without_log(alloc, None)),
+    }
+}
+
+/// Reads an instance and the scripts of callers after it, runs these callers beside each other, and writes
+/// the history of their edits, the replies to each, and the report of the tree after it.
+pub fn serve_edit<R: Threads + Wait + Sync, S: ByteSource, K: ByteSink, G: Gate>(
+    rt: &R,
+    alloc: Global,
+    gate: &G,
+    source: &mut S,
+    sink: &mut K,
+) -> (Result<Answer, Stop>, Kept)
+    ensures serves { Serves S.left S.faults K.held K.faults (log_of result.1.history result.1.replies) Form.Edit
+        source.old source.new sink.old sink.new result.0 }
+    ensures words { IsErrOf result.0 Stop.Words → ⊥ }
+    ensures kept { IsSome result.1.memo ↔ TellsOfTree (status_of result.0) }
+    ensures memo { HoldsMemo (log_of result.1.history result.1.replies) Form.Edit (S.left source.old) result.1.memo }
+    ensures log { ¬ TellsOfTree (status_of result.0) → log_of result.1.history result.1.replies ≡ no_log }
+{
+    match read_source(alloc, source) {
+        Ok((instance, scripts)) => answer_callers(rt, alloc, gate, sink, instance, &scripts),
+        Err(stop) => (Err(stop), Kept::without_log(alloc, None)),
+    }
+}
