@@ -141,8 +141,8 @@ pub fn answer_instance<K: ByteSink>(
     answer_synthesis(sink, telling, instance, synthesise_alone(alloc, instance))
 }
 
-/// Writes the text for the synthesis of an instance by so many workers, and gives the table of the memo
-/// that they shared, unless memory ran out.
+/// Writes the text for the synthesis of an instance by so many workers, and gives the table of the memo,
+/// unless memory ran out.
 pub fn answer_by_workers<R: Threads + Wait + Sync, K: ByteSink, G: Gate>(
     rt: &R,
     alloc: Global,

@@ -84,12 +84,12 @@ fn answer<R: Threads + Wait + Sync, S: ByteSource, K: ByteSink, G: Gate>(
 /// `make` and `job` leave the source as it is. The notes get at most one line. Where they fail, nothing
 /// else changes.
 ///
-/// More than one worker, and the callers of `edit`, share a memo of the subtrees that are done. The outcome
-/// has its table at the statuses `Done`, `NoTree` and `WriteFault`, and for `edit` the history and the
-/// replies that the text tells. The gate is called as workers and callers go. One worker goes the way of
-/// [`run_alone`], without a memo.
+/// What several workers make is published in a memo, from which the callers of `edit` draw their trees. The
+/// outcome has its table at the statuses `Done`, `NoTree` and `WriteFault`, and for `edit` the history and
+/// the replies that the text tells. The gate is called as workers and callers go. One worker goes the way
+/// of [`run_alone`], without a memo.
 ///
-/// Workers and callers wait for each other, so no clause says that this call returns.
+/// Callers wait for each other, and calls of a memo may wait, so no clause says that this call returns.
 pub fn run<R: Threads + Wait + Sync, S: ByteSource, K: ByteSink, N: ByteSink, G: Gate>(
     rt: &R,
     alloc: Global,
@@ -102,7 +102,7 @@ pub fn run<R: Threads + Wait + Sync, S: ByteSource, K: ByteSink, N: ByteSink, G:
     ensures runs { Runs S.left S.faults K.held K.faults N.held N.faults (IsForm words.now) (log_of result.history result.replies)
         source.old source.new sink.old sink.new notes.old notes.new result.status }
 
-    // The memo is there exactly where workers or callers shared one and the status tells of a tree ..
+    // The memo is there exactly where workers or callers had one and the status tells of a tree ..
     ensures memo_kept { IsSome result.memo ↔ KeepsMemo (IsForm words.now) result.status }
     // .. and it is that of the instance.
     ensures memo { (form : Form) → IsForm words.now form

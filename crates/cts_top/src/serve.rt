@@ -180,7 +180,7 @@ pub fn serve_by_threads<R: Threads + Wait + Sync, S: ByteSource, K: ByteSink, G:
     }
 }
 
-/// Does what a form asks for by more than one worker, and gives the table of the memo that they shared.
+/// Does what a form asks for by more than one worker, and gives the table of the memo.
 fn serve_by_workers<R: Threads + Wait + Sync, S: ByteSource, K: ByteSink, G: Gate>(
     rt: &R,
     alloc: Global,

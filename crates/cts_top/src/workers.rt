@@ -1,4 +1,4 @@
-//! The synthesis of an instance by many workers, over a memo that they share.
+//! The synthesis of an instance by many workers, over a memo.
 
 ghost use Rattle.std.specs.Prelude.{◌≡◌, ◌≤◌, ◌⊎◌, ◌↔◌, length, IfOk, IfErr, IfSome, IsErrOf, IsSome, OnOk};
 ghost use Rattle.cts_topo.specs.Shape.{IsShapeOver};
@@ -40,8 +40,8 @@ fn seed_of(sinks: &[Sink]) -> u64 {
     hasher.finish()
 }
 
-/// The plan of a shape over an instance's sinks, made by so many workers, and the table of the memo that
-/// they shared.
+/// The plan of a shape over an instance's sinks, made by so many workers, and the table of the memo in
+/// which it was published.
 fn plan_by_workers<R: Threads + Wait + Sync, G: Gate>(
     rt: &R,
     alloc: Global,
@@ -128,8 +128,8 @@ fn synthesise_over<R: Threads + Wait + Sync, G: Gate>(
     }
 }
 
-/// The synthesis of an instance by so many workers, as one thread makes it; and the table of the memo
-/// that they shared, unless memory ran out.
+/// The synthesis of an instance by so many workers, as one thread makes it; and the table of the memo,
+/// unless memory ran out.
 pub fn synthesise_by_workers<R: Threads + Wait + Sync, G: Gate>(
     rt: &R,
     alloc: Global,

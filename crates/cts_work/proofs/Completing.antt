@@ -1,9 +1,8 @@
 -- The pieces are put together from left to right, with the pairs above them.
-use Rattle.std.proofs.Common.{◌≡◌, ℕ, ◌+◌, ◌<◌, ◌≤◌, List, [], ◌∷◌, drop, length, get_or, slice_get, Option, Some, None, refl, sym, ap, ◌∙◌, subst, arith}
+use Rattle.std.proofs.Common.{◌≡◌, ℕ, ◌+◌, ◌<◌, ◌≤◌, List, drop, length, get_or, slice_get, Option, Some, None, sym, ap, ◌∙◌, subst}
 use Rattle.std.proofs.lemmas.List.{drop_more, drop_all}
 use Rattle.std.proofs.lemmas.Option.{get_or_from_slice_get}
 use Rattle.cts_topo.specs.declared.shape.ShapeNode.{ShapeNode}
-use Rattle.cts_memo.specs.declared.entry.MemoEntry.{MemoEntry}
 use Rattle.cts_work.specs.declared.pieces.Piece.{Piece}
 use Rattle.cts_work.specs.declared.work.Work.{Work}
 use Rattle.cts_work.specs.declared.workers.Done.{Done}
@@ -34,7 +33,7 @@ item_or : Option Done → Done → Done
 item_or (Some d) e = d
 item_or None e = e
 
-module _ (work : Work) (seen : List MemoEntry) (pieces : List Piece) (before slots : List (Option Done)) (have : HavePieces work seen pieces before)
+module _ (work : Work) (pieces : List Piece) (before slots : List (Option Done)) (have : HavePieces work pieces before)
     (k : ℕ) (h : k < length pieces) (same : slice_get slots k ≡ slice_get before k) (v : Option Done) (is : v ≡ get_or slots k v) where
   -- the slot of a piece has it
   pub slot_full : v ≡ Some (have.each k h).0
@@ -50,12 +49,12 @@ module _ (work : Work) (seen : List MemoEntry) (pieces : List Piece) (before slo
     the_same = ap (λ o. item_or o d) (sym (taken ∙ slot_full))
 
     pub record Taken : Type 0 where
-      pub done : IsDone work seen pieces d
+      pub done : IsDone work pieces d
       pub piece_is : done.piece ≡ get_or pieces k e
 
     pub taken_piece : Taken
     taken_piece =
-        let done : IsDone work seen pieces d = subst (IsDone work seen pieces) the_same (have.each k h).2 in
+        let done : IsDone work pieces d = subst (IsDone work pieces) the_same (have.each k h).2 in
         let number : d.number ≡ k = subst (λ (x : Done). x.number ≡ k) the_same (have.each k h).3 in
         record {
           done = done;

@@ -1,11 +1,11 @@
 -- Parts are divided into pieces, which stand in their order.
-use Rattle.std.proofs.Common.{◌≡◌, ℕ, ◌+◌, ◌-◌, ◌*◌, ◌/◌, ◌<◌, ◌≤◌, ◌⊎◌, inl, inr, Bool, true, false, cond, nat_lt, List, [], ◌∷◌, ◌++◌, length, get_or, Option, Some, All, refl, sym, ap, ◌∙◌, subst, arith, length-append}
+use Rattle.std.proofs.Common.{◌≡◌, ℕ, ◌+◌, ◌-◌, ◌*◌, ◌/◌, ◌<◌, ◌≤◌, inl, inr, true, false, cond, nat_lt, List, [], ◌∷◌, ◌++◌, length, get_or, All, refl, sym, ap, ◌∙◌, subst, arith, length-append}
 use Rattle.std.proofs.lemmas.List.Elements.{All-cons}
 use Rattle.std.proofs.lemmas.Bool.{cases_lt, lt-ltb, le-ltb}
 use Rattle.cts_postorder.specs.BinaryTree.{BinaryTree, tip, fork, size, root_number}
 use Rattle.cts_postorder.proofs.Lists.{IsPair, is_pair, length_pos}
 use Rattle.cts_postorder.proofs.Nested.{size-tip, size-fork}
-use Rattle.cts_postorder.proofs.Sizes.{root_number-next, size_pos}
+use Rattle.cts_postorder.proofs.Sizes.{root_number-next}
 use Rattle.cts_topo.specs.declared.shape.ShapeNode.{ShapeNode}
 use Rattle.cts_topo.specs.declared.shape.ShapeNode.TheVariants.{Leaf, Pair}
 use Rattle.cts_topo.specs.Shape.{children, IsShapeOver}

@@ -1,66 +1,19 @@
 -- What workers have done, piece after piece and one beside another.
-use Rattle.std.proofs.Common.{◌≡◌, ◌≢◌, ℕ, zero, suc, ◌+◌, ◌<◌, ◌≤◌, ◌⊎◌, inl, inr, Bool, true, false, cond, nat_lt, List, [], ◌∷◌, ◌++◌, map, filter, length, get_or, Option, Some, slice_get, All, AllPairs, Contains, Result, Vec, Global, IfOk, IfErr, refl, sym, ap, ◌∙◌, subst, arith, append-nil}
-use mathlib.Core.List.{IsPrefix}
+use Rattle.std.proofs.Common.{◌≡◌, ◌≢◌, ℕ, zero, suc, ◌<◌, ◌≤◌, Bool, true, false, cond, nat_lt, List, [], ◌∷◌, ◌++◌, filter, length, get_or, All, AllPairs, Contains, refl, sym, ap, ◌∙◌, subst, arith, append-nil}
 use Rattle.std.proofs.lemmas.Bool.{lt-ltb, le-ltb, ltb-true}
 use Rattle.std.proofs.lemmas.List.{map-append}
-use Rattle.std.proofs.lemmas.Result.{IfOk-weaker}
-use Rattle.std.proofs.lemmas.List.Elements.{All-append, All-cons, All-filter, All-push, Contains-append_left, Contains-append_right, filter-append}
+use Rattle.std.proofs.lemmas.List.Elements.{All-cons, Contains-append_left, Contains-append_right, filter-append}
 use Rattle.std.proofs.lemmas.List.Kept.{AllPairs-filter}
 use Rattle.cts_deal.specs.Hands.{IsDealt}
 use Rattle.cts_deal.proofs.Distinct.{at_most_from_distinct_below}
-use Rattle.cts_turn.proofs.Prefixes.{prefix_self}
-use Rattle.cts_up.specs.declared.end.UpEnd.{UpEnd}
-use Rattle.cts_memo.specs.declared.entry.MemoEntry.{MemoEntry}
-use Rattle.cts_memo.specs.Sound.{max_entries}
-use Rattle.cts_work.specs.declared.node.Built.{Built}
-use Rattle.cts_work.specs.declared.pieces.Piece.{Piece}
-use Rattle.cts_work.specs.declared.work.Work.{Work}
 use Rattle.cts_work.specs.declared.workers.Done.{Done}
-use Rattle.cts_work.specs.Done.{AreOnce, Covers, IsDone, numbers_of}
-use Rattle.cts_work.specs.Work.{AreBuilt, EndsIn}
-use Rattle.cts_work.proofs.Parts.{built_all_stay}
-
-module _ (work : Work) (pieces : List Piece) where
-  -- what is known of a piece stays known
-  done_stays : (seen longer : List MemoEntry) (d : Done) → IsPrefix seen longer → length longer ≤ max_entries → IsDone work seen pieces d
-      → IsDone work longer pieces d
-  done_stays seen longer d more short done = record {
-    piece = done.piece;
-    found = done.found;
-    long = done.long;
-    built = IfOk-weaker d.built _ _ (λ b built. built_all_stay work seen longer done.piece.first b.items more short built) done.built;
-    ends = done.ends;
-  }
-
-  pub all_done_stay : (seen longer : List MemoEntry) (ds : List Done) → IsPrefix seen longer → length longer ≤ max_entries
-      → All (IsDone work seen pieces) ds → All (IsDone work longer pieces) ds
-  all_done_stay seen longer ds more short all = λ k d h. done_stays seen longer (get_or ds k d) more short (all k d h)
-
-  -- one piece more
-  pub done_push : (seen longer : List MemoEntry) (ds : List Done) (d : Done) → IsPrefix seen longer → length longer ≤ max_entries
-      → All (IsDone work seen pieces) ds → IsDone work longer pieces d → All (IsDone work longer pieces) (ds ++ d ∷ [])
-  done_push seen longer ds d more short all here = All-push (IsDone work longer pieces) ds d (all_done_stay seen longer ds more short all) here
-
-  -- those of two workers
-  pub done_append : (a b seen : List MemoEntry) (ds es : List Done) → IsPrefix a seen → IsPrefix b seen → length seen ≤ max_entries
-      → All (IsDone work a pieces) ds → All (IsDone work b pieces) es → All (IsDone work seen pieces) (ds ++ es)
-  done_append a b seen ds es from_a from_b short left right =
-      All-append (IsDone work seen pieces) ds es (all_done_stay a seen ds from_a short left) (all_done_stay b seen es from_b short right)
+use Rattle.cts_work.specs.Done.{AreOnce, Covers, numbers_of}
 
 pub numbers_push : (ds : List Done) (d : Done) → numbers_of (ds ++ d ∷ []) ≡ numbers_of ds ++ d.number ∷ []
 numbers_push ds d = map-append (λ (x : Done). x.number) ds (d ∷ [])
 
 pub numbers_append : (ds es : List Done) → numbers_of (ds ++ es) ≡ numbers_of ds ++ numbers_of es
 numbers_append ds es = map-append (λ (x : Done). x.number) ds es
-
--- of two lists of which one begins the other, the longer one begins with both
-pub joined_longer : (a b joined : List MemoEntry) → ((joined ≡ a) × IsPrefix b a) ⊎ ((joined ≡ b) × IsPrefix a b)
-    → IsPrefix a joined × IsPrefix b joined
-joined_longer a b joined longer =
-    elim longer [
-      | inl l ↦ (subst (IsPrefix a) (sym (l.0)) (prefix_self a), subst (IsPrefix b) (sym (l.0)) (l.1))
-      | inr l ↦ (subst (IsPrefix a) (sym (l.0)) (l.1), subst (IsPrefix b) (sym (l.0)) (prefix_self b))
-    ]
 
 -- no more numbers below a count than the count
 pub few_drawn : (count : ℕ) (drawn : List ℕ) → AllPairs (λ a b. a ≢ b) drawn → All (λ n. n < count) drawn → length drawn ≤ count

@@ -2,6 +2,7 @@ pub mod Builts
 pub mod Misses
 pub mod Nodes
 pub mod Parts
+pub mod Made
 pub mod Divisions
 pub mod Drawn
 pub mod Slots

@@ -1,11 +1,10 @@
 -- The nodes of a shape one after another.
-use Rattle.std.proofs.Common.{◌≡◌, ℕ, ◌+◌, ◌<◌, ◌≤◌, List, [], ◌∷◌, length, get_or, Option, Some, MatchOption, refl, sym, ap, ◌∙◌, subst, arith}
+use Rattle.std.proofs.Common.{◌≡◌, ℕ, ◌+◌, ◌<◌, ◌≤◌, List, length, get_or, Option, Some, MatchOption, refl, sym, ap, ◌∙◌, subst, arith}
 use Rattle.std.specs.Option.{option_and_then}
 use Rattle.std.proofs.lemmas.Option.{slice_get-get_or}
 use Rattle.cts_units.specs.declared.params.Sink.{Sink}
 use Rattle.cts_units.specs.declared.params.Params.{Params}
-use Rattle.cts_postorder.specs.BinaryTree.{BinaryTree, tip, fork, size}
-use Rattle.cts_postorder.specs.PostOrder.{trees_of}
+use Rattle.cts_postorder.specs.BinaryTree.{tip, fork, size}
 use Rattle.cts_postorder.proofs.Lists.{IsPair, is_pair}
 use Rattle.cts_postorder.proofs.Sizes.{size_pos}
 use Rattle.cts_postorder.proofs.Nested.{size-fork}

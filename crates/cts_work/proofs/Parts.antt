@@ -1,15 +1,14 @@
 -- The nodes of a part one after another.
-use Rattle.std.proofs.Common.{◌≡◌, ℕ, zero, suc, ◌+◌, ◌-◌, ◌*◌, ◌^◌, ◌<◌, ◌≤◌, ◌⊎◌, inl, inr, Bool, List, [], ◌∷◌, ◌++◌, map, take, drop, length, get_or, slice_get, count_by, Option, Some, None, IsSome, is_some, refl, sym, ap, ◌∙◌, subst, arith, get_or-take, length-append}
+use Rattle.std.proofs.Common.{◌≡◌, ℕ, zero, suc, ◌+◌, ◌-◌, ◌^◌, ◌<◌, ◌≤◌, ◌⊎◌, inl, inr, Bool, List, [], ◌∷◌, ◌++◌, map, take, drop, length, get_or, slice_get, count_by, Option, Some, None, IsSome, is_some, refl, sym, ap, ◌∙◌, subst, arith, get_or-take, length-append}
 use mathlib.Core.List.{IsPrefix}
 use Rattle.std.specs.List.{All, AllZip}
 use Rattle.std.proofs.lemmas.Bool.{cases_lt}
-use Rattle.std.proofs.lemmas.List.{take_more, take_all, get_or-drop, get_or_at, get_or_append_left, get_or-append_right, get_or_default, length-drop, length-take-le}
+use Rattle.std.proofs.lemmas.List.{take_more, take_all, get_or-drop, get_or_at, get_or_append_left, get_or_default, length-drop, length-take-le}
 use Rattle.std.proofs.lemmas.List.Elements.{All-cons}
 use Rattle.std.proofs.lemmas.Option.{slice_get-get_or, get_or_from_slice_get}
-use Rattle.cts_units.specs.declared.params.Sink.{Sink}
-use Rattle.cts_units.specs.declared.params.Params.{Params}
 use Rattle.cts_postorder.specs.BinaryTree.{BinaryTree, tip, size}
 use Rattle.cts_postorder.specs.PostOrder.{root_of, trees_of}
+use Rattle.cts_postorder.proofs.Failures.{size-tree}
 use Rattle.cts_postorder.proofs.Growth.{length-trees_of}
 use Rattle.cts_postorder.proofs.Lists.{Whole, whole_of}
 use Rattle.cts_postorder.proofs.Nested.{nested}
@@ -34,7 +33,7 @@ use Rattle.cts_memo.proofs.Missing.{count_by-append}
 use Rattle.cts_work.specs.declared.node.Built.{Built}
 use Rattle.cts_work.specs.declared.work.Work.{Work}
 use Rattle.cts_work.specs.Built.{IsBuilt, tree_at}
-use Rattle.cts_work.specs.Work.{AreBuilt, EndsAt, EndsIn, IsBeyondAt, IsBuiltAt, IsLeastFrom, IsPart, IsReady, StartsFrom, missing_at, missing_from}
+use Rattle.cts_work.specs.Work.{AreBuilt, EndsAt, EndsIn, IsBeyondAt, IsBuiltAt, IsPart, IsReady, StartsFrom, missing_at, missing_from}
 use Rattle.cts_work.proofs.Builts.{built_stays}
 use Rattle.cts_work.proofs.Misses.{missing_earlier}
 
@@ -65,6 +64,10 @@ starts_from nodes count first root k ok part from below =
     let inner = nested children nodes ok.post_order (tip (Leaf 0)) root k part.within below reach in
     omega (arith, part.whole, inner)
 
+-- no node is below the first number
+pub starts_first : (nodes : List ShapeNode) (count : ℕ) → IsShapeOver count nodes → (k : ℕ) → k < length nodes → StartsFrom nodes 0 k
+starts_first nodes count ok k h = omega (arith, size-tree children nodes ok.post_order k (tip (Leaf 0)) h)
+
 module _ (work : Work) where
   -- what an earlier node is made of
   pub child_at : (seen : List MemoEntry) (first k : ℕ) (bs : List Built) (i : ℕ) (d : Built) → AreBuilt work seen first bs → first + length bs ≡ k
@@ -72,6 +75,12 @@ module _ (work : Work) where
   child_at seen first k bs i d built long from below =
       let here : first + (i - first) ≡ i = omega arith in
       subst (λ j. IsBuiltAt work seen j (get_or bs (i - first) d)) here (built.each (i - first) d (omega arith))
+
+  pub earlier_at : (seen : List MemoEntry) (k : ℕ) (bs : List Built) (i : ℕ) (d : Built) → AreBuilt work seen 0 bs → length bs ≡ k → i < k
+      → IsBuiltAt work seen i (get_or bs i d)
+  earlier_at seen k bs i d built long below =
+      let here : 0 + i ≡ i = omega arith in
+      subst (λ j. IsBuiltAt work seen j (get_or bs i d)) here (built.each i d (omega arith))
 
   -- all that is known stays
   pub built_all_stay : (seen longer : List MemoEntry) (first : ℕ) (bs : List Built) → IsPrefix seen longer → length longer ≤ max_entries
@@ -100,19 +109,6 @@ module _ (work : Work) where
     ];
   }
 
-  -- some nodes more
-  pub built_append : (seen : List MemoEntry) (first k : ℕ) (bs cs : List Built) → AreBuilt work seen first bs → first + length bs ≡ k
-      → AreBuilt work seen k cs → AreBuilt work seen first (bs ++ cs)
-  built_append seen first k bs cs built long more = record {
-    each = λ i d h. elim (cases_lt i (length bs)) [
-      | inl w ↦ subst (IsBuiltAt work seen (first + i)) (sym (get_or_append_left bs cs d i w)) (built.each i d w)
-      | inr w ↦
-          let at : k + (i - length bs) ≡ first + i = omega (arith, long, w) in
-          subst (IsBuiltAt work seen (first + i)) (sym (get_or-append_right bs cs (length bs) i d refl w))
-          (subst (λ j. IsBuiltAt work seen j (get_or cs (i - length bs) d)) at (more.each (i - length bs) d (omega (arith, w, h, length-append bs cs))))
-    ];
-  }
-
   -- one that was made isn't beyond
   not_beyond : (seen : List MemoEntry) (k : ℕ) (b : Built) → IsBuiltAt work seen k b → ¬ IsBeyondAt work k
   not_beyond seen k b built = finished_not_beyond (params_of work.memo.now) work.sinks.now (tree_at work.nodes.now k) b.finished built.finished
@@ -124,17 +120,22 @@ module _ (work : Work) where
       not_beyond seen j (get_or (b ∷ bs) (j - first) b) (child_at seen first k (b ∷ bs) j b built long from below)
 
   -- so the first that is beyond is the least
-  pub ends_here : (seen : List MemoEntry) (first k root : ℕ) (bs : List Built) (end : UpEnd) → AreBuilt work seen first bs → first + length bs ≡ k
-      → k ≤ root → EndsAt work k end → EndsIn work first root end
-  ends_here seen first k root bs (Beyond node) built long below ends = (
+  pub ends_at : (first k root : ℕ) (end : UpEnd) → first ≤ k → ((j : ℕ) → first ≤ j → j < k → ¬ IsBeyondAt work j) → k ≤ root → EndsAt work k end
+      → EndsIn work first root end
+  ends_at first k root (Beyond node) from none below ends = (
     omega (arith, ends.0),
     record {
-      from = omega (arith, ends.0, long);
+      from = omega (arith, ends.0);
       beyond = subst (IsBeyondAt work) (sym (ends.0)) (ends.1);
-      none_before = λ j from before. none_beyond seen first k bs built long j from (omega (arith, ends.0));
+      none_before = λ j after before. none j after (omega (arith, ends.0));
     },
   )
-  ends_here seen first k root bs NoMemory built long below ends = tt
+  ends_at first k root NoMemory from none below ends = tt
+
+  pub ends_here : (seen : List MemoEntry) (first k root : ℕ) (bs : List Built) (end : UpEnd) → AreBuilt work seen first bs → first + length bs ≡ k
+      → k ≤ root → EndsAt work k end → EndsIn work first root end
+  ends_here seen first k root bs end built long below ends =
+      ends_at first k root end (omega (arith, long)) (none_beyond seen first k bs built long) below ends
 
   -- also where another part comes before
   pub ends_after : (seen : List MemoEntry) (first k root all : ℕ) (bs : List Built) (end : UpEnd) → AreBuilt work seen first bs → first + length bs ≡ k

@@ -1,17 +1,12 @@
 -- What workers leave may go to another thread.
 use denote.Param.Send.{IsSend, sendable}
 use Rattle.std.proofs.Crossing.{crosses}
-use Rattle.cts_memo.proofs.Sent.{table_send}
 use Rattle.cts_deal.proofs.Sent.{seat_send}
 use Rattle.cts_work.specs.contracts.workers.Done as done
 use Rattle.cts_work.specs.contracts.workers.Shift as shift
-use Rattle.cts_work.specs.contracts.node.Built as built
-
-pub built_send : IsSend built.the_row
-built_send = search (crosses, sendable) depth 60 fits 20000
 
 pub done_send : IsSend done.the_row
-done_send = search (crosses, built_send, sendable) depth 60 fits 20000
+done_send = search (crosses, sendable) depth 60 fits 20000
 
 pub shift_send : IsSend shift.the_row
-shift_send = search (crosses, done_send, table_send, seat_send, sendable) depth 60 fits 20000
+shift_send = search (crosses, done_send, seat_send, sendable) depth 60 fits 20000

@@ -1,5 +1,5 @@
 -- The pieces of a shape.
-use Rattle.std.specs.Prelude.{◌≡◌, ℕ, ◌+◌, ◌-◌, ◌/◌, ◌≤◌, List, [], ◌∷◌, ◌++◌, cond, nat_lt}
+use Rattle.std.specs.Prelude.{ℕ, ◌+◌, ◌-◌, ◌/◌, ◌≤◌, List, [], ◌∷◌, ◌++◌, cond, nat_lt}
 use Rattle.cts_postorder.specs.BinaryTree.{BinaryTree, tip, fork, size, root_number}
 use Rattle.cts_topo.specs.declared.shape.ShapeNode.{ShapeNode}
 use Rattle.cts_work.specs.declared.pieces.Piece.{Piece}

@@ -7,9 +7,10 @@ use Rattle.cts_topo.specs.declared.shape.ShapeNode.{ShapeNode}
 use Rattle.cts_topo.specs.Shape.{IsShapeOver, children}
 use Rattle.cts_up.specs.declared.end.UpEnd.{UpEnd}
 use Rattle.cts_up.specs.declared.end.UpEnd.TheVariants.{Beyond, NoMemory}
-use Rattle.cts_up.specs.Plan.{IsBeyondPair}
+use Rattle.cts_up.specs.Plan.{IsBeyondPair, IsFinished}
 use Rattle.cts_up.specs.Sinks.{AreSinksInRange}
 use Rattle.cts_units.specs.declared.params.Sink.{Sink}
+use Rattle.cts_merge.specs.declared.side.Finished.{Finished}
 use Rattle.cts_memo.specs.declared.memo.Memo.{Memo}
 use Rattle.cts_memo.specs.declared.entry.MemoEntry.{MemoEntry}
 use Rattle.cts_memo.specs.Numbers.{missing_in}
@@ -39,6 +40,10 @@ abbrev pub EndsAt : Work → ℕ → UpEnd → Type 0
 EndsAt work k (Beyond node) = (node ≡ k) × IsBeyondAt work k
 EndsAt work k NoMemory = Unit {0}
 
+-- what the upward pass makes of the node of a number
+abbrev pub IsMadeAt : Work → ℕ → Finished → Type 0
+IsMadeAt work k f = IsFinished (params_of work.memo.now) work.sinks.now (tree_at work.nodes.now k) f
+
 -- one where the node is a pair without a number in the memo, else none
 abbrev pub missing_at : Work → List MemoEntry → ℕ → ℕ
 missing_at work seen k = missing_in seen work.sinks.now (tree_at work.nodes.now k ∷ [])
@@ -59,6 +64,10 @@ pub record IsPart (nodes : List ShapeNode) (first root : ℕ) : Type 0 where
 -- what the nodes from a number on are made of
 pub record AreBuilt (work : Work) (seen : List MemoEntry) (first : ℕ) (bs : List Built) : Type 0 where
   pub each : (i : ℕ) (d : Built) → i < length bs → IsBuiltAt work seen (first + i) (slice_index_or bs i d)
+
+-- what the upward pass makes of the nodes from a number on
+pub record AreMade (work : Work) (first : ℕ) (fs : List Finished) : Type 0 where
+  pub each : (i : ℕ) (d : Finished) → i < length fs → IsMadeAt work (first + i) (slice_index_or fs i d)
 
 -- the least number from `first` on of a node that is beyond
 pub record IsLeastFrom (work : Work) (first k : ℕ) : Type 0 where

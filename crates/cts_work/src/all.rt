@@ -19,9 +19,10 @@ use crate::gate::Gate;
 use crate::node::Built;
 use crate::part::build_node;
 use crate::pieces::{Piece, divide};
+use crate::publishing::publish_part;
 use crate::upward::finished_of;
 use crate::work::{Work, Worker};
-use crate::workers::{Done, build_pieces};
+use crate::workers::{Done, make_pieces};
 use cts_memo::{Memo, MemoPass};
 use cts_merge::{Finished, Steps};
 use cts_num::NoMemory;
@@ -89,7 +90,7 @@ fn build_above<L: Ledger, R: Wait, G: Gate>(
     Ok(())
 }
 
-/// The nodes of the whole shape: those of its pieces, and the pairs above them.
+/// The nodes of the whole shape: those of its pieces, which are published, and the pairs above them.
 fn complete<L: Ledger, R: Wait, G: Gate>(
     rt: &R,
     gate: &G,
@@ -104,7 +105,7 @@ fn complete<L: Ledger, R: Wait, G: Gate>(
     requires ready { IsReady work.now }
     requires pieces { ArePieces work.now.nodes.now pieces.now }
     requires order { AreInOrder work.now.nodes.now 0 pieces.now (length work.now.nodes.now) }
-    requires slots { HavePieces work.now (seen_by pass.old) pieces.now slots.items }
+    requires slots { HavePieces work.now pieces.now slots.items }
     ensures pass { GoesOn work.now.memo.now pass.old pass.new }
     ensures long { IfOk result (λ built. length built.items ≡ length work.now.nodes.now) }
     ensures built { IfOk result (λ built. AreBuilt work.now (seen_by pass.new) 0 built.items) }
@@ -127,11 +128,11 @@ fn complete<L: Ledger, R: Wait, G: Gate>(
             Ok(()) => {}
             Err(end) => return Err(end),
         }
-        let Some(Done { built: part, .. }) = slots[number].take() else {
+        let Some(Done { made, .. }) = slots[number].take() else {
             unreachable!()
         };
-        match part {
-            Ok(mut part) => built.append(&mut part)?,
+        match made {
+            Ok(part) => publish_part(rt, work, pass, &part, &mut built)?,
             Err(end) => return Err(end),
         }
         leftmost.push(number as u32)?;
@@ -161,7 +162,7 @@ fn plan_counted<L: Ledger, R: Wait, G: Gate>(
     requires ready { IsReady work.now }
     requires pieces { ArePieces work.now.nodes.now pieces.now }
     requires order { AreInOrder work.now.nodes.now 0 pieces.now (length work.now.nodes.now) }
-    requires done { All (IsDone work.now (seen_by pass.old) pieces.now) done.items }
+    requires done { All (IsDone work.now pieces.now) done.items }
     requires once { AreOnce (length pieces.now) (numbers_of done.items) }
     ensures pass { GoesOn work.now.memo.now pass.old pass.new }
     ensures plan { IfOk result (λ plan. IsPlan (params_of work.now.memo.now) work.now.sinks.now work.now.nodes.now plan.items) }
@@ -190,7 +191,7 @@ fn plan_of<R: Wait, G: Gate>(
     requires ready { IsReady work.now }
     requires pieces { ArePieces work.now.nodes.now pieces.now }
     requires order { AreInOrder work.now.nodes.now 0 pieces.now (length work.now.nodes.now) }
-    requires done { All (IsDone work.now (seen_by pass.old) pieces.now) done.items }
+    requires done { All (IsDone work.now pieces.now) done.items }
     requires once { AreOnce (length pieces.now) (numbers_of done.items) }
     ensures pass { GoesOn work.now.memo.now pass.old pass.new }
     ensures plan { IfOk result (λ plan. IsPlan (params_of work.now.memo.now) work.now.sinks.now work.now.nodes.now plan.items) }
@@ -229,12 +230,13 @@ fn pieces_for(
 ///
 /// The shape is divided into pieces: the root has four times as many lots as there are workers; at a
 /// pair of at least two lots the left part gets half of them, rounded up, and the right part the rest; a
-/// part of one lot, or a leaf, is a piece. Pieces are numbered from the left, from 0. Each worker builds
+/// part of one lot, or a leaf, is a piece. Pieces are numbered from the left, from 0. Each worker makes
 /// pieces, each of the next number that nobody drew, until none is left. A worker whose piece is beyond
 /// goes on with the next one; a worker that finds no memory draws no more, and then the whole answer is
-/// `NoMemory`. The pairs above the pieces are asked for and published once the workers are done, with the
-/// number of their leftmost piece. `Beyond` is exactly that of the upward pass. Where no thread can be
-/// made the workers run one after another.
+/// `NoMemory`. Once the workers are done the caller goes through the nodes in their order: those of the
+/// pieces are published, and the pairs above them are asked for and published, with the number of their
+/// leftmost piece. `Beyond` is exactly that of the upward pass. Where no thread can be made the workers
+/// run one after another.
 pub fn build_all<R: Threads + Wait + Sync, G: Gate>(
     rt: &R,
     alloc: Global,
@@ -263,8 +265,8 @@ pub fn build_all<R: Threads + Wait + Sync, G: Gate>(
     let Ok(pieces) = pieces_for(alloc, nodes, sinks.len(), workers) else {
         return (Err(UpEnd::NoMemory), pass);
     };
-    let (done, mut pass) = build_pieces(rt, gate, alloc, &work, &pieces, workers, pass);
-    let plan = match done {
+    let mut pass = pass;
+    let plan = match make_pieces(rt, gate, alloc, &work, &pieces, workers) {
         Ok(done) => plan_of(rt, gate, alloc, &work, &mut pass, &pieces, done),
         Err(NoMemory) => Err(UpEnd::NoMemory),
     };

@@ -6,8 +6,8 @@ pub trait Gate: Sync {
     /// Is called before a worker starts a piece of the tree.
     fn piece(&self, number: u32);
 
-    /// Is called by a worker or caller between a look-up answered `Absent` and its publication,
-    /// outside every turn.
+    /// Is called between a look-up answered `Absent` and its publication, outside every turn, with the
+    /// number of a piece or of a caller.
     fn between(&self, number: u32);
 }
 

@@ -3,9 +3,11 @@
 
 mod all;
 mod gate;
+mod making;
 mod node;
 mod part;
 mod pieces;
+mod publishing;
 mod upward;
 mod work;
 mod workers;

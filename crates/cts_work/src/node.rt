@@ -32,7 +32,29 @@ pub(crate) struct Built {
     pub(crate) finished: Finished,
 }
 
-/// Publishes what was made of a key that was absent. Its number, or `None` where the memo is full.
+/// Publishes what was made of a key. Its number, or `None` where the memo is full.
+pub(crate) fn keep<R: Wait>(
+    rt: &R,
+    memo: &Memo,
+    pass: &mut MemoPass,
+    key: Key,
+    finished: Finished,
+) -> Result<Option<u32>, NoMemory>
+    requires own { IsPassOf memo.now pass.old }
+    requires key { NamesEntries (seen_by pass.old) key }
+    requires finished { IsMadeOf (params_of memo.now) (seen_by pass.old) key finished }
+    ensures pass { GoesOn memo.now pass.old pass.new }
+    ensures kept { IfOk result (IsKept (seen_by pass.new) key finished) }
+{
+    match memo.put(rt, pass, key, finished) {
+        PutEnd::At { number } => Ok(Some(number)),
+        PutEnd::Full => Ok(None),
+        PutEnd::NoMemory => Err(NoMemory),
+    }
+}
+
+/// Publishes what was made of a key that was absent, past the gate. Its number, or `None` where the memo
+/// is full.
 fn publish<R: Wait, G: Gate>(
     worker: &Worker<'_, R, G>,
     memo: &Memo,
@@ -47,11 +69,7 @@ fn publish<R: Wait, G: Gate>(
     ensures kept { IfOk result (IsKept (seen_by pass.new) key finished) }
 {
     worker.gate.between(worker.number);
-    match memo.put(worker.rt, pass, key, finished) {
-        PutEnd::At { number } => Ok(Some(number)),
-        PutEnd::Full => Ok(None),
-        PutEnd::NoMemory => Err(NoMemory),
-    }
+    keep(worker.rt, memo, pass, key, finished)
 }
 
 /// The leaf of a sink: looked up, or made and published.
@@ -79,7 +97,7 @@ pub(crate) fn build_leaf<R: Wait, G: Gate>(
 }
 
 /// The pair of two sides, with the parameters of the memo.
-fn merge_sides<L: Ledger>(
+pub(crate) fn merge_sides<L: Ledger>(
     memo: &Memo,
     a: &Finished,
     b: &Finished,
@@ -103,7 +121,7 @@ pub(crate) struct PairNumbers {
 }
 
 /// The key of a pair whose two parts have these numbers in the memo, or `None` where one has none.
-fn pair_key(left: Option<u32>, right: Option<u32>) -> Option<Key>
+pub(crate) fn pair_key(left: Option<u32>, right: Option<u32>) -> Option<Key>
     ensures key { IfSome result (IsPairKey left right) }
     ensures none { IfNone result ((left ≡ None) ⊎ (right ≡ None)) }
 {

@@ -12,6 +12,7 @@ use crate::{Gate, OpenGate, build_all};
 use cts_memo::Memo;
 use cts_merge::{Finished, Steps};
 use cts_topo::{Shape, topology};
+use cts_turn::Object;
 use cts_units::{Library, Params, Sink, Wire};
 use cts_up::{UpEnd, up};
 use std::alloc::{AllocError, Global};
@@ -169,7 +170,7 @@ fn are_same(a: &[Finished], b: &[Finished]) -> bool {
         })
 }
 
-/// Whether workers make the plan that one thread makes, of so many sinks on a line.
+/// Whether workers make the plan that one thread makes, of so many sinks on a line, and publish each node.
 fn agree<R: Threads + Wait + Sync, G: Gate>(
     rt: &R,
     alloc: Global,
@@ -188,7 +189,11 @@ fn agree<R: Threads + Wait + Sync, G: Gate>(
     let (memo, pass) = Memo::start(alloc, &params)?;
     let (plan, pass) = build_all(rt, alloc, &memo, pass, gate, &sinks, &shape, workers);
     let alone = plan_alone(alloc, &params, &sinks, &shape)?;
-    Ok(are_same(&plan?, &alone) && pass.share() == 65_536)
+    let whole = pass.share() == 65_536;
+    let Ok(table) = memo.close(pass) else {
+        return Ok(false);
+    };
+    Ok(whole && are_same(&plan?, &alone) && table.len() + 1 == 2 * count as u64)
 }
 
 #[test]

@@ -1,32 +1,25 @@
-//! Workers that build the pieces of a shape beside each other.
+//! Workers that make the pieces of a shape beside each other.
 
-ghost use Rattle.std.specs.Prelude.{◌≡◌, ◌≢◌, ◌+◌, ◌<◌, ◌≤◌, ◌++◌, [], map, length, All, IfOk, IfErr};
-ghost use mathlib.Core.List.{IsPrefix};
-ghost use Rattle.cts_turn.specs.Passes.{seen_by, share_of};
-ghost use Rattle.cts_memo.specs.Passes.{IsPassOf};
-ghost use Rattle.cts_deal.specs.Hands.{IsHandOf, drawn_by};
-ghost use Rattle.cts_deal.specs.Hands as hands;
-ghost use Rattle.cts_work.specs.Built.{GoesOn};
-ghost use Rattle.cts_work.specs.Work.{AreBuilt, EndsIn, IsPart, IsReady, work_of};
+ghost use Rattle.std.specs.Prelude.{◌≡◌, ◌+◌, ◌<◌, ◌≤◌, [], length, All, IfOk, IfErr};
+ghost use Rattle.cts_deal.specs.Hands.{IsHandOf, drawn_by, share_of};
+ghost use Rattle.cts_work.specs.Work.{AreMade, EndsIn, IsPart, IsReady, work_of};
 ghost use Rattle.cts_work.specs.Done.{AreOnce, ArePieces, AreTogether, Covers, IsDone, IsShift, IsTeam, numbers_of};
 ghost use denote.Param.Send.{IsSync};
 
 use crate::gate::Gate;
-use crate::node::Built;
-use crate::part::build_part;
+use crate::making::make_part;
 use crate::pieces::Piece;
-use crate::work::{Work, Worker};
+use crate::work::Work;
 use cts_deal::{Deal, Hand};
+use cts_memo::Memo;
 use cts_memo::laws::memo_is_shared;
-use cts_memo::{Memo, MemoPass};
-use cts_merge::Steps;
+use cts_merge::{Finished, Steps};
 use cts_num::NoMemory;
 use cts_topo::ShapeNode;
 use cts_units::Sink;
 use cts_up::UpEnd;
 use std::alloc::Global;
 use std::marker::Brand;
-use std::sync::Wait;
 use std::sync::ledger::{Blank, Ledger};
 use std::thread::{Threads, join};
 
@@ -34,80 +27,56 @@ use std::thread::{Threads, join};
 #[derive(Drop)]
 pub(crate) struct Done {
     pub(crate) number: u32,
-    pub(crate) built: Result<Vec<Built>, UpEnd>,
+    pub(crate) made: Result<Vec<Finished>, UpEnd>,
 }
 
 /// A piece, whose merges this counter counts.
-fn build_counted<L: Ledger, R: Wait, G: Gate>(
-    worker: &Worker<'_, R, G>,
+fn make_counted<L: Ledger>(
     work: &Work<'_>,
     alloc: Global,
-    pass: &mut MemoPass,
     piece: Piece,
     blank: Blank,
-) -> Result<Vec<Built>, UpEnd>
+) -> Result<Vec<Finished>, UpEnd>
     requires name { blank.name ≡ L.name }
     requires parts { blank.parts ≡ L.parts }
     requires some { 0 < L.parts }
-    requires own { IsPassOf work.now.memo.now pass.old }
     requires ready { IsReady work.now }
     requires part { IsPart work.now.nodes.now piece.first piece.root }
-    ensures pass { GoesOn work.now.memo.now pass.old pass.new }
-    ensures long { IfOk result (λ built. piece.first + length built.items ≡ piece.root + 1) }
-    ensures built { IfOk result (λ built. AreBuilt work.now (seen_by pass.new) piece.first built.items) }
+    ensures long { IfOk result (λ made. piece.first + length made.items ≡ piece.root + 1) }
+    ensures made { IfOk result (λ made. AreMade work.now piece.first made.items) }
     ensures ends { IfErr result (EndsIn work.now piece.first piece.root) }
 {
     let mut steps = Steps::<L>::open(blank);
-    build_part(
-        worker,
-        work,
-        alloc,
-        pass,
-        piece.first,
-        piece.root,
-        &mut steps,
-    )
+    make_part(work, alloc, piece.first, piece.root, &mut steps)
 }
 
-/// What the nodes of a piece are made of.
-fn build_piece<R: Wait, G: Gate>(
-    worker: &Worker<'_, R, G>,
-    work: &Work<'_>,
-    alloc: Global,
-    pass: &mut MemoPass,
-    piece: Piece,
-) -> Result<Vec<Built>, UpEnd>
-    requires own { IsPassOf work.now.memo.now pass.old }
+/// What the nodes of a piece are.
+fn make_piece(work: &Work<'_>, alloc: Global, piece: Piece) -> Result<Vec<Finished>, UpEnd>
     requires ready { IsReady work.now }
     requires part { IsPart work.now.nodes.now piece.first piece.root }
-    ensures pass { GoesOn work.now.memo.now pass.old pass.new }
-    ensures long { IfOk result (λ built. piece.first + length built.items ≡ piece.root + 1) }
-    ensures built { IfOk result (λ built. AreBuilt work.now (seen_by pass.new) piece.first built.items) }
+    ensures long { IfOk result (λ made. piece.first + length made.items ≡ piece.root + 1) }
+    ensures made { IfOk result (λ made. AreMade work.now piece.first made.items) }
     ensures ends { IfErr result (EndsIn work.now piece.first piece.root) }
 {
-    build_counted::<Brand, R, G>(worker, work, alloc, pass, piece, Blank::new(1))
+    make_counted::<Brand>(work, alloc, piece, Blank::new(1))
 }
 
-/// Builds pieces, each of the next number that nobody drew yet, until none is left.
-fn run_worker<R: Wait, G: Gate>(
-    rt: &R,
+/// Makes pieces, each of the next number that nobody drew yet, until none is left.
+fn run_worker<G: Gate>(
     gate: &G,
     alloc: Global,
     work: &Work<'_>,
     pieces: &[Piece],
     deal: &Deal,
-    pass: &mut MemoPass,
     hand: &mut Hand,
 ) -> Result<Vec<Done>, NoMemory>
-    requires own { IsPassOf work.now.memo.now pass.old }
     requires ready { IsReady work.now }
     requires pieces { ArePieces work.now.nodes.now pieces.now }
     requires hand { IsHandOf deal.now hand.old }
     requires none { drawn_by hand.old ≡ [] }
-    ensures pass { GoesOn work.now.memo.now pass.old pass.new }
     ensures hand { IsHandOf deal.now hand.new }
-    ensures share { hands.share_of hand.new ≡ hands.share_of hand.old }
-    ensures done { IfOk result (λ done. All (IsDone work.now (seen_by pass.new) pieces.now) done.items) }
+    ensures share { share_of hand.new ≡ share_of hand.old }
+    ensures done { IfOk result (λ done. All (IsDone work.now pieces.now) done.items) }
     ensures drawn { IfOk result (λ done. Covers (length pieces.now) (drawn_by hand.new) (numbers_of done.items)) }
 {
     let mut done = Vec::new(alloc);
@@ -117,20 +86,18 @@ fn run_worker<R: Wait, G: Gate>(
             return Ok(done);
         };
         gate.piece(number);
-        let worker = Worker { rt, gate, number };
-        let built = build_piece(&worker, work, alloc, pass, *piece);
-        if matches!(&built, Err(UpEnd::NoMemory)) {
+        let made = make_piece(work, alloc, *piece);
+        if matches!(&made, Err(UpEnd::NoMemory)) {
             return Err(NoMemory);
         }
-        done.push(Done { number, built })?;
+        done.push(Done { number, made })?;
     }
 }
 
-/// What workers leave: what became of the pieces that they drew, their pass and their hand.
+/// What workers leave: what became of the pieces that they drew, and their hand.
 #[derive(Drop)]
 pub(crate) struct Shift {
     pub(crate) done: Result<Vec<Done>, NoMemory>,
-    pub(crate) pass: MemoPass,
     pub(crate) hand: Hand,
 }
 
@@ -149,7 +116,7 @@ fn together(
 
 /// Lets so many workers draw pieces, each in a thread of its own where one can be made.
 #[cycle(shifts)]
-fn run_workers<R: Threads + Wait + Sync, G: Gate>(
+fn run_workers<R: Threads + Sync, G: Gate>(
     rt: &R,
     gate: &G,
     alloc: Global,
@@ -159,84 +126,64 @@ fn run_workers<R: Threads + Wait + Sync, G: Gate>(
     pieces: &[Piece],
     deal: &Deal,
     workers: u32,
-    mut pass: MemoPass,
     mut hand: Hand,
 ) -> Shift
     requires shared { IsSync R.row × IsSync G.row }
-    requires team { IsTeam (work_of memo sinks nodes) pieces.now deal.now workers pass hand }
-    ensures { IsShift (work_of memo.entry sinks.entry nodes.entry) pieces.now deal.now pass hand result }
+    requires team { IsTeam (work_of memo sinks nodes) pieces.now deal.now workers hand }
+    ensures { IsShift (work_of memo.entry sinks.entry nodes.entry) pieces.now deal.now hand result }
 {
     if workers < 2 {
         let work = Work { memo, sinks, nodes };
-        let done = run_worker(rt, gate, alloc, &work, pieces, deal, &mut pass, &mut hand);
-        return Shift { done, pass, hand };
+        let done = run_worker(gate, alloc, &work, pieces, deal, &mut hand);
+        return Shift { done, hand };
     }
     let (here, there) = (workers - workers / 2, workers / 2);
-    let (first_pass, second_pass) = memo.split(pass);
-    let (first_hand, second_hand) = deal.split(hand);
+    let (first, second) = deal.split(hand);
     let front = move || -> Shift
-        requires { IsSync R.row × IsSync G.row × IsTeam (work_of memo sinks nodes) pieces.now deal.now here first_pass first_hand }
-        ensures { IsShift (work_of memo.entry sinks.entry nodes.entry) pieces.entry.now deal.entry.now first_pass first_hand result }
+        requires { IsSync R.row × IsSync G.row × IsTeam (work_of memo sinks nodes) pieces.now deal.now here first }
+        ensures { IsShift (work_of memo.entry sinks.entry nodes.entry) pieces.entry.now deal.entry.now first result }
     {
         run_workers(
-            rt, gate, alloc, memo, sinks, nodes, pieces, deal, here, first_pass, first_hand,
+            rt, gate, alloc, memo, sinks, nodes, pieces, deal, here, first,
         )
     };
     let back = move || -> Shift
-        requires { IsSync R.row × IsSync G.row × IsTeam (work_of memo sinks nodes) pieces.now deal.now there second_pass second_hand }
-        ensures { IsShift (work_of memo.entry sinks.entry nodes.entry) pieces.entry.now deal.entry.now second_pass second_hand result }
+        requires { IsSync R.row × IsSync G.row × IsTeam (work_of memo sinks nodes) pieces.now deal.now there second }
+        ensures { IsShift (work_of memo.entry sinks.entry nodes.entry) pieces.entry.now deal.entry.now second result }
     {
         run_workers(
-            rt,
-            gate,
-            alloc,
-            memo,
-            sinks,
-            nodes,
-            pieces,
-            deal,
-            there,
-            second_pass,
-            second_hand,
+            rt, gate, alloc, memo, sinks, nodes, pieces, deal, there, second,
         )
     };
     memo_is_shared();
     let (a, b) = join(rt, front, back);
     Shift {
         done: together(a.done, b.done),
-        pass: memo.join(a.pass, b.pass),
         hand: deal.join(a.hand, b.hand),
     }
 }
 
-/// What became of the pieces, each of which one of so many workers drew. The pass comes back with its
-/// share.
-pub(crate) fn build_pieces<R: Threads + Wait + Sync, G: Gate>(
+/// What became of the pieces, each of which one of so many workers drew.
+pub(crate) fn make_pieces<R: Threads + Sync, G: Gate>(
     rt: &R,
     gate: &G,
     alloc: Global,
     work: &Work<'_>,
     pieces: &[Piece],
     workers: u32,
-    pass: MemoPass,
-) -> (Result<Vec<Done>, NoMemory>, MemoPass)
+) -> Result<Vec<Done>, NoMemory>
     requires ready { IsReady work.now }
     requires pieces { ArePieces work.now.nodes.now pieces.now }
-    requires own { IsPassOf work.now.memo.now pass }
-    requires share { 64 ≤ share_of pass }
     requires some { 1 ≤ workers }
     requires few { workers ≤ 64 }
-    ensures pass { GoesOn work.now.memo.now pass result.1 }
-    ensures done { IfOk result.0 (λ done. All (IsDone work.now (seen_by result.1) pieces.now) done.items) }
-    ensures once { IfOk result.0 (λ done. AreOnce (length pieces.now) (numbers_of done.items)) }
+    ensures done { IfOk result (λ done. All (IsDone work.now pieces.now) done.items) }
+    ensures once { IfOk result (λ done. AreOnce (length pieces.now) (numbers_of done.items)) }
 {
-    let Ok((deal, hand)) = Deal::start(alloc) else {
-        return (Err(NoMemory), pass);
-    };
+    let (deal, hand) = Deal::start(alloc)?;
     let (memo, sinks, nodes) = (work.memo, work.sinks, work.nodes);
-    let Shift { done, pass, hand } = run_workers(
-        rt, gate, alloc, memo, sinks, nodes, pieces, &deal, workers, pass, hand,
+    let Shift { done, hand } = run_workers(
+        rt, gate, alloc, memo, sinks, nodes, pieces, &deal, workers, hand,
     );
     deal.close(hand);
-    (done, pass)
+    done
 }

@@ -1,4 +1,4 @@
-use Rattle.std.proofs.Common.{◌≡◌, ◌+◌, ◌-◌, ◌∷◌, [], length, Some, sym, ap, refl, ◌∙◌, subst, arith, length-append}
+use Rattle.std.proofs.Common.{◌-◌, ◌∷◌, [], length, sym, ap, subst, arith, length-append}
 use Rattle.cts_topo.specs.declared.shape.ShapeNode.TheVariants.{Leaf}
 use Rattle.cts_topo.specs.Shape.{children}
 use Rattle.cts_postorder.proofs.Failures.{size-tree}

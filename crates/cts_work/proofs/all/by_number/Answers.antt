@@ -1,4 +1,4 @@
-use Rattle.std.proofs.Common.{◌≡◌, ◌+◌, length, Some, sym, ap, refl, ◌∙◌, subst, arith, length-set}
+use Rattle.std.proofs.Common.{Some, refl, arith, length-set}
 use Rattle.std.proofs.lemmas.List.{nil_from_length}
 use Rattle.cts_work.proofs.Slots.{number_below, last_among, rest_among, filled_more, all_filled}
 use Rattle.cts_work.proofs.all.by_number.Goals as goal

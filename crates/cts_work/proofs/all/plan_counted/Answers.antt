@@ -1,4 +1,4 @@
-use Rattle.std.proofs.Common.{◌≡◌, ◌+◌, ◌-◌, List, map, length, refl, ap, ◌∙◌, subst, arith}
+use Rattle.std.proofs.Common.{◌-◌, List, map, length, refl, ap, ◌∙◌, subst, arith}
 use Rattle.cts_postorder.proofs.Lists.{length_pos}
 use Rattle.cts_topo.specs.Shape.{children}
 use Rattle.cts_turn.specs.Passes.{seen_by}
@@ -14,7 +14,7 @@ complete-requires-clause-slots g c κs within = record {
       let slot = c.in_ok-slots.ensures.slots n h in (
         slot.0,
         slot.1,
-        subst (IsDone c.args.work.now (seen_by c.args.pass.now) c.args.pieces.now) (slot.2.2) (c.requires.done (slot.2.0) (slot.0) (slot.2.1)),
+        subst (IsDone c.args.work.now c.args.pieces.now) (slot.2.2) (c.requires.done (slot.2.0) (slot.0) (slot.2.1)),
         slot.3,
       );
 }

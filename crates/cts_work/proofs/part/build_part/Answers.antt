@@ -1,4 +1,4 @@
-use Rattle.std.proofs.Common.{◌≡◌, ◌+◌, ◌-◌, ◌≤◌, ◌∷◌, [], length, sym, ap, subst, arith, length-append}
+use Rattle.std.proofs.Common.{◌+◌, ◌-◌, ◌∷◌, [], length, sym, ap, subst, arith, length-append}
 use Rattle.cts_turn.specs.Passes.{seen_by}
 use Rattle.cts_work.specs.Work.{AreBuilt}
 use Rattle.cts_work.proofs.Nodes.{stands_still, goes_further}

@@ -1,10 +1,10 @@
-use Rattle.std.proofs.Common.{◌≡◌, ◌+◌, ◌-◌, ◌/◌, ◌<◌, ◌++◌, ◌∷◌, [], refl, sym, ap, ◌∙◌, arith, append_assoc}
+use Rattle.std.proofs.Common.{◌+◌, ◌-◌, ◌/◌, ◌++◌, sym, ap, ◌∙◌, arith, append_assoc}
 use Rattle.std.proofs.lemmas.Result.{IfOk-weaker}
 use Rattle.cts_topo.specs.declared.shape.ShapeNode.TheVariants.{Leaf}
 use Rattle.cts_work.specs.Built.{tree_at}
 use Rattle.cts_work.specs.Pieces.{pieces_of}
 use Rattle.cts_work.proofs.Nodes.{tip_at}
-use Rattle.cts_work.proofs.Divisions.{one_lot, one_leaf, left_before, right_before, left_part, right_part, parts_pieces}
+use Rattle.cts_work.proofs.Divisions.{one_lot, one_leaf, left_before, left_part, right_part, parts_pieces}
 use Rattle.cts_work.proofs.pieces.+divide.Goals as goal
 
 pub returns-then-lots-lt2 : goal.returns-then-lots-lt2

@@ -1,14 +1,12 @@
-use Rattle.std.proofs.Common.{◌≡◌, ◌+◌, ◌-◌, List, map, length, sym, ap, ◌∙◌, subst, arith}
-use Rattle.cts_up.proofs.Merges.{number_fits}
+use Rattle.std.proofs.Common.{◌-◌, List, map, length, sym, ap, ◌∙◌, subst, arith}
 use Rattle.cts_topo.specs.Shape.{IsShapeOver, children}
 use Rattle.cts_topo.proofs.Counts.{length-shape}
 use Rattle.cts_postorder.proofs.Lists.{length_pos}
 use Rattle.cts_turn.specs.Passes.{seen_by}
-use Rattle.cts_memo.specs.Passes.{params_of}
 use Rattle.cts_work.specs.declared.node.Built.{Built}
 use Rattle.cts_work.specs.declared.work.Work.{Work}
 use Rattle.cts_work.specs.Work.{IsReady}
-use Rattle.cts_work.proofs.Parts.{whole_part, merges_in_all, ends_in_all, plan_made, all_known}
+use Rattle.cts_work.proofs.Parts.{whole_part, ends_in_all, plan_made, all_known}
 use Rattle.cts_work.proofs.upward.rebuild.Goals as goal
 
 pub overflow_cast-root : goal.overflow_cast-root

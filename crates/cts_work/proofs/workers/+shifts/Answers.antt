@@ -1,14 +1,12 @@
-use Rattle.std.proofs.Common.{◌≡◌, ◌+◌, ◌-◌, ◌/◌, length, All, sym, subst, arith}
+use Rattle.std.proofs.Common.{length, All, sym, subst, arith}
 use denote.Param.Send.{sendable}
 use Rattle.std.proofs.Crossing.{crosses}
+use Rattle.std.proofs.lemmas.List.Elements.{All-append}
 use Rattle.std.proofs.lemmas.Result.{IfOk-at_ok, IfOk-weaker}
-use mathlib.Core.List.{IsPrefix}
-use Rattle.cts_turn.specs.Passes.{seen_by}
-use Rattle.cts_turn.proofs.Prefixes.{prefix_trans}
 use Rattle.cts_deal.specs.Hands.{drawn_by}
 use Rattle.cts_work.specs.declared.work.Work.{Work}
 use Rattle.cts_work.specs.Done.{Covers, IsDone, numbers_of}
-use Rattle.cts_work.proofs.Drawn.{joined_longer, done_append, numbers_append, covers_append}
+use Rattle.cts_work.proofs.Drawn.{numbers_append, covers_append}
 use Rattle.cts_work.proofs.Sent.{shift_send}
 use Rattle.cts_work.proofs.workers.+shifts.Goals as goal
 
@@ -16,38 +14,26 @@ pub join-a-requires-send-A : goal.join-a-requires-send-A
 join-a-requires-send-A g t c κs within = search (crosses, shift_send, sendable) depth 60 fits 20000
 
 pub join-requires : goal.join-requires
-join-requires g t c = record { own = (c.join-a.ensures.first.goes_on.own, c.join-a.ensures.second.goes_on.own) }
-
-pub join-requires-2 : goal.join-requires-2
-join-requires-2 g t c = record { own = (c.join-a.ensures.first.own_hand, c.join-a.ensures.second.own_hand) }
+join-requires g t c = record { own = (c.join-a.ensures.first.own, c.join-a.ensures.second.own) }
 
 pub returns : goal.returns
 returns g t c =
     let a = c.join-a.ensures.first in
     let b = c.join-a.ensures.second in
-    let split = c.split-first_pass.ensures in
     let work : Work = record { memo = c.args.memo; sinks = c.args.sinks; nodes = c.args.nodes } in
-    let longer = joined_longer (seen_by c.join-a.result.0.pass) (seen_by c.join-a.result.1.pass) (seen_by c.join.result) c.join.ensures.seen in
     record {
-      goes_on = record {
-        own = c.join.ensures.own;
-        share = omega (arith, c.join.ensures.share, a.goes_on.share, b.goes_on.share, split.share);
-        goes_on = prefix_trans (seen_by c.args.pass) (seen_by c.join-a.result.0.pass) (seen_by c.join.result)
-            (subst (λ l. IsPrefix l (seen_by c.join-a.result.0.pass)) (split.seen.0) a.goes_on.goes_on) (longer.0);
-      };
-      own_hand = c.join-2.ensures.own;
-      share = omega (arith, c.join-2.ensures.share, a.share, b.share, c.split-first_hand.ensures.share);
+      own = c.join.ensures.own;
+      share = omega (arith, c.join.ensures.share, a.share, b.share, c.split-first.ensures.share);
       done = IfOk-weaker c.together.result _ _
-          (λ d t. subst (All (IsDone work (seen_by c.join.result) c.args.pieces.now)) (sym (t.4))
-          (done_append work c.args.pieces.now (seen_by c.join-a.result.0.pass) (seen_by c.join-a.result.1.pass) (seen_by c.join.result)
-          t.0.items t.1.items (longer.0) (longer.1) c.join.ensures.own.short
-          (IfOk-at_ok (λ v. All (IsDone work (seen_by c.join-a.result.0.pass) c.args.pieces.now) v.items) (t.2) a.done)
-          (IfOk-at_ok (λ v. All (IsDone work (seen_by c.join-a.result.1.pass) c.args.pieces.now) v.items) (t.3) b.done)))
+          (λ d t. subst (All (IsDone work c.args.pieces.now)) (sym (t.4))
+          (All-append (IsDone work c.args.pieces.now) t.0.items t.1.items
+          (IfOk-at_ok (λ v. All (IsDone work c.args.pieces.now) v.items) (t.2) a.done)
+          (IfOk-at_ok (λ v. All (IsDone work c.args.pieces.now) v.items) (t.3) b.done)))
           c.together.ensures;
       drawn = IfOk-weaker c.together.result _ _
-          (λ d t. subst (λ items. Covers (length c.args.pieces.now) (drawn_by c.join-2.result) (numbers_of items)) (sym (t.4))
-          (covers_append (length c.args.pieces.now) (drawn_by c.join-a.result.0.hand) (drawn_by c.join-a.result.1.hand) (drawn_by c.join-2.result)
-          (numbers_of t.0.items) (numbers_of t.1.items) _ c.join-2.ensures.drawn (numbers_append t.0.items t.1.items)
+          (λ d t. subst (λ items. Covers (length c.args.pieces.now) (drawn_by c.join.result) (numbers_of items)) (sym (t.4))
+          (covers_append (length c.args.pieces.now) (drawn_by c.join-a.result.0.hand) (drawn_by c.join-a.result.1.hand) (drawn_by c.join.result)
+          (numbers_of t.0.items) (numbers_of t.1.items) _ c.join.ensures.drawn (numbers_append t.0.items t.1.items)
           (IfOk-at_ok (λ v. Covers (length c.args.pieces.now) (drawn_by c.join-a.result.0.hand) (numbers_of v.items)) (t.2) a.drawn)
           (IfOk-at_ok (λ v. Covers (length c.args.pieces.now) (drawn_by c.join-a.result.1.hand) (numbers_of v.items)) (t.3) b.drawn)))
           c.together.ensures;

@@ -3,7 +3,7 @@ use Rattle.std.proofs.lemmas.Result.{IfOk-weaker}
 use Rattle.cts_deal.specs.Hands.{drawn_by}
 use Rattle.cts_work.specs.Done.{numbers_of}
 use Rattle.cts_work.proofs.Drawn.{once}
-use Rattle.cts_work.proofs.workers.build_pieces.Goals as goal
+use Rattle.cts_work.proofs.workers.make_pieces.Goals as goal
 
 pub returns-clause-once : goal.returns-clause-once
 returns-clause-once g c =

@@ -1,0 +1,114 @@
+-- Nodes that were made without the memo, one after another.
+use Rattle.std.proofs.Common.{◌≡◌, ℕ, ◌+◌, ◌-◌, ◌<◌, ◌≤◌, inl, inr, List, [], ◌∷◌, ◌++◌, length, get_or, Option, Some, sym, ap, subst, arith, length-append}
+use Rattle.std.proofs.lemmas.Bool.{cases_lt}
+use Rattle.std.proofs.lemmas.List.{get_or_at, get_or_append_left}
+use Rattle.std.proofs.lemmas.Option.{slice_get-get_or}
+use Rattle.std.specs.Option.{MatchOption}
+use Rattle.cts_units.specs.declared.params.Sink.{Sink}
+use Rattle.cts_postorder.specs.BinaryTree.{tip, fork}
+use Rattle.cts_topo.specs.declared.shape.ShapeNode.TheVariants.{Leaf, Pair}
+use Rattle.cts_merge.specs.declared.side.Finished.{Finished}
+use Rattle.cts_merge.specs.Merge.{IsBeyond, IsLeaf, IsMerged}
+use Rattle.cts_merge.specs.Side.{IsMergeable}
+use Rattle.cts_up.specs.declared.end.UpEnd.{UpEnd}
+use Rattle.cts_up.specs.Plan.{IsBeyondPair, IsFinished, sink_of}
+use Rattle.cts_up.proofs.Sides.{sides_merge}
+use Rattle.cts_up.proofs.Unique.{finished_not_beyond, finished_one}
+use Rattle.cts_memo.specs.Passes.{params_of}
+use Rattle.cts_work.specs.declared.work.Work.{Work}
+use Rattle.cts_work.specs.Built.{IsPairAt, tree_at}
+use Rattle.cts_work.specs.Work.{AreMade, EndsAt, EndsIn, IsBeyondAt, IsMadeAt, IsReady}
+use Rattle.cts_work.proofs.Builts.{params_within}
+use Rattle.cts_work.proofs.Parts.{ends_at}
+
+module _ (work : Work) where
+  -- what an earlier node is
+  pub made_child : (first k : ℕ) (fs : List Finished) (i : ℕ) (d : Finished) → AreMade work first fs → first + length fs ≡ k → first ≤ i → i < k
+      → IsMadeAt work i (get_or fs (i - first) d)
+  made_child first k fs i d made long from below =
+      let here : first + (i - first) ≡ i = omega arith in
+      subst (λ j. IsMadeAt work j (get_or fs (i - first) d)) here (made.each (i - first) d (omega arith))
+
+  -- nothing is made yet
+  pub none_made : (first : ℕ) (fs : List Finished) → fs ≡ [] → AreMade work first fs
+  none_made first fs none = record { each = λ i d h. absurd (omega (arith, ap length none)) }
+
+  -- one node more
+  pub made_push : (first k : ℕ) (fs : List Finished) (f : Finished) → AreMade work first fs → first + length fs ≡ k → IsMadeAt work k f
+      → AreMade work first (fs ++ f ∷ [])
+  made_push first k fs f made long here = record {
+    each = λ i d h. elim (cases_lt i (length fs)) [
+      | inl w ↦ subst (IsMadeAt work (first + i)) (sym (get_or_append_left fs (f ∷ []) d i w)) (made.each i d w)
+      | inr w ↦
+          let last : length fs ≡ i = omega (arith, h, length-append fs (f ∷ [])) in
+          let at : k ≡ first + i = omega (arith, long, last) in
+          subst (IsMadeAt work (first + i)) (sym (get_or_at fs f [] d i last)) (subst (λ j. IsMadeAt work j f) at here)
+    ];
+  }
+
+  -- one that was made isn't beyond, so the first that is beyond is the least
+  made_not_beyond : (first k : ℕ) (fs : List Finished) → AreMade work first fs → first + length fs ≡ k
+      → (j : ℕ) → first ≤ j → j < k → ¬ IsBeyondAt work j
+  made_not_beyond first k [] made long j from below = absurd (omega (arith, long))
+  made_not_beyond first k (f ∷ fs) made long j from below =
+      finished_not_beyond (params_of work.memo.now) work.sinks.now (tree_at work.nodes.now j) (get_or (f ∷ fs) (j - first) f)
+      (made_child first k (f ∷ fs) j f made long from below)
+
+  pub made_end : (first k root : ℕ) (fs : List Finished) (end : UpEnd) → AreMade work first fs → first + length fs ≡ k → k ≤ root
+      → EndsAt work k end → EndsIn work first root end
+  made_end first k root fs end made long below ends =
+      ends_at work first k root end (omega (arith, long)) (made_not_beyond first k fs made long) below ends
+
+  -- a node's side can be merged
+  pub made_merges : (k : ℕ) (f : Finished) → IsReady work → IsMadeAt work k f → IsMergeable f.side
+  made_merges k f ready made =
+      sides_merge (params_of work.memo.now) work.sinks.now (tree_at work.nodes.now k) f made (params_within work.memo.now) ready.sinks
+
+  -- a leaf is what its sink gives
+  module _ (k s : ℕ) (d : Sink) (f : Finished) (within : s < length work.sinks.now) (here : tree_at work.nodes.now k ≡ tip (Leaf s)) where
+    found : sink_of work.sinks.now (Leaf s) ≡ Some (get_or work.sinks.now s d)
+    found = slice_get-get_or work.sinks.now s d within
+
+    finished_leaf : IsLeaf (get_or work.sinks.now s d) f → IsFinished (params_of work.memo.now) work.sinks.now (tip (Leaf s)) f
+    unfolding IsFinished
+    finished_leaf leaf = subst (λ (o : Option Sink). MatchOption o ⊥ (λ x. IsLeaf x f)) (sym found) leaf
+
+    leaf_finished : IsFinished (params_of work.memo.now) work.sinks.now (tip (Leaf s)) f → IsLeaf (get_or work.sinks.now s d) f
+    unfolding IsFinished
+    leaf_finished made = subst (λ (o : Option Sink). MatchOption o ⊥ (λ x. IsLeaf x f)) found made
+
+    pub made_leaf : IsLeaf (get_or work.sinks.now s d) f → IsMadeAt work k f
+    made_leaf leaf = subst (λ t. IsFinished (params_of work.memo.now) work.sinks.now t f) (sym here) (finished_leaf leaf)
+
+    pub leaf_made : IsMadeAt work k f → IsLeaf (get_or work.sinks.now s d) f
+    leaf_made made = leaf_finished (subst (λ t. IsFinished (params_of work.memo.now) work.sinks.now t f) here made)
+
+  -- a pair is what the sides of its two parts give
+  module _ (k left right : ℕ) (a b : Finished) (here : IsPairAt work.nodes.now k left right) (first : IsMadeAt work left a) (second : IsMadeAt work right b) where
+    merged_pair : (f : Finished) → IsMerged (params_of work.memo.now) a.side b.side f
+        → IsFinished (params_of work.memo.now) work.sinks.now (fork (tree_at work.nodes.now left) (tree_at work.nodes.now right) (Pair left right)) f
+    unfolding IsFinished
+    merged_pair f merged = (a, b, first, second, merged)
+
+    beyond_pair : IsBeyond (params_of work.memo.now) a.side b.side
+        → IsBeyondPair (params_of work.memo.now) work.sinks.now (fork (tree_at work.nodes.now left) (tree_at work.nodes.now right) (Pair left right))
+    unfolding IsBeyondPair
+    beyond_pair over = (a, b, first, second, over)
+
+    pair_merged : (f : Finished)
+        → IsFinished (params_of work.memo.now) work.sinks.now (fork (tree_at work.nodes.now left) (tree_at work.nodes.now right) (Pair left right)) f
+        → IsMerged (params_of work.memo.now) a.side b.side f
+    unfolding IsFinished
+    pair_merged f whole =
+        let one : whole.0 ≡ a = finished_one (params_of work.memo.now) work.sinks.now (tree_at work.nodes.now left) (whole.0) a (whole.2) first in
+        let two : whole.1 ≡ b = finished_one (params_of work.memo.now) work.sinks.now (tree_at work.nodes.now right) (whole.1) b (whole.3) second in
+        subst (λ (p : Finished × Finished). IsMerged (params_of work.memo.now) p.0.side p.1.side f) (λ z. (one z, two z)) (whole.4)
+
+    pub made_pair : (f : Finished) → IsMerged (params_of work.memo.now) a.side b.side f → IsMadeAt work k f
+    made_pair f merged = subst (λ t. IsFinished (params_of work.memo.now) work.sinks.now t f) (sym here) (merged_pair f merged)
+
+    pub made_beyond : IsBeyond (params_of work.memo.now) a.side b.side → IsBeyondAt work k
+    made_beyond over = subst (IsBeyondPair (params_of work.memo.now) work.sinks.now) (sym here) (beyond_pair over)
+
+    pub pair_made : (f : Finished) → IsMadeAt work k f → IsMerged (params_of work.memo.now) a.side b.side f
+    pair_made f made = pair_merged f (subst (λ t. IsFinished (params_of work.memo.now) work.sinks.now t f) here made)

@@ -1,0 +1,67 @@
+//! The nodes of a part, made without the memo.
+
+ghost use Rattle.std.specs.Prelude.{◌≡◌, ◌+◌, ◌<◌, length, IfOk, IfErr};
+ghost use Rattle.cts_work.specs.Work.{AreMade, EndsAt, EndsIn, IsMadeAt, IsPart, IsReady, StartsFrom};
+
+use crate::node::merge_sides;
+use crate::work::Work;
+use cts_merge::{Beyond, Finished, Steps, leaf};
+use cts_topo::ShapeNode;
+use cts_up::UpEnd;
+use std::alloc::Global;
+use std::sync::ledger::Ledger;
+
+/// What the node of a number is, by what those before it are, from `first` on.
+fn make_node<L: Ledger>(
+    work: &Work<'_>,
+    first: u32,
+    node: u32,
+    before: &[Finished],
+    steps: &mut Steps<L>,
+) -> Result<Finished, UpEnd>
+    requires ready { IsReady work.now }
+    requires node { node < length work.now.nodes.now }
+    requires starts { StartsFrom work.now.nodes.now first node }
+    requires long { first + length before.now ≡ node }
+    requires before { AreMade work.now first before.now }
+    ensures made { IfOk result (IsMadeAt work.now node) }
+    ensures ends { IfErr result (EndsAt work.now node) }
+{
+    match work.nodes[node as usize] {
+        ShapeNode::Leaf { sink } => Ok(leaf(&work.sinks[sink as usize])),
+        ShapeNode::Pair { left, right } => {
+            let (a, b) = (
+                &before[(left - first) as usize],
+                &before[(right - first) as usize],
+            );
+            match merge_sides(work.memo, a, b, steps) {
+                Ok(finished) => Ok(finished),
+                Err(Beyond) => Err(UpEnd::Beyond { node }),
+            }
+        }
+    }
+}
+
+/// What the nodes of a part are, from its first to its root.
+pub(crate) fn make_part<L: Ledger>(
+    work: &Work<'_>,
+    alloc: Global,
+    first: u32,
+    root: u32,
+    steps: &mut Steps<L>,
+) -> Result<Vec<Finished>, UpEnd>
+    requires ready { IsReady work.now }
+    requires part { IsPart work.now.nodes.now first root }
+    ensures long { IfOk result (λ made. first + length made.items ≡ root + 1) }
+    ensures made { IfOk result (λ made. AreMade work.now first made.items) }
+    ensures ends { IfErr result (EndsIn work.now first root) }
+{
+    let mut made = Vec::with_capacity(alloc, (root - first) as usize + 1)?;
+    for node in first..root + 1 {
+        match make_node(work, first, node, made.as_slice(), steps) {
+            Ok(next) => made.push(next)?,
+            Err(end) => return Err(end),
+        }
+    }
+    Ok(made)
+}
