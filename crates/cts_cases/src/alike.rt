@@ -1,6 +1,6 @@
-//! One text, whoever makes it: the forms with workers beside the same forms of one thread.
+//! One text, whoever makes it: the forms with workers beside the same forms of one thread, and the verdict on that text.
 
-use crate::case;
+use crate::{case, show};
 use cts_io::{MemSink, MemSource};
 use cts_top::{Status, run};
 use cts_work::OpenGate;
@@ -52,7 +52,20 @@ fn compare<R: AllocGlobal + Threads + Wait + Sync + Print>(
     Ok(())
 }
 
-/// Compares the report and the summary of a made instance of 64 sinks.
+/// Prints the verdict on the report of an instance.
+fn judge<R: AllocGlobal + Threads + Wait + Sync + Print>(
+    rt: &R,
+    instance: &[u8],
+) -> io::Result<()> {
+    let (_, report) = answer(rt, "synth 1", instance)?;
+    let mut text = instance.to_vec(rt.alloc())?;
+    text.extend_from_slice(report.bytes())?;
+    let (status, verdict) = answer(rt, "check", &text)?;
+    println!(rt; "check: {status:?}")?;
+    show::text(rt, verdict.bytes())
+}
+
+/// Compares the report and the summary of a made instance of 64 sinks, and judges its report.
 pub fn check<R: AllocGlobal + Threads + Wait + Sync + Print>(rt: &R) -> io::Result<()> {
     let (_, made) = answer(rt, "make 14 64", b"")?;
     compare(
@@ -66,5 +79,6 @@ pub fn check<R: AllocGlobal + Threads + Wait + Sync + Print>(rt: &R) -> io::Resu
         "job 14 64 1",
         ["job 14 64 2", "job 14 64 3", "job 14 64 64"],
         b"",
-    )
+    )?;
+    judge(rt, made.bytes())
 }

@@ -196,6 +196,14 @@ fn pairs_without_a_buffer(rt: HostRuntime) -> Result<(), Fail> {
         [(5, 0, 245, 245), (9, 0, 245, 245), (14, 0, 245, 245)],
     );
     compare_totals(&rt, &close, (21, 7), (245, 245), (0, 0));
+    // 75 below the pair, whose region slants, and 5·45 above it.
+    let slanted = bare_pair(&rt, rt.alloc(), (5, 5), (5, 5, 5))?;
+    compare(
+        &rt,
+        &slanted,
+        [(5, 0, 300, 300), (5, 0, 300, 300), (20, 0, 225, 225)],
+    );
+    compare_totals(&rt, &slanted, (25, 15), (300, 300), (0, 0));
     // 39 below the pair, by snaking, and 2·34 above it.
     let snaked = bare_pair(&rt, rt.alloc(), (5, 5), (3, 3, 2))?;
     compare(
