@@ -2,6 +2,7 @@ pub mod Wholes
 pub mod Pieces
 pub mod Parts
 pub mod Labels
+pub mod Numerals
 pub mod PointParts
 pub mod NodeParts
 pub mod LineParts

@@ -11,6 +11,7 @@
 //! together, `Parts` within a line, `Pieces` lines, and `Wholes` whole texts.
 #![tactic(auto)]
 
+mod digits;
 pub mod laws;
 mod node;
 mod points;

@@ -5,6 +5,7 @@ ghost use Rattle.std.specs.List.{prefix_len};
 ghost use Rattle.cts_report_reader.specs.Reader.{is_number_byte};
 ghost use Rattle.cts_report_reader.specs.Words.{Finds, bounded_at, labelled_at, number_at, same, word_at};
 
+use crate::digits::{is_number_byte, short_number};
 use cts_num::read_canonical;
 
 /// What follows a word that has to stand at the front.
@@ -17,6 +18,18 @@ pub fn after_word<'a>(bytes: &'a [u8], word: &[u8]) -> Option<((), &'a [u8])>
 
 /// A number in canonical text with so many places, and what follows it.
 pub fn number(bytes: &[u8], places: u32) -> Option<(u128, &[u8])>
+    requires { places ≤ 16 }
+    ensures found { Finds same result (number_at places bytes.now) }
+    ensures small { IfSome result (λ found. found.0 < 10 ^ 38) }
+{
+    if let Some(found) = short_number(bytes, places as usize) {
+        return Some(found);
+    }
+    any_number(bytes, places)
+}
+
+// The same of any size: its digits are counted, read and compared with the text of the number read.
+fn any_number(bytes: &[u8], places: u32) -> Option<(u128, &[u8])>
     requires { places ≤ 16 }
     ensures found { Finds same result (number_at places bytes.now) }
     ensures small { IfSome result (λ found. found.0 < 10 ^ 38) }
@@ -36,12 +49,6 @@ fn number_size(bytes: &[u8]) -> usize
         size += 1;
     }
     size
-}
-
-fn is_number_byte(byte: u8) -> bool
-    ensures { result ≡ is_number_byte byte }
-{
-    byte.is_ascii_digit() || byte == b'.'
 }
 
 /// A label, and a number in canonical text with so many places.

@@ -1,7 +1,7 @@
 use Rattle.std.proofs.Common.{sym}
 use Rattle.cts_report_reader.specs.Words.{same}
 use Rattle.cts_report_reader.proofs.Labels.{finds_none, finds_some, number_none, number_some, number_small}
-use Rattle.cts_report_reader.proofs.words.number.Goals as goal
+use Rattle.cts_report_reader.proofs.words.any_number.Goals as goal
 
 pub returns-in_err-value-clause-found : goal.returns-in_err-value-clause-found
 returns-in_err-value-clause-found c =
