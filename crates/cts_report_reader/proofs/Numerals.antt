@@ -102,17 +102,19 @@ front_is_whole text size number some inside digits first number_is =
     sym (ap₂ (λ a b. a ++ b) front (left_behind text size) ∙ take-append-drop size text)
 
 -- a point and so many digits
-pub point_and_digits : (places whole fraction unit : ℕ) (text rest : List ℕ) → 0 < places → places ≤ length rest → HasDigits rest places
-    → unit ≡ 10 ^ places → fraction ≡ digit_number (take places rest) → text ≡ 46 ∷ rest
-    → text ≡ fraction_text places (whole * unit + fraction) ++ take (length rest - places) (drop places rest)
-point_and_digits places whole fraction unit text rest some inside digits unit_is fraction_is_ text_is =
-    let less = digits_below rest places inside digits in
-    let value : whole * unit + fraction ≡ whole * 10 ^ places + digit_number (take places rest) = ap₂ (λ u f. whole * u + f) unit_is fraction_is_ in
-    let fraction_text_is : fraction_text places (whole * unit + fraction) ≡ 46 ∷ take places rest =
-    ap (fraction_text places) value ∙ fraction_is places whole (digit_number (take places rest)) some less
-    ∙ ap (λ t. 46 ∷ t) (digits_padded rest places inside digits) in
-    text_is
-    ∙ sym (ap₂ (λ a b. a ++ b) fraction_text_is (left_behind rest places) ∙ ap (λ t. 46 ∷ t) (take-append-drop places rest))
+pub point_and_digits : (places whole fraction unit : ℕ) (text front back : List ℕ) → 0 < places → length front ≡ places → HasDigits front (length front)
+    → unit ≡ 10 ^ places → fraction ≡ digit_number front → text ≡ 46 ∷ (front ++ back)
+    → text ≡ fraction_text places (whole * unit + fraction) ++ back
+point_and_digits places whole fraction unit text front back some long digits unit_is number_is text_is =
+    let each : HasDigits front places = λ k lt. digits k (omega (arith, lt, long)) in
+    let all = take_all places front (omega (arith, long)) in
+    let less = digits_below front places (omega (arith, long)) each in
+    let value : whole * unit + fraction ≡ whole * 10 ^ places + digit_number (take places front) =
+    ap₂ (λ u f. whole * u + f) unit_is (number_is ∙ ap digit_number (sym all)) in
+    let fraction_text_is : fraction_text places (whole * unit + fraction) ≡ 46 ∷ front =
+    ap (fraction_text places) value ∙ fraction_is places whole (digit_number (take places front)) some less
+    ∙ ap (λ t. 46 ∷ t) (digits_padded front places (omega (arith, long)) each ∙ all) in
+    text_is ∙ sym (ap (λ t. t ++ back) fraction_text_is)
 
 -- the powers of ten of the table
 

@@ -34,6 +34,7 @@ static POWERS_OF_TEN: [u64; 17] = [
 
 /// A number in canonical text with so many places, and what follows it, where its whole part has at most
 /// 18 digits. Other bytes are not looked into any further.
+#[inline(always)]
 pub fn short_number(bytes: &[u8], places: usize) -> Option<(u128, &[u8])>
     requires { places ≤ 16 }
     ensures found { IfSome result (λ found. number_at places bytes.now ≡ Some (found.0, found.1.now)) }
@@ -49,6 +50,7 @@ pub fn short_number(bytes: &[u8], places: usize) -> Option<(u128, &[u8])>
 }
 
 // A whole number without leading zeros, and what follows it.
+#[inline(always)]
 fn whole_part(bytes: &[u8]) -> Option<(u64, &[u8])>
     ensures text { IfSome result (λ found. bytes.now ≡ whole_text found.0 ++ found.1.now) }
     ensures few { IfSome result (λ found. found.0 < 10 ^ 18) }
@@ -61,6 +63,7 @@ fn whole_part(bytes: &[u8]) -> Option<(u64, &[u8])>
 }
 
 // The number with this whole part, where the point and so many digits follow, and what is left.
+#[inline(always)]
 fn with_fraction(whole: u64, places: usize, bytes: &[u8]) -> Option<(u128, &[u8])>
     requires places { places ≤ 16 }
     requires whole { whole < 10 ^ 18 }
@@ -72,15 +75,17 @@ fn with_fraction(whole: u64, places: usize, bytes: &[u8]) -> Option<(u128, &[u8]
         return Some((u128::from(whole), bytes));
     }
     let rest = after_point(bytes)?;
-    let (fraction, size) = digits(rest, places);
-    if size < places {
+    if rest.len() < places {
         return None;
     }
+    let (text, rest) = rest.split_at(places);
+    let fraction = all_digits(text)?;
     let value = u128::from(whole) * u128::from(POWERS_OF_TEN[places]) + u128::from(fraction);
-    Some((value, &rest[places..]))
+    Some((value, rest))
 }
 
 // What follows a point.
+#[inline(always)]
 fn after_point(bytes: &[u8]) -> Option<&[u8]>
     ensures { IfSome result (λ rest. bytes.now ≡ codes "." ++ rest.now) }
 {
@@ -90,7 +95,26 @@ fn after_point(bytes: &[u8]) -> Option<&[u8]>
     }
 }
 
+// The number of a text of digits alone. Its length is known where the places are, so that no loop is left.
+#[inline(always)]
+fn all_digits(text: &[u8]) -> Option<u64>
+    requires { length text.now ≤ 16 }
+    ensures digits { IfSome result (λ _. (k : ℕ) → k < length text.now → IsAsciiDigit (slice_index text.now k)) }
+    ensures number { IfSome result (λ number. number ≡ digit_number text.now) }
+    ensures small { IfSome result (λ number. number < 10 ^ length text.now) }
+{
+    let mut number = 0;
+    for byte in text {
+        if !byte.is_ascii_digit() {
+            return None;
+        }
+        number = number * 10 + u64::from(*byte - b'0');
+    }
+    Some(number)
+}
+
 // The number of the digits in front, at most so many, and how many they are.
+#[inline(always)]
 fn digits(bytes: &[u8], most: usize) -> (u64, usize)
     requires { most ≤ 18 }
     ensures inside { result.1 ≤ length bytes.now }
@@ -110,6 +134,7 @@ fn digits(bytes: &[u8], most: usize) -> (u64, usize)
 }
 
 // Whether no number goes on here.
+#[inline(always)]
 fn is_ended(bytes: &[u8]) -> bool
     ensures { OnTrue result (IsStop bytes.now) }
 {

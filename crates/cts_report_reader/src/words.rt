@@ -9,6 +9,7 @@ use crate::digits::{is_number_byte, short_number};
 use cts_num::read_canonical;
 
 /// What follows a word that has to stand at the front.
+#[inline(always)]
 pub fn after_word<'a>(bytes: &'a [u8], word: &[u8]) -> Option<((), &'a [u8])>
     ensures { Finds same result (word_at word.now bytes.now) }
 {
@@ -17,6 +18,7 @@ pub fn after_word<'a>(bytes: &'a [u8], word: &[u8]) -> Option<((), &'a [u8])>
 }
 
 /// A number in canonical text with so many places, and what follows it.
+#[inline(always)]
 pub fn number(bytes: &[u8], places: u32) -> Option<(u128, &[u8])>
     requires { places ≤ 16 }
     ensures found { Finds same result (number_at places bytes.now) }
@@ -29,6 +31,7 @@ pub fn number(bytes: &[u8], places: u32) -> Option<(u128, &[u8])>
 }
 
 // The same of any size: its digits are counted, read and compared with the text of the number read.
+#[cold]
 fn any_number(bytes: &[u8], places: u32) -> Option<(u128, &[u8])>
     requires { places ≤ 16 }
     ensures found { Finds same result (number_at places bytes.now) }
@@ -53,6 +56,7 @@ fn number_size(bytes: &[u8]) -> usize
 
 /// A label, and a number in canonical text with so many places.
 #[tactic(auto, unfolding(crate::specs::Words::labelled_at))]
+#[inline(always)]
 pub fn labelled<'a>(bytes: &'a [u8], label: &[u8], places: u32) -> Option<(u128, &'a [u8])>
     requires { places ≤ 16 }
     ensures found { Finds same result (labelled_at label.now places bytes.now) }
@@ -62,8 +66,9 @@ pub fn labelled<'a>(bytes: &'a [u8], label: &[u8], places: u32) -> Option<(u128,
     number(rest, places)
 }
 
-#[tactic(auto, unfolding(crate::specs::Words::bounded_at))]
 /// A label, and a number in canonical text with so many places that is at most `bound`.
+#[tactic(auto, unfolding(crate::specs::Words::bounded_at))]
+#[inline(always)]
 pub fn bounded<'a>(
     bytes: &'a [u8],
     label: &[u8],
