@@ -1,4 +1,5 @@
 pub mod Ids
+mod Named
 pub mod ToldNodes
 pub mod SinkRule
 pub mod SinkPlaces

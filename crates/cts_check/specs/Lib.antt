@@ -1,4 +1,5 @@
 pub mod Told
+pub mod Places
 pub mod Claims
 pub mod Marks
 pub mod Rules

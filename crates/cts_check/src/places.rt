@@ -1,34 +1,56 @@
 //! Sinks by their ids.
 
-ghost use Rattle.std.specs.Prelude.{◌≡◌, ◌^◌, ◌≤◌, List, length, map, IfOk};
+ghost use Rattle.std.specs.Prelude.{◌≡◌, ◌≤◌, List, length, IfOk};
 ghost use Rattle.cts_units.specs.Ids.{HasDistinctIds};
 ghost use Rattle.cts_units.specs.declared.params.Sink.{Sink};
+ghost use Rattle.cts_check.specs.Places.{AreNamed, FindsSinks};
 ghost use Rattle.cts_check.specs.Told.{place_of_id};
 
 use cts_num::NoMemory;
 use cts_units::Sink;
-use indexmap::IndexSet;
 use std::alloc::Global;
 
-/// The ids of sinks, each at the place of its sink in their list.
-pub fn ids_of(alloc: Global, sinks: &[Sink]) -> Result<IndexSet<u32>, NoMemory>
-    requires { HasDistinctIds (λ s. s.id) sinks.now }
-    ensures { IfOk result (λ ids. ids.keys ≡ map (λ s. s.id) sinks.now) }
+/// A sink by its id, with its place in the list of sinks.
+#[derive(Clone, Copy)]
+pub struct NamedSink {
+    pub id: u32,
+    pub place: u32,
+}
+
+/// The ids of sinks in rising order, each with the place of its sink in their list. Whoever writes an
+/// instance picks the ids, and no choice makes a look-up in a sorted list slow.
+pub fn ids_of(alloc: Global, sinks: &[Sink]) -> Result<Vec<NamedSink>, NoMemory>
+    requires ids { HasDistinctIds (λ s. s.id) sinks.now }
+    requires few { length sinks.now ≤ 65536 }
+    ensures { IfOk result (λ ids. FindsSinks sinks.now ids.items) }
 {
-    let mut ids = IndexSet::with_capacity(alloc, sinks.len())?;
-    for sink in sinks {
-        ids.insert(sink.id)?;
+    let mut ids = named_sinks(alloc, sinks)?;
+    ids.sort_unstable_by_key(|named| named.id);
+    Ok(ids)
+}
+
+/// The sinks by their ids, in the order of their list.
+fn named_sinks(alloc: Global, sinks: &[Sink]) -> Result<Vec<NamedSink>, NoMemory>
+    requires { length sinks.now ≤ 65536 }
+    ensures { IfOk result (λ ids. AreNamed sinks.now ids.items) }
+{
+    let mut ids = Vec::with_capacity(alloc, sinks.len())?;
+    for (place, sink) in sinks.iter().enumerate() {
+        ids.push(NamedSink {
+            id: sink.id,
+            place: place as u32,
+        })?;
     }
     Ok(ids)
 }
 
 /// The place of the sink with this id; where no sink has it, the number of sinks.
-pub fn place_of(ids: &IndexSet<u32>, id: u32) -> u32
-    requires { length ids.now.keys ≤ 65536 }
-    ensures { (sinks : List Sink) → ids.now.keys ≡ map (λ s. s.id) sinks → result ≡ place_of_id sinks id }
+pub fn place_of(ids: &[NamedSink], id: u32) -> u32
+    requires { length ids.now ≤ 65536 }
+    ensures { (sinks : List Sink) → FindsSinks sinks ids.now → result ≡ place_of_id sinks id }
 {
-    match ids.get_index_of(&id) {
-        Some(place) => place as u32,
-        None => ids.len() as u32,
+    match ids.binary_search_by_key(&id, |named| named.id) {
+        Ok(at) => ids[at].place,
+        Err(_) => ids.len() as u32,
     }
 }

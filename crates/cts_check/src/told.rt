@@ -7,15 +7,15 @@ ghost use Rattle.cts_report_reader.specs.Nodes.{seen_kind, seen_node, seen_nodes
 ghost use Rattle.cts_report_reader.specs.Seen.{IsSeen, seen_point};
 ghost use Rattle.cts_report_reader.specs.Bounds.{IsPrintedPlace};
 ghost use Rattle.cts_check.specs.Claims.{IsTellable, claim_of as spec_claim_of};
+ghost use Rattle.cts_check.specs.Places.{FindsSinks};
 ghost use Rattle.cts_check.specs.Told.{told_kind as spec_told_kind, told_node as spec_told_node, told_nodes, told_place};
 
-use crate::places::{ids_of, place_of};
+use crate::places::{NamedSink, ids_of, place_of};
 use cts_geom::{Half, Spot, spot_of_half};
 use cts_num::NoMemory;
 use cts_report_reader::{ReportKind, ReportNode};
 use cts_tree::{NodeKind, Route, TreeNode};
 use cts_units::Sink;
-use indexmap::IndexSet;
 use std::alloc::Global;
 
 /// The figures that a report prints of a node.
@@ -47,9 +47,9 @@ fn claim_of(node: &ReportNode) -> Claim
 }
 
 /// What a node of a tree is, with the places of the sinks by their ids.
-fn told_kind(ids: &IndexSet<u32>, kind: ReportKind) -> NodeKind
-    requires { length ids.now.keys ≤ 65536 }
-    ensures { (sinks : List Sink) → ids.now.keys ≡ map (λ s. s.id) sinks
+fn told_kind(ids: &[NamedSink], kind: ReportKind) -> NodeKind
+    requires { length ids.now ≤ 65536 }
+    ensures { (sinks : List Sink) → FindsSinks sinks ids.now
         → result ≡ spec_told_kind sinks (seen_kind kind) }
 {
     match kind {
@@ -83,10 +83,10 @@ fn place_at(point: Half) -> Spot
 }
 
 /// A node of a tree. A report does not print how long its route is.
-fn told_node(ids: &IndexSet<u32>, node: ReportNode) -> TreeNode
-    requires few { length ids.now.keys ≤ 65536 }
+fn told_node(ids: &[NamedSink], node: ReportNode) -> TreeNode
+    requires few { length ids.now ≤ 65536 }
     requires node { IsTellable node }
-    ensures { (sinks : List Sink) → ids.now.keys ≡ map (λ s. s.id) sinks
+    ensures { (sinks : List Sink) → FindsSinks sinks ids.now
         → result ≡ spec_told_node sinks (seen_node node) }
 {
     TreeNode {
@@ -118,7 +118,7 @@ pub fn told_nodes_of(
     let mut claims = Vec::with_capacity(alloc, nodes.len())?;
     for node in nodes {
         claims.push(claim_of(&node))?;
-        tree.push(told_node(&ids, node))?;
+        tree.push(told_node(ids.as_slice(), node))?;
     }
     Ok((tree, claims))
 }

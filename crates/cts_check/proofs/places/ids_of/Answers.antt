@@ -1,15 +1,12 @@
-use Rattle.std.proofs.Common.{[], map, ap, ◌∙◌, arith}
-use Rattle.std.specs.Prelude.{nat_eq}
-use Rattle.std.specs.Cmp.{nat_eq_equiv}
-use Rattle.std.proofs.lemmas.List.{take_all}
-use Rattle.indexmap.specs.IndexSet.{insert_all}
-use Rattle.indexmap.proofs.SetLemmas.{set_all_distinct}
-use Rattle.cts_units.specs.declared.params.Sink.{Sink}
-use Rattle.cts_check.proofs.Ids.{keys_distinct}
+use Rattle.std.proofs.Common.{rules}
+use Rattle.std.proofs.lemmas.List.Sorted.{IsNonDecreasingBy-from_sort_by_key}
+use Rattle.cts_check.specs.declared.places.NamedSink.{NamedSink}
+use Rattle.cts_check.proofs.Named.{named_sorted}
 use Rattle.cts_check.proofs.places.ids_of.Goals as goal
 
 pub returns : goal.returns
-returns c =
-    c.loop-sink.invariant
-    ∙ ap (λ sinks. insert_all nat_eq [] (map (λ (s : Sink). s.id) sinks)) (take_all c.loop-sink.sink-index c.args.sinks.now (omega (arith, c.loop-sink-test.false, c.loop-sink.auto.sink-index-end)))
-    ∙ set_all_distinct nat_eq_equiv [] (map (λ (s : Sink). s.id) c.args.sinks.now) (keys_distinct c.args.sinks.now c.requires)
+returns c = record {
+  distinct = c.requires.ids;
+  named = named_sorted c.args.sinks.now c.in_ok-ids.ids.items _ c.sort_unstable_by_key.ensures.permutation c.in_ok-ids.ensures;
+  rise = IsNonDecreasingBy-from_sort_by_key (λ (n : NamedSink). n.id) _ c.sort_unstable_by_key.ensures.sorted (λ a r q k. search rules);
+}
