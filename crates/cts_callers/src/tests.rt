@@ -2,16 +2,25 @@
 //! (0, 0), a wire of 1 Ω and 1 fF per µm and no buffer. What is expected is worked by hand.
 
 ghost use Rattle.std.specs.Prelude.{◌≤◌, length};
+ghost use Rattle.cts_session.specs.Desks.{AreDivisible, AreHandsOf};
 
+use crate::edit::draw_last;
 use crate::{Reply, Run, run_callers};
 use cts_design::{EditCause, EditReply};
+use cts_elmore::Figures;
 use cts_instance::Instance;
+use cts_plain::NoTree;
 use cts_read::read_instance;
-use cts_script::{Script, read_script};
+use cts_script::{Script, make_instance, read_script};
+use cts_session::laws::desk_is_shared;
+use cts_session::{Desk, Hands, Session};
+use cts_tree::Tree;
 use cts_work::{Gate, OpenGate};
 use std::alloc::Global;
+use std::sync::Wait;
 use std::sync::atomic::{AtomicU64, Ordering};
 use std::test::Fail;
+use std::thread::{Threads, join, yield_now};
 
 /// How often a gate looks before it lets a caller go.
 const LIMIT: u32 = 100_000_000;
@@ -58,9 +67,9 @@ fn told(run: &Run, place: usize) -> Option<EditReply> {
     }
 }
 
-/// The wire of the last tree in nm, and its greatest doubled delay in 10^-27 s.
-fn last_tree(run: &Run) -> (u64, u128) {
-    match &run.synthesis {
+/// The wire of a tree in nm, and its greatest doubled delay in 10^-27 s.
+fn told_of(synthesis: &Result<(Tree, Figures), NoTree>) -> (u64, u128) {
+    match synthesis {
         Ok((_, figures)) => (figures.wire_total, figures.greatest),
         Err(_) => (0, 0),
     }
@@ -89,7 +98,7 @@ fn one_of_two_callers_adds_the_sink_that_both_add(rt: HostRuntime) -> Result<(),
         true
     );
     assert_eq!(rt; (run.history.len(), run.sinks.len()), (1, 2));
-    assert_eq!(rt; last_tree(&run), (15_500, 294_500_000_000_000));
+    assert_eq!(rt; told_of(&run.synthesis), (15_500, 294_500_000_000_000));
     assert_eq!(rt; gate.late.load(Ordering::SeqCst), 0);
     Ok(())
 }
@@ -110,6 +119,106 @@ fn the_last_sink_stays_and_none_leaves_the_die(rt: HostRuntime) -> Result<(), Fa
         })
     );
     assert_eq!(rt; (run.history.len(), run.sinks.len()), (0, 1));
-    assert_eq!(rt; last_tree(&run), (7_000, 119_000_000_000_000));
+    assert_eq!(rt; told_of(&run.synthesis), (7_000, 119_000_000_000_000));
+    Ok(())
+}
+
+/// How often a caller looks for the other one, before it goes on without.
+const TURNS: u32 = 10_000_000;
+
+/// A gate that holds caller 1, as it makes a subtree, until caller 2 has its tree.
+#[derive(Drop)]
+struct HoldFirst {
+    held: AtomicU64,
+    answered: AtomicU64,
+    given_up: AtomicU64,
+}
+
+impl HoldFirst {
+    /// Waits until the word is set, or gives up.
+    fn wait_for(&self, word: &AtomicU64) {
+        for _ in 0..TURNS {
+            if word.load(Ordering::SeqCst) == 1 {
+                return;
+            }
+            yield_now();
+        }
+        self.given_up.store(1, Ordering::SeqCst);
+    }
+}
+
+impl Gate for HoldFirst {
+    fn piece(&self, _number: u32) {}
+
+    fn between(&self, number: u32) {
+        if number == 1 {
+            self.held.store(1, Ordering::SeqCst);
+            self.wait_for(&self.answered);
+        }
+    }
+}
+
+/// Draws a caller's tree. The second caller does so while the first is held, and tells the gate when it is
+/// answered.
+fn draw_held<R: Wait>(
+    rt: &R,
+    alloc: Global,
+    desk: &Desk,
+    hands: Hands,
+    caller: u32,
+    gate: &HoldFirst,
+) -> (u64, Hands)
+    requires { AreHandsOf desk.now hands }
+{
+    let mut session = Session::of(desk, hands, caller);
+    if caller == 2 {
+        gate.wait_for(&gate.held);
+    }
+    let drawn = draw_last(rt, alloc, gate, &mut session);
+    if caller == 2 {
+        gate.answered.store(1, Ordering::SeqCst);
+    }
+    let wire = match &drawn {
+        Ok(synthesis) => told_of(synthesis).0,
+        Err(_) => 0,
+    };
+    (wire, session.hands())
+}
+
+/// The wire of two callers' trees, which they draw beside each other.
+fn draw_beside<R: Threads + Wait + Sync>(
+    rt: &R,
+    alloc: Global,
+    desk: &Desk,
+    hands: Hands,
+    gate: &HoldFirst,
+) -> (u64, u64)
+    requires own { AreHandsOf desk.now hands }
+    requires share { AreDivisible hands }
+{
+    desk_is_shared();
+    let (one, two) = Session::of(desk, hands, 1).split(2);
+    let (first, second) = (one.hands(), two.hands());
+    let ((one, _), (two, _)) = join(
+        rt,
+        || draw_held(rt, alloc, desk, first, 1, gate),
+        || draw_held(rt, alloc, desk, second, 2, gate),
+    );
+    (one, two)
+}
+
+#[test]
+fn no_turn_is_held_while_a_tree_is_made(rt: HostRuntime) -> Result<(), Fail> {
+    let instance = make_instance(rt.alloc(), 14, 64)?;
+    let (desk, hands) = Desk::start(rt.alloc(), instance)?;
+    let gate = HoldFirst {
+        held: AtomicU64::new(0),
+        answered: AtomicU64::new(0),
+        given_up: AtomicU64::new(0),
+    };
+    let (one, two) = draw_beside(&rt, rt.alloc(), &desk, hands, &gate);
+    assert_eq!(rt; one, two);
+    assert_eq!(rt; one > 0, true);
+    assert_eq!(rt; gate.given_up.load(Ordering::SeqCst), 0);
     Ok(())
 }

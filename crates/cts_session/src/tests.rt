@@ -5,7 +5,6 @@ ghost use Rattle.std.specs.Prelude.{◌≡◌, ◌<◌, IfOk};
 ghost use Rattle.cts_design.specs.Edits.{IsEdit};
 ghost use Rattle.cts_session.specs.Desks.{AreDivisible, AreHandsOf};
 
-use crate::laws::desk_is_shared;
 use crate::{Desk, DeskOut, Drawn, Hands, Session, TreeEnd};
 use cts_block::{Block, Kind};
 use cts_design::{Edit, EditCause, EditReply};
@@ -18,10 +17,8 @@ use cts_work::{Gate, OpenGate};
 use std::alloc::Global;
 use std::marker::Brand;
 use std::sync::Wait;
-use std::sync::atomic::{AtomicU64, Ordering};
 use std::sync::ledger::{Blank, Ledger};
 use std::test::Fail;
-use std::thread::{Threads, join, yield_now};
 
 const fn sink(id: u32, x: i64, y: i64, cap: u64) -> Sink {
     Sink { id, x, y, cap }
@@ -229,103 +226,5 @@ fn a_sink_that_was_cut_is_moved(rt: HostRuntime) -> Result<(), Fail> {
         panic!(rt; "no tree")
     };
     assert_eq!(rt; told(&drawn), (1, 2, 24, 24));
-    Ok(())
-}
-
-/// How often a caller looks for the other one, before it goes on without.
-const TURNS: u32 = 10_000_000;
-
-/// A gate that holds caller 1 until caller 2 is answered.
-#[derive(Drop)]
-struct HoldFirst {
-    held: AtomicU64,
-    answered: AtomicU64,
-    given_up: AtomicU64,
-}
-
-impl HoldFirst {
-    /// Waits until the word is set, or gives up.
-    fn wait_for(&self, word: &AtomicU64) {
-        for _ in 0..TURNS {
-            if word.load(Ordering::SeqCst) == 1 {
-                return;
-            }
-            yield_now();
-        }
-        self.given_up.store(1, Ordering::SeqCst);
-    }
-}
-
-impl Gate for HoldFirst {
-    fn piece(&self, _number: u32) {}
-
-    fn between(&self, number: u32) {
-        if number == 1 {
-            self.held.store(1, Ordering::SeqCst);
-            self.wait_for(&self.answered);
-        }
-    }
-}
-
-/// Draws a caller's tree. The second caller does so while the first is held, and tells the gate when it is
-/// answered.
-fn draw_held<R: Wait>(
-    rt: &R,
-    alloc: Global,
-    desk: &Desk,
-    hands: Hands,
-    caller: u32,
-    gate: &HoldFirst,
-) -> (u64, Hands)
-    requires { AreHandsOf desk.now hands }
-{
-    let mut session = Session::of(desk, hands, caller);
-    if caller == 2 {
-        gate.wait_for(&gate.held);
-    }
-    let drawn = draw(rt, alloc, &mut session, gate);
-    if caller == 2 {
-        gate.answered.store(1, Ordering::SeqCst);
-    }
-    let wire = match drawn {
-        Ok(drawn) => drawn.figures.wire_total,
-        Err(_) => 0,
-    };
-    (wire, session.hands())
-}
-
-/// The wire of two callers' trees, which they draw beside each other.
-fn draw_beside<R: Threads + Wait + Sync>(
-    rt: &R,
-    alloc: Global,
-    desk: &Desk,
-    hands: Hands,
-    gate: &HoldFirst,
-) -> (u64, u64)
-    requires own { AreHandsOf desk.now hands }
-    requires share { AreDivisible hands }
-{
-    desk_is_shared();
-    let (one, two) = Session::of(desk, hands, 1).split(2);
-    let (first, second) = (one.hands(), two.hands());
-    let ((one, _), (two, _)) = join(
-        rt,
-        || draw_held(rt, alloc, desk, first, 1, gate),
-        || draw_held(rt, alloc, desk, second, 2, gate),
-    );
-    (one, two)
-}
-
-#[test]
-fn no_turn_is_held_while_a_tree_is_made(rt: HostRuntime) -> Result<(), Fail> {
-    let (desk, hands) = begin(rt.alloc())?;
-    let gate = HoldFirst {
-        held: AtomicU64::new(0),
-        answered: AtomicU64::new(0),
-        given_up: AtomicU64::new(0),
-    };
-    let wires = draw_beside(&rt, rt.alloc(), &desk, hands, &gate);
-    assert_eq!(rt; wires, (16, 16));
-    assert_eq!(rt; gate.given_up.load(Ordering::SeqCst), 0);
     Ok(())
 }
