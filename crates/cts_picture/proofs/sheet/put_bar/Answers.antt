@@ -1,0 +1,9 @@
+use Rattle.cts_io.proofs.Chains.{◌▸◌}
+use Rattle.cts_picture.specs.Sheet.{bar_text}
+use Rattle.cts_picture.proofs.sheet.put_bar.Goals as goal
+
+pub returns : goal.returns
+unfolding bar_text
+returns g c =
+    c.put_whole.ensures ▸ c.put_whole-2.ensures ▸ c.put_whole-3.ensures ▸ c.put_whole-4.ensures
+    ▸ c.put_whole-5.ensures ▸ c.put.ensures

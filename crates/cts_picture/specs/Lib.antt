@@ -1,0 +1,9 @@
+pub mod Frame
+pub mod Sheet
+pub mod Dots
+pub mod Wires
+pub mod Legend
+pub mod Picture
+pub mod Drawable
+pub use Rattle.cts_report.specs.Printed
+pub use Rattle.cts_report.specs.Lines
