@@ -1,3 +1,6 @@
 pub mod Ways
 pub mod Whole
 pub mod Printing
+pub mod Once
+pub mod InFrame
+pub mod Readings

@@ -7,3 +7,4 @@ pub mod Picture
 pub mod Drawable
 pub use Rattle.cts_report.specs.Printed
 pub use Rattle.cts_report.specs.Lines
+pub mod Laws

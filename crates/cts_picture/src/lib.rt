@@ -8,6 +8,7 @@
 #![tactic(auto)]
 
 mod frame;
+pub mod laws;
 mod legend;
 mod marks;
 mod picture;
