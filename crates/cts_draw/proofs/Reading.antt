@@ -1,0 +1,28 @@
+-- Why an input spells no instance and no report.
+use Rattle.std.proofs.Common.{ℕ, ◌≤◌, List, length, refl}
+use Rattle.cts_instance.specs.declared.parts.Parts.{Parts}
+use Rattle.cts_read.specs.declared.stop.ReadStop.{ReadStop}
+use Rattle.cts_read.specs.declared.stop.ReadStop.TheVariants.{Refused, NoMemory}
+use Rattle.cts_read.specs.Grammar.{Refuses}
+use Rattle.cts_read.specs.Whole.{instance_of}
+use Rattle.cts_top.specs.Input.{SpellsFront, front_of, input_limit}
+use Rattle.cts_draw.specs.declared.stop.Stop.{Stop}
+use Rattle.cts_draw.specs.declared.stop.Stop.TheVariants as stop
+use Rattle.cts_draw.specs.Drawing.{Explains, ExplainsReport, stop_of_text}
+
+pub front_refused : (bytes : List ℕ) (end : ReadStop) → length bytes ≤ input_limit → Refuses end (instance_of bytes)
+    → Explains bytes (stop_of_text end)
+unfolding front_of
+front_refused bytes (Refused line cause) h e = (h, rw e refl)
+front_refused bytes NoMemory h e = tt
+
+-- where the instance was read, and what follows it is no report
+pub report_refused : (bytes : List ℕ) (i : Parts) (rest : List ℕ) (end : Stop) → SpellsFront bytes i rest → ExplainsReport i rest end
+    → Explains bytes end
+report_refused bytes i rest (stop.NotText line) front none = (i, rest, front, none)
+report_refused bytes i rest stop.NoMemory front none = tt
+report_refused bytes i rest stop.Words front none = absurd none
+report_refused bytes i rest stop.TooLong front none = absurd none
+report_refused bytes i rest (stop.Refused line cause) front none = absurd none
+report_refused bytes i rest stop.ReadFault front none = absurd none
+report_refused bytes i rest stop.WriteFault front none = absurd none
