@@ -1,9 +1,15 @@
 #!/bin/sh
-# Runs the clock tree synthesiser, and proves and builds it first where its program is missing or older than a source.
-# All words and streams are the program's own; building tells its progress on standard error.
+# Runs the clock tree synthesiser, or under the name cts-draw the program that draws a tree, and proves and builds it first
+# where its program is missing or older than a source. All words and streams are the program's own; building tells its
+# progress on standard error.
 top=$(CDPATH='' cd -- "$(dirname -- "$0")" && pwd) || exit 2
-program=$top/crates/cts_main/out/cts_main
-log=$top/crates/cts_main/out/build.log
+name=${0##*/}
+case $name in
+cts-draw) main=cts_draw_main ;;
+*) main=cts_main ;;
+esac
+program=$top/crates/$main/out/$main
+log=$top/crates/$main/out/build.log
 
 is_current() {
     [ -x "$program" ] && [ -z "$(find "$top/crates.txt" "$top/HANDLES" "$top/crates" \( -name out -o -name must-fail \) -prune -o -type f -newer "$program" -print | head -n 1)" ]
@@ -12,7 +18,7 @@ is_current() {
 # The crates that the program needs, a line for those that are proved beside each other. Each comes after the crates that
 # it stands on, and no two of a line stand on one crate, since rt works in a crate and in those below it alone.
 layers() {
-    awk '
+    awk -v main="$main" '
         { sub(/#.*/, ""); at = index($0, ":"); if (!at) next
           split(substr($0, 1, at - 1), name, " "); below[name[1]] = substr($0, at + 1) }
         function visit(crate,    words, count, i, most) {
@@ -33,7 +39,7 @@ layers() {
             return 0
         }
         END {
-            visit("cts_main")
+            visit(main)
             for (layer = 1; layer <= highest; layer++) {
                 lines = 0
                 for (i = 1; i <= last; i++) if (height[order[i]] == layer) {
@@ -57,14 +63,14 @@ jobs() {
     echo "$count"
 }
 
-# Becomes the proof of one crate, or a run of the program itself on the example.
+# Becomes the proof of one crate, or a run of a program itself on the example.
 prove() {
     cd "$top/crates/$1" || exit 1
-    if [ "$1" = cts_main ]; then
-        exec rt run --jobs "$2" -- synth 1 <"$top/examples/one-sink.cts" 2>&1 >/dev/null
-    else
-        exec rt lib --jobs "$2" 2>&1
-    fi
+    case $1 in
+    cts_main) exec rt run --jobs "$2" -- synth 1 <"$top/examples/one-sink.cts" 2>&1 >/dev/null ;;
+    cts_draw_main) exec rt run --jobs "$2" <"$top/crates/$1/stdin" 2>&1 >/dev/null ;;
+    *) exec rt lib --jobs "$2" 2>&1 ;;
+    esac
 }
 
 # Proves the crates of one layer beside each other, and tells how each ended.
@@ -79,7 +85,7 @@ prove_layer() {
         status=$?
         done=$((done + 1))
         if [ "$status" -eq 0 ]; then
-            echo "cts: $done of $count: $1 is proved" >&2
+            echo "$name: $done of $count: $1 is proved" >&2
         else
             failed="$failed $1"
         fi
@@ -88,15 +94,15 @@ prove_layer() {
         shift
     done
     [ -z "$failed" ] && return 0
-    echo "cts: not proved or built:$failed; what the prover said is in $log" >&2
+    echo "$name: not proved or built:$failed; what the prover said is in $log" >&2
     return 1
 }
 
 build() {
-    command -v rt >/dev/null || { echo "cts: the Rattle toolchain's command rt is needed to build the program" >&2; return 1; }
+    command -v rt >/dev/null || { echo "$name: the Rattle toolchain's command rt is needed to build the program" >&2; return 1; }
     mkdir -p "${log%/*}" && : >"$log" && layers >"$log.layers" || return 1
     trap 'kill $started 2>/dev/null; exit 130' HUP INT TERM
-    echo "cts: proving and building the program, once; this takes some minutes" >&2
+    echo "$name: proving and building the program, once; this takes some minutes" >&2
     all=$(jobs) done=0 count=$(wc -w <"$log.layers")
     while read -r layer; do
         # (a line is a list of words)
