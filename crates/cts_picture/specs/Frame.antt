@@ -13,7 +13,7 @@ longer_side die = max (drawn die.x2 - drawn die.x1) (drawn die.y2 - drawn die.y1
 
 -- how many of the thinnest wires side by side are as wide as the longer side is long, where so many sinks are drawn
 abbrev pub wires_across : ℕ → ℕ
-wires_across sinks = if nat_le sinks 64 then 800 else (if nat_le sinks 2048 then 1200 else 3000)
+wires_across sinks = if nat_le sinks 64 then 600 else (if nat_le sinks 2048 then 1200 else 3000)
 
 -- a bar that is ten times as long, where the longer side is twice that at least
 abbrev pub longer : ℕ → ℕ → ℕ

@@ -40,7 +40,7 @@ fn wires_across(sinks: usize) -> u64
     ensures { result ≡ wires_across sinks }
 {
     if sinks <= 64 {
-        800
+        600
     } else if sinks <= 2_048 {
         1_200
     } else {
