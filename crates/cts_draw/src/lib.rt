@@ -12,3 +12,6 @@ mod notes;
 mod stop;
 
 pub use drawing::draw;
+
+#[cfg(test)]
+mod tests;
