@@ -1,15 +1,17 @@
 -- Wires lead to nodes, and lie inside the frame.
-use Rattle.std.proofs.Common.{◌≡◌, ℕ, ◌-◌, ◌<◌, ◌≤◌, List, [], ◌∷◌, ◌++◌, length, get_or, slice_get, ◌⊎◌, inl, inr, Some, None, All, sym, subst, arith}
+use Rattle.std.proofs.Common.{◌≡◌, ℕ, ℤ, ◌-◌, ◌<◌, ◌≤◌, List, [], ◌∷◌, ◌++◌, length, get_or, slice_get, ◌⊎◌, inl, inr, Some, None, All, sym, subst, arith}
 use Rattle.std.specs.List.{flat_map}
 use Rattle.std.specs.Option.{option_map_or}
 use Rattle.std.proofs.lemmas.Int.{ints}
 use Rattle.std.proofs.lemmas.List.Elements.{All-append, All-cons, All-nil, All-head, All-tail}
 use Rattle.std.proofs.lemmas.Option.{get_or_from_slice_get, slice_get_cases, slice_get_within}
 use Rattle.cts_instance.specs.declared.parts.Parts.{Parts}
+use Rattle.cts_instance.specs.Places.{IsInDie}
 use Rattle.cts_instance.specs.Validity.{IsValid}
 use Rattle.cts_report.specs.Printed.{PrintedPoint, PrintedKind, sink_leaf, pair_node, PrintedNode}
 use Rattle.cts_picture.specs.declared.frame.Frame.{Frame}
-use Rattle.cts_picture.specs.Laws.{IsInFrame, IsOnDie, LiesOnDie, WiresLeadToNodes, WiresLieInFrame}
+use Rattle.cts_picture.specs.Dots.{drawn_point}
+use Rattle.cts_picture.specs.Laws.{InstancesLieInFrame, IsInFrame, IsOnDie, LiesOnDie, WiresLeadToNodes, WiresLieInFrame}
 use Rattle.cts_picture.specs.Picture.{frame_for, source_point}
 use Rattle.cts_picture.specs.Wires.{DrawnWire, wire_points, wire_to, wires_below, wires_from, wires_of}
 
@@ -64,13 +66,29 @@ in_frame frame p on = record {
   bottom = omega (arith, on.south, on.north);
 }
 
--- the source of a valid instance is one
+-- a place in the die of a valid instance is one
+place_on_die : (parts : Parts) → IsValid parts → (x y : ℤ) → IsInDie parts.die x y → IsOnDie (frame_for parts) (drawn_point x y)
+place_on_die parts valid x y on = record {
+  west = grind (arith, ints, on.west, valid.die.x_low);
+  east = grind (arith, ints, on.east, on.west, valid.die.x_low);
+  south = grind (arith, ints, on.south, valid.die.y_low);
+  north = grind (arith, ints, on.north, on.south, valid.die.y_low);
+}
+
+-- and so is the source
 source_on_die : (parts : Parts) → IsValid parts → IsOnDie (frame_for parts) (source_point parts)
-source_on_die parts valid = record {
-  west = grind (arith, ints, valid.source.west, valid.die.x_low);
-  east = grind (arith, ints, valid.source.east, valid.source.west, valid.die.x_low);
-  south = grind (arith, ints, valid.source.south, valid.die.y_low);
-  north = grind (arith, ints, valid.source.north, valid.source.south, valid.die.y_low);
+source_on_die parts valid = place_on_die parts valid parts.source_x parts.source_y valid.source
+
+pub instances_lie_in_frame : InstancesLieInFrame
+instances_lie_in_frame parts valid = record {
+  sinks = λ k d h. in_frame (frame_for parts) _ (place_on_die parts valid _ _ (valid.sinks k d h).in_die);
+  blocks = λ k d h.
+      let block = valid.blocks k d h in
+      record {
+        from = in_frame (frame_for parts) _ (place_on_die parts valid _ _ block.from);
+        to = in_frame (frame_for parts) _ (place_on_die parts valid _ _ block.to);
+      };
+  source = in_frame (frame_for parts) (source_point parts) (source_on_die parts valid);
 }
 
 pub wires_lie_in_frame : WiresLieInFrame

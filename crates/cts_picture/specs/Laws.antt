@@ -1,6 +1,8 @@
 -- What holds of every picture.
 use Rattle.std.specs.Prelude.{◌≡◌, ℕ, ◌+◌, ◌<◌, ◌≤◌, nat_eq, List, length, map, slice_get, count_by, All, Some}
 use Rattle.cts_postorder.specs.PostOrder.{IsPostOrder}
+use Rattle.cts_units.specs.declared.params.Sink.{Sink}
+use Rattle.cts_block.specs.declared.blocks.Block.{Block}
 use Rattle.cts_instance.specs.declared.parts.Parts.{Parts}
 use Rattle.cts_instance.specs.Validity.{IsValid}
 use Rattle.cts_report.specs.Printed.{PrintedPoint, PrintedNode}
@@ -9,6 +11,7 @@ use Rattle.cts_report_reader.specs.declared.report.Reading.TheVariants.{Text}
 use Rattle.cts_report_reader.specs.Bounds.{printed_children}
 use Rattle.cts_report_reader.specs.Reports.{IsReading, IsSeenReading}
 use Rattle.cts_picture.specs.declared.frame.Frame.{Frame}
+use Rattle.cts_picture.specs.Dots.{drawn_point}
 use Rattle.cts_picture.specs.Drawable.{IsDrawable}
 use Rattle.cts_picture.specs.Frame.{margin, width, height}
 use Rattle.cts_picture.specs.Picture.{frame_for, source_point}
@@ -58,3 +61,17 @@ abbrev pub WiresLieInFrame : Type 0
 WiresLieInFrame =
     (parts : Parts) (nodes : List PrintedNode) → IsValid parts → All (LiesOnDie (frame_for parts)) nodes
     → All (λ (wire : DrawnWire). All (IsInFrame (frame_for parts)) (wire_points wire)) (wires_of (source_point parts) nodes)
+
+-- a rectangle is drawn inside the frame where two of its corners across are
+pub record IsBlockInFrame (frame : Frame) (block : Block) : Type 0 where
+  pub from : IsInFrame frame (drawn_point block.x1 block.y1)
+  pub to : IsInFrame frame (drawn_point block.x2 block.y2)
+
+-- the sinks, the blocks and the source of a valid instance are drawn inside the frame
+pub record LiesInFrame (parts : Parts) : Type 0 where
+  pub sinks : All (λ (sink : Sink). IsInFrame (frame_for parts) (drawn_point sink.x sink.y)) parts.sinks
+  pub blocks : All (IsBlockInFrame (frame_for parts)) parts.blocks
+  pub source : IsInFrame (frame_for parts) (source_point parts)
+
+abbrev pub InstancesLieInFrame : Type 0
+InstancesLieInFrame = (parts : Parts) → IsValid parts → LiesInFrame parts

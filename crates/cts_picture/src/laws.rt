@@ -1,6 +1,6 @@
 //! What holds of every picture, as laws: each is the contract of a function that does nothing.
 
-ghost use Rattle.cts_picture.specs.Laws.{EachNodeHasOneWire, ReadingsCanBeDrawn, WiresLeadToNodes, WiresLieInFrame};
+ghost use Rattle.cts_picture.specs.Laws.{EachNodeHasOneWire, InstancesLieInFrame, ReadingsCanBeDrawn, WiresLeadToNodes, WiresLieInFrame};
 
 /// A report that was read can be drawn.
 pub fn readings_can_be_drawn()
@@ -20,4 +20,9 @@ pub fn wires_lead_to_nodes()
 /// Where a tree lies in the die, all points of its wires are drawn inside the picture's frame.
 pub fn wires_lie_in_frame()
     ensures { WiresLieInFrame }
+{}
+
+/// The sinks, the blocks and the source of a valid instance are drawn inside the picture's frame.
+pub fn instances_lie_in_frame()
+    ensures { InstancesLieInFrame }
 {}
