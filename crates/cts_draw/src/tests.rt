@@ -32,7 +32,7 @@ fn a_picture_is_written_whole_or_in_part(rt: HostRuntime) -> Result<(), Fail> {
     let status = draw(alloc, false, &mut input, &mut whole, &mut notes);
     assert_eq!(rt; status, Status::Done);
     assert_eq!(rt; notes.bytes().len(), 0);
-    assert_eq!(rt; whole.bytes().len(), 2_572);
+    assert_eq!(rt; whole.bytes().len(), 2_671);
     let mut input = source(alloc, INSTANCE, REPORT)?;
     let status = draw(alloc, false, &mut input, &mut part, &mut notes);
     assert_eq!(rt; status, Status::WriteFault);

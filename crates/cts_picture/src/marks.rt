@@ -12,7 +12,7 @@ ghost use Rattle.cts_picture.specs.Sheet.{block_text, buffer_text, buffers_text,
 use crate::frame::drawn;
 use crate::sheet::put_outline;
 use crate::wire::{Dot, put_point};
-use crate::words::put_whole;
+use crate::words::put_coordinate;
 use cts_block::{Block, Kind};
 use cts_geom::Half;
 use cts_io::{ByteSink, SinkBuffer};
@@ -55,8 +55,8 @@ fn put_sink<K: ByteSink>(out: &mut SinkBuffer, sink: &mut K, pin: Sink)
     requires { IsPlace pin.x pin.y }
     ensures { Puts K.held K.faults sink.old out.old sink.new out.new (sink_text pin) }
 {
-    put_whole(out, sink, b"M ", drawn(pin.x));
-    put_whole(out, sink, b" ", drawn(pin.y));
+    put_coordinate(out, sink, b"M ", drawn(pin.x));
+    put_coordinate(out, sink, b" ", drawn(pin.y));
     out.put(sink, b"h0");
 }
 
@@ -76,7 +76,7 @@ pub fn put_sinks<K: ByteSink>(out: &mut SinkBuffer, sink: &mut K, stroke: u64, s
     requires sinks { All (λ pin. IsPlace pin.x pin.y) sinks.now }
     ensures { Puts K.held K.faults sink.old out.old sink.new out.new (sinks_text stroke sinks.now) }
 {
-    put_whole(out, sink, b"<path class='s' stroke-width='", 3 * stroke);
+    put_coordinate(out, sink, b"<path class='s' stroke-width='", 3 * stroke);
     out.put(sink, b"' d='");
     put_dots(out, sink, sinks);
     out.put(sink, b"'/>\n");
@@ -91,8 +91,8 @@ fn put_square<K: ByteSink>(out: &mut SinkBuffer, sink: &mut K, stroke: u64, plac
 {
     out.put(sink, b"M");
     put_point(out, sink, place);
-    put_whole(out, sink, b"m-", 2 * stroke);
-    put_whole(out, sink, b" 0h", 4 * stroke);
+    put_coordinate(out, sink, b"m-", 2 * stroke);
+    put_coordinate(out, sink, b" 0h", 4 * stroke);
 }
 
 /// A square around the place of a node that has a buffer.
@@ -139,7 +139,7 @@ pub fn put_buffers<K: ByteSink>(
     requires nodes { All IsDrawableNode nodes.now }
     ensures { Puts K.held K.faults sink.old out.old sink.new out.new (buffers_text stroke (map seen_node nodes.now)) }
 {
-    put_whole(out, sink, b"<path class='b' stroke-width='", 4 * stroke);
+    put_coordinate(out, sink, b"<path class='b' stroke-width='", 4 * stroke);
     out.put(sink, b"' d='");
     put_squares(out, sink, stroke, nodes);
     out.put(sink, b"'/>\n");
@@ -150,10 +150,10 @@ pub fn put_source<K: ByteSink>(out: &mut SinkBuffer, sink: &mut K, line: u64, so
     requires { line ≤ 10 ^ 8 }
     ensures { Puts K.held K.faults sink.old out.old sink.new out.new (source_text line (seen_dot source)) }
 {
-    put_whole(out, sink, b"<circle cx='", source.x);
-    put_whole(out, sink, b"' cy='", source.y);
-    put_whole(out, sink, b"' r='", 5 * line);
-    put_whole(
+    put_coordinate(out, sink, b"<circle cx='", source.x);
+    put_coordinate(out, sink, b"' cy='", source.y);
+    put_coordinate(out, sink, b"' r='", 5 * line);
+    put_coordinate(
         out,
         sink,
         b"' fill='#fff' stroke='#000' stroke-width='",

@@ -9,7 +9,7 @@ ghost use Rattle.cts_picture.specs.Frame.{IsFrame, drawn};
 ghost use Rattle.cts_picture.specs.Sheet.{bar_text, block_text, die_text, fill_words, frame_text, hatch_text, page_text, rectangle, style_text};
 
 use crate::frame::{Frame, drawn};
-use crate::words::put_whole;
+use crate::words::{put_coordinate, put_whole};
 use cts_block::Block;
 use cts_io::{ByteSink, SinkBuffer};
 
@@ -24,11 +24,11 @@ fn put_style<K: ByteSink>(out: &mut SinkBuffer, sink: &mut K, stroke: u64)
 {
     out.put(sink, b"<style>");
     out.put(sink, COLOURS);
-    put_whole(out, sink, b".d0,.d1{stroke-width:", 4 * stroke);
-    put_whole(out, sink, b"}.d2,.d3{stroke-width:", 3 * stroke);
-    put_whole(out, sink, b"}.d4,.d5{stroke-width:", 2 * stroke);
-    put_whole(out, sink, b"}.l{stroke-dasharray:", 4 * stroke);
-    put_whole(out, sink, b",", 2 * stroke);
+    put_coordinate(out, sink, b".d0,.d1{stroke-width:", 4 * stroke);
+    put_coordinate(out, sink, b"}.d2,.d3{stroke-width:", 3 * stroke);
+    put_coordinate(out, sink, b"}.d4,.d5{stroke-width:", 2 * stroke);
+    put_coordinate(out, sink, b"}.l{stroke-dasharray:", 4 * stroke);
+    put_coordinate(out, sink, b",", 2 * stroke);
     out.put(sink, b"}</style>\n");
 }
 
@@ -58,13 +58,13 @@ fn put_hatch<K: ByteSink>(out: &mut SinkBuffer, sink: &mut K, line: u64)
     requires { line ≤ 10 ^ 8 }
     ensures { Puts K.held K.faults sink.old out.old sink.new out.new (hatch_text line) }
 {
-    put_whole(
+    put_coordinate(
         out,
         sink,
         b"<pattern id='h' patternUnits='userSpaceOnUse' patternTransform='rotate(45)' viewBox='0 0 5 5' width='",
         5 * line,
     );
-    put_whole(out, sink, b"' height='", 5 * line);
+    put_coordinate(out, sink, b"' height='", 5 * line);
     out.put(
         sink,
         b"'><rect width='5' height='5' fill='#f2f2f2'/><rect width='1' height='5' fill='#999'/></pattern>\n",
@@ -82,16 +82,16 @@ pub fn put_frame<K: ByteSink>(out: &mut SinkBuffer, sink: &mut K, frame: &Frame)
         b"<svg width='1000' height='",
         frame.height_on_page(),
     );
-    put_whole(out, sink, b"' viewBox='0 0 ", frame.width());
-    put_whole(out, sink, b" ", frame.height());
+    put_coordinate(out, sink, b"' viewBox='0 0 ", frame.width());
+    put_coordinate(out, sink, b" ", frame.height());
     out.put(sink, b"'>\n");
     put_hatch(out, sink, frame.line);
     let margin = frame.margin();
-    put_whole(out, sink, b"<g transform='translate(", margin);
-    put_whole(out, sink, b" ", margin);
-    put_whole(out, sink, b") scale(1 -1) translate(-", frame.x1);
-    put_whole(out, sink, b" -", frame.y2);
-    put_whole(out, sink, b")' stroke-width='", frame.stroke);
+    put_coordinate(out, sink, b"<g transform='translate(", margin);
+    put_coordinate(out, sink, b" ", margin);
+    put_coordinate(out, sink, b") scale(1 -1) translate(-", frame.x1);
+    put_coordinate(out, sink, b" -", frame.y2);
+    put_coordinate(out, sink, b")' stroke-width='", frame.stroke);
     out.put(sink, b"'>\n");
 }
 
@@ -107,10 +107,10 @@ fn put_rectangle<K: ByteSink>(
 )
     ensures { Puts K.held K.faults sink.old out.old sink.new out.new (rectangle x y width height) }
 {
-    put_whole(out, sink, b"<rect x='", x);
-    put_whole(out, sink, b"' y='", y);
-    put_whole(out, sink, b"' width='", width);
-    put_whole(out, sink, b"' height='", height);
+    put_coordinate(out, sink, b"<rect x='", x);
+    put_coordinate(out, sink, b"' y='", y);
+    put_coordinate(out, sink, b"' width='", width);
+    put_coordinate(out, sink, b"' height='", height);
 }
 
 /// The outline of the die.
@@ -122,7 +122,7 @@ pub fn put_die<K: ByteSink>(out: &mut SinkBuffer, sink: &mut K, frame: &Frame)
     let width = frame.x2 - frame.x1;
     let height = frame.y2 - frame.y1;
     put_rectangle(out, sink, frame.x1, frame.y1, width, height);
-    put_whole(
+    put_coordinate(
         out,
         sink,
         b"' fill='none' stroke='#000' stroke-width='",
@@ -149,10 +149,10 @@ pub fn put_bar<K: ByteSink>(out: &mut SinkBuffer, sink: &mut K, frame: &Frame)
     requires { IsFrame frame.now }
     ensures { Puts K.held K.faults sink.old out.old sink.new out.new (bar_text frame.now) }
 {
-    put_whole(out, sink, b"<path d='M ", frame.x1);
-    put_whole(out, sink, b" ", frame.y1);
-    put_whole(out, sink, b"h", frame.bar);
-    put_whole(out, sink, b"' transform='translate(0 -", 12 * frame.line);
-    put_whole(out, sink, b")' stroke-width='", 2 * frame.line);
+    put_coordinate(out, sink, b"<path d='M ", frame.x1);
+    put_coordinate(out, sink, b" ", frame.y1);
+    put_coordinate(out, sink, b"h", frame.bar);
+    put_coordinate(out, sink, b"' transform='translate(0 -", 12 * frame.line);
+    put_coordinate(out, sink, b")' stroke-width='", 2 * frame.line);
     out.put(sink, b"'/>\n");
 }

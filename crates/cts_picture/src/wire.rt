@@ -61,8 +61,8 @@ pub fn place_dot(x: i64, y: i64) -> Dot
 pub fn put_dot<K: ByteSink>(out: &mut SinkBuffer, sink: &mut K, dot: Dot)
     ensures { Puts K.held K.faults sink.old out.old sink.new out.new (point_words (seen_dot dot)) }
 {
-    put_whole(out, sink, b" ", dot.x);
-    put_whole(out, sink, b" ", dot.y);
+    put_coordinate(out, sink, b" ", dot.x);
+    put_coordinate(out, sink, b" ", dot.y);
 }
 
 /// A point of a report, its x before its y.

@@ -5,4 +5,4 @@ use Rattle.cts_picture.proofs.marks.put_square.Goals as goal
 pub returns : goal.returns
 unfolding square_text
 returns g c =
-    c.put.ensures ▸ c.put_point.ensures ▸ c.put_whole.ensures ▸ c.put_whole-2.ensures
+    c.put.ensures ▸ c.put_point.ensures ▸ c.put_coordinate.ensures ▸ c.put_coordinate-2.ensures

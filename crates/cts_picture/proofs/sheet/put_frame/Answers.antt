@@ -12,6 +12,6 @@ returns g c =
       sym c.height.ensures,
       sym c.margin-margin.ensures,
     )
-    (c.put_whole.ensures ▸ c.put_whole-2.ensures ▸ c.put_whole-3.ensures ▸ c.put.ensures ▸ c.put_hatch.ensures
-    ▸ c.put_whole-4.ensures ▸ c.put_whole-5.ensures ▸ c.put_whole-6.ensures ▸ c.put_whole-7.ensures
-    ▸ c.put_whole-8.ensures ▸ c.put-2.ensures)
+    (c.put_whole.ensures ▸ c.put_coordinate.ensures ▸ c.put_coordinate-2.ensures ▸ c.put.ensures ▸ c.put_hatch.ensures
+    ▸ c.put_coordinate-3.ensures ▸ c.put_coordinate-4.ensures ▸ c.put_coordinate-5.ensures ▸ c.put_coordinate-6.ensures
+    ▸ c.put_coordinate-7.ensures ▸ c.put-2.ensures)

@@ -5,4 +5,4 @@ use Rattle.cts_picture.proofs.sheet.put_hatch.Goals as goal
 pub returns : goal.returns
 unfolding hatch_text
 returns g c =
-    c.put_whole.ensures ▸ c.put_whole-2.ensures ▸ c.put.ensures
+    c.put_coordinate.ensures ▸ c.put_coordinate-2.ensures ▸ c.put.ensures

@@ -5,5 +5,5 @@ use Rattle.cts_picture.proofs.sheet.put_style.Goals as goal
 pub returns : goal.returns
 unfolding style_text
 returns g c =
-    c.put.ensures ▸ c.put-2.ensures ▸ c.put_whole.ensures ▸ c.put_whole-2.ensures ▸ c.put_whole-3.ensures
-    ▸ c.put_whole-4.ensures ▸ c.put_whole-5.ensures ▸ c.put-3.ensures
+    c.put.ensures ▸ c.put-2.ensures ▸ c.put_coordinate.ensures ▸ c.put_coordinate-2.ensures ▸ c.put_coordinate-3.ensures
+    ▸ c.put_coordinate-4.ensures ▸ c.put_coordinate-5.ensures ▸ c.put-3.ensures
