@@ -13,11 +13,11 @@ use Rattle.cts_num.proofs.Fronts.{AllDigitsIn, AllZerosIn, HasPoint, passes_digi
 use Rattle.cts_num.proofs.Steps.{bad_before_point, bad_after_point, good_around_point, whole_value, point_value}
 
 -- how far a test passes from j on
-record Passing (p : ℕ → Bool) (text : List ℕ) (j n : ℕ) : Type 0 where
-  passes : (k : ℕ) → j ≤ k → k < j + n → p (get_or text k 0) ≡ true
-  stops : j + n < length text → p (get_or text (j + n) 0) ≡ false
+pub record Passing (p : ℕ → Bool) (text : List ℕ) (j n : ℕ) : Type 0 where
+  pub passes : (k : ℕ) → j ≤ k → k < j + n → p (get_or text k 0) ≡ true
+  pub stops : j + n < length text → p (get_or text (j + n) 0) ≡ false
 
-passing_from : (p : ℕ → Bool) (text : List ℕ) (j : ℕ) → Passing p text j (prefix_len p (drop j text))
+pub passing_from : (p : ℕ → Bool) (text : List ℕ) (j : ℕ) → Passing p text j (prefix_len p (drop j text))
 passing_from p text j =
     let n = prefix_len p (drop j text) in
     record {

@@ -1,7 +1,9 @@
 pub mod CanonicalTexts
 pub mod Computed
 pub mod Floors
+pub mod FrontNumbers
 pub mod Fronts
+pub mod Lengths
 pub mod Readings
 pub mod Spelling
 pub mod Steps

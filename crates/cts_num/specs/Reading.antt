@@ -1,7 +1,7 @@
 -- What a text says as a decimal number, or the first fault in it. An own format of this project: a
 -- decimal text has digits, at most one point and at least one digit; there is no sign and no
 -- exponent. Its value counts units of 10^-places.
-use Rattle.std.specs.Prelude.{◌≡◌, ◌≢◌, ◌⊎◌, ℕ, ◌+◌, ◌*◌, ◌/◌, ◌^◌, ◌<◌, ◌≤◌, Bool, true, false, List, [], ◌∷◌, drop, if◌then◌else◌, nat_lt, length, slice_index, codes, ◌==◌, Result, Ok, Err, EachIndex, SomeIndex}
+use Rattle.std.specs.Prelude.{◌≡◌, ◌≢◌, ◌⊎◌, ℕ, ◌+◌, ◌*◌, ◌/◌, ◌^◌, ◌<◌, ◌≤◌, min, ◌&&◌, Bool, true, false, List, [], ◌∷◌, drop, if◌then◌else◌, nat_lt, length, slice_index, codes, ◌==◌, Result, Ok, Err, EachIndex, SomeIndex}
 use Rattle.std.specs.Char.{IsAsciiDigit, is_ascii_digit}
 use Rattle.std.specs.List.{position_or_len, after_first, prefix_len}
 use Rattle.cts_num.specs.Number.{digit_number}
@@ -90,6 +90,15 @@ reading_of text places =
     else below_limit (digit_number text * 10 ^ places / 10 ^ fraction_length text)
     )
     )
+
+-- how many bytes the number in front of a text takes: its digits, and where a point follows them the point and the digits
+-- after it, at most as many as there are places
+unfoldable pub front_size : ℕ → List ℕ → ℕ
+front_size places text =
+    let whole = prefix_len is_ascii_digit text in
+    if nat_lt 0 whole && is_point (slice_index text whole)
+    then whole + 1 + min places (prefix_len is_ascii_digit (drop (whole + 1) text))
+    else whole
 
 -- a fault from `from` on: the first byte that is no digit, or where there is none the first digit
 -- that is not 0

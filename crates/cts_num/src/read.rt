@@ -3,7 +3,7 @@
 ghost use Rattle.std.specs.Prelude.{◌≡◌, ◌≢◌, ◌↔◌, ℕ, ◌+◌, ◌-◌, ◌*◌, ◌^◌, ◌<◌, ◌≤◌, min, length, take, slice_index, OnOk, IfErr, MatchResult};
 ghost use Rattle.std.specs.Char.{IsAsciiDigit};
 ghost use Rattle.cts_num.specs.Number.{digit_number};
-ghost use Rattle.cts_num.specs.Reading.{IsDecimal, IsEmptyDecimal, IsFirstBadByte, IsFirstTooFine, IsReading, IsTailFault, reading_of};
+ghost use Rattle.cts_num.specs.Reading.{IsDecimal, IsEmptyDecimal, IsFirstBadByte, IsFirstTooFine, IsReading, IsTailFault, front_size, reading_of};
 
 use crate::powers::POWERS_OF_TEN;
 use thiserror::Error;
@@ -49,6 +49,29 @@ pub fn read_decimal(text: &[u8], places: u32) -> Result<u64, DecimalFault>
         ↔ ((value : ℕ) × IsDecimal text.now places value × (10 ^ 18 ≤ value)) }
 {
     read_any(text, places as usize)
+}
+
+/// The number in front of a text in units of 10^-`places`, as [`read_decimal`] reads it, and how many
+/// bytes it takes: the digits in front, and where a point follows them the point and the digits after
+/// it, at most as many as there are places. A text without a digit in front has an empty number.
+#[inline]
+pub fn read_front(text: &[u8], places: u32) -> (Result<u64, DecimalFault>, usize)
+    requires { places ≤ 16 }
+    ensures size { result.1 ≡ front_size places text.now }
+    ensures within { result.1 ≤ length text.now }
+    ensures reading { result.0 ≡ reading_of (take result.1 text.now) places }
+{
+    let places = places as usize;
+    let (whole, point) = read_digits(text, 0, text.len(), 0);
+    if point == 0 {
+        return (Err(DecimalFault::Empty), 0);
+    }
+    if point == text.len() || text[point] != b'.' {
+        return (scaled(whole, places), point);
+    }
+    let end = text.len().min(point + 1 + places);
+    let (number, kept) = read_digits(text, point + 1, end, whole);
+    (scaled(number, places - (kept - point - 1)), kept)
 }
 
 fn read_any(text: &[u8], places: usize) -> Result<u64, DecimalFault>

@@ -3,6 +3,7 @@
 ghost use Rattle.std.specs.Prelude.{◌≡◌, ℕ, ◌+◌, ◌-◌, ◌/◌, ◌%◌, ◌^◌, ◌<◌, ◌≤◌, List, ◌++◌, length, drop};
 ghost use Rattle.cts_num.specs.Decimal.{decimal_text, fraction_text, padded_text, pair_text, whole_text};
 
+use crate::powers::POWERS_OF_TEN;
 use std::marker::Model;
 
 // The longest text has 38 digits and a point.
@@ -61,16 +62,85 @@ pub fn decimal(value: u128, places: u32) -> Digits
         buffer: [0; CAPACITY],
         start: CAPACITY,
     };
-    digits.start = write_decimal(value, places as usize, &mut digits.buffer);
+    digits.start = write_ending(value, places as usize, &mut digits.buffer);
     digits
 }
 
-// Writes the text so that it ends with the buffer, and returns where it starts.
-fn write_decimal(value: u128, places: usize, buffer: &mut [u8]) -> usize
+/// How many bytes the canonical decimal text of `value` takes.
+#[inline(always)]
+pub fn decimal_len(value: u128, places: u32) -> usize
     requires value { value < 10 ^ 38 }
     requires places { places ≤ 16 }
-    requires buffer { length buffer.old ≡ CAPACITY }
-    ensures start { result ≤ CAPACITY }
+    ensures length { result ≡ length (decimal_text places value) }
+    ensures short { result ≤ 39 }
+{
+    let places = places as usize;
+    if value <= u128::from(u64::MAX) {
+        return word_len(value as u64 / POWERS_OF_TEN[places]) + fraction_len(places);
+    }
+    let (high, _) = split(value);
+    whole_len(high) + (CHUNK - places) + fraction_len(places)
+}
+
+// How many bytes the point and the fraction take.
+#[inline(always)]
+fn fraction_len(places: usize) -> usize
+    requires { places ≤ 16 }
+    ensures { (number : ℕ) → result ≡ length (fraction_text places number) }
+{
+    match places {
+        0 => 0,
+        _ => places + 1,
+    }
+}
+
+/// Writes the canonical decimal text of `value` over the bytes of `text`, which are as many as it takes.
+#[inline(always)]
+pub fn write_decimal(value: u128, places: u32, text: &mut [u8])
+    requires value { value < 10 ^ 38 }
+    requires places { places ≤ 16 }
+    requires long { length text.old ≡ length (decimal_text places value) }
+    ensures { text.new ≡ decimal_text places value }
+{
+    write_ending(value, places as usize, text);
+}
+
+// How many digits a number of one word has.
+#[inline(always)]
+fn word_len(number: u64) -> usize
+    ensures { result ≡ length (whole_text number) }
+{
+    let mut rest = number;
+    let mut more = 0;
+    while rest >= 100 {
+        rest /= 100;
+        more += 2;
+    }
+    if rest < 10 { more + 1 } else { more + 2 }
+}
+
+// How many digits a number has.
+#[inline(always)]
+fn whole_len(number: u128) -> usize
+    requires { number < 10 ^ 38 }
+    ensures { result ≡ length (whole_text number) }
+{
+    let mut rest = number;
+    let mut more = 0;
+    while rest > u128::from(u64::MAX) {
+        rest = split(rest).0;
+        more += CHUNK;
+    }
+    more + word_len(rest as u64)
+}
+
+// Writes the text so that it ends with the buffer, and returns where it starts.
+#[inline(always)]
+fn write_ending(value: u128, places: usize, buffer: &mut [u8]) -> usize
+    requires value { value < 10 ^ 38 }
+    requires places { places ≤ 16 }
+    requires room { length (decimal_text places value) ≤ length buffer.old }
+    ensures start { result + length (decimal_text places value) ≡ length buffer.old }
     ensures written { drop result buffer.new ≡ decimal_text places value }
 {
     if value <= u128::from(u64::MAX) {
@@ -86,6 +156,7 @@ fn write_decimal(value: u128, places: usize, buffer: &mut [u8]) -> usize
 
 // The chunks of a value, and what is left below one. A small high word is turned into chunks and a
 // rest without the slow division of two words.
+#[inline(always)]
 fn split(value: u128) -> (u128, u64)
     ensures chunks { result.0 ≡ value / 10 ^ 16 }
     ensures low { result.1 ≡ value % 10 ^ 16 }
@@ -105,18 +176,21 @@ fn split(value: u128) -> (u128, u64)
 
 // Writes the point and the fraction so that they end with the buffer. Returns the whole part, and
 // where its text is to end.
+#[inline(always)]
 fn write_fraction(number: u64, places: usize, buffer: &mut [u8]) -> (u64, usize)
     requires places { places ≤ 16 }
-    requires buffer { length buffer.old ≡ CAPACITY }
+    requires room { length (fraction_text places number) ≤ length buffer.old }
     ensures whole { result.0 ≡ number / 10 ^ places }
-    ensures end { result.1 + length (fraction_text places number) ≡ CAPACITY }
+    ensures end { result.1 + length (fraction_text places number) ≡ length buffer.old }
+    ensures long { length buffer.new ≡ length buffer.old }
     ensures written { drop result.1 buffer.new ≡ fraction_text places number }
 {
-    let whole = write_low(number, places, buffer, CAPACITY);
+    let end = buffer.len();
     if places == 0 {
-        return (whole, CAPACITY);
+        return (number, end);
     }
-    let point = CAPACITY - places - 1;
+    let whole = write_low(number, places, buffer, end);
+    let point = end - places - 1;
     buffer[point] = b'.';
     (whole, point)
 }
@@ -140,6 +214,7 @@ fn write_whole(number: u128, buffer: &mut [u8], end: usize) -> usize
 }
 
 // As `write_whole`, for a number of one word.
+#[inline(always)]
 fn write_word(number: u64, buffer: &mut [u8], end: usize) -> usize
     requires room { length (whole_text number) ≤ end }
     requires end { end ≤ length buffer.old }
@@ -157,6 +232,7 @@ fn write_word(number: u64, buffer: &mut [u8], end: usize) -> usize
 }
 
 // As `write_whole`, for one or two digits.
+#[inline(always)]
 fn write_first(number: u64, buffer: &mut [u8], end: usize) -> usize
     requires small { number < 100 }
     requires room { length (whole_text number) ≤ end }
@@ -174,6 +250,7 @@ fn write_first(number: u64, buffer: &mut [u8], end: usize) -> usize
 }
 
 // Writes the last `width` digits so that they end at `end`, and returns the number before them.
+#[inline(always)]
 fn write_low(number: u64, width: usize, buffer: &mut [u8], end: usize) -> u64
     requires room { width ≤ end }
     requires end { end ≤ length buffer.old }
@@ -196,6 +273,7 @@ fn write_low(number: u64, width: usize, buffer: &mut [u8], end: usize) -> u64
     rest
 }
 
+#[inline(always)]
 fn write_pair(pair: u64, buffer: &mut [u8], at: usize)
     requires pair { pair < 100 }
     requires room { at + 2 ≤ length buffer.old }
