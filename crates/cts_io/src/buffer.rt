@@ -1,11 +1,13 @@
 //! A buffer between a text that is made of many small pieces and its sink.
 
-ghost use Rattle.std.specs.Prelude.{◌≡◌, ℕ, ◌+◌, ◌≤◌, [], ◌++◌, length, take};
+ghost use Rattle.std.specs.Prelude.{◌≡◌, ℕ, ◌+◌, ◌^◌, ◌<◌, ◌≤◌, [], ◌++◌, length, take};
+ghost use Rattle.cts_num.specs.Decimal.{decimal_text};
 ghost use Rattle.cts_io.specs.Pending.{Pending, fresh};
 ghost use Rattle.cts_io.specs.Text.{Finishes, Puts};
 
 use crate::device::ByteSink;
 use crate::write::{WriteEnd, write_all};
+use cts_num::{decimal, decimal_len, write_decimal};
 use std::marker::Model;
 
 /// The bytes that a buffer holds: 8 KiB.
@@ -60,6 +62,22 @@ impl SinkBuffer {
         }
     }
 
+    /// Gives the canonical decimal text of `value`, which counts units of 10^-`places`, to the sink, now
+    /// or later.
+    #[inline(always)]
+    pub fn put_decimal<K: ByteSink>(&mut self, sink: &mut K, value: u128, places: u32)
+        requires value { value < 10 ^ 38 }
+        requires places { places ≤ 16 }
+        ensures { Puts K.held K.faults sink.old self.old sink.new self.new (decimal_text places value) }
+    {
+        let size = decimal_len(value, places);
+        if size <= ROOM - self.len {
+            self.keep_decimal(value, places, size);
+        } else {
+            self.put_decimal_over(sink, value, places);
+        }
+    }
+
     /// Gives what waits to the sink, and tells how the writing of the whole text ended.
     pub fn finish<K: ByteSink>(mut self, sink: &mut K) -> Result<(), WriteEnd>
         ensures { Finishes K.held K.faults sink.old self sink.new result }
@@ -86,6 +104,30 @@ impl SinkBuffer {
         } else {
             self.pass(sink, piece);
         }
+    }
+
+    /// As `put_decimal`, by a text of its own.
+    #[cold]
+    #[inline(never)]
+    fn put_decimal_over<K: ByteSink>(&mut self, sink: &mut K, value: u128, places: u32)
+        requires value { value < 10 ^ 38 }
+        requires places { places ≤ 16 }
+        ensures { Puts K.held K.faults sink.old self.old sink.new self.new (decimal_text places value) }
+    {
+        self.put_over(sink, decimal(value, places).bytes());
+    }
+
+    /// Writes a number, whose text is so long, behind what waits.
+    #[inline(always)]
+    fn keep_decimal(&mut self, value: u128, places: u32, size: usize)
+        requires value { value < 10 ^ 38 }
+        requires places { places ≤ 16 }
+        requires size { size ≡ length (decimal_text places value) }
+        requires room { length self.old.waiting + size ≤ 8192 }
+        ensures { self.new ≡ record self.old { waiting = self.old.waiting ++ decimal_text places value } }
+    {
+        store_decimal(&mut self.bytes, self.len, value, places, size);
+        self.len += size;
     }
 
     /// Copies `piece` behind what waits.
@@ -137,6 +179,18 @@ fn hand_over<K: ByteSink>(sink: &mut K, bytes: &[u8], written: &mut usize, faile
             *failed = true;
         }
     }
+}
+
+/// Writes a number, whose text is so long, to the place `at` of `bytes`.
+#[inline(always)]
+fn store_decimal(bytes: &mut [u8], at: usize, value: u128, places: u32, size: usize)
+    requires value { value < 10 ^ 38 }
+    requires places { places ≤ 16 }
+    requires size { size ≡ length (decimal_text places value) }
+    requires room { at + size ≤ length bytes.old }
+    ensures { take (at + size) bytes.new ≡ take at bytes.old ++ decimal_text places value }
+{
+    write_decimal(value, places, &mut bytes[at..at + size]);
 }
 
 /// Copies `piece` to the place `at` of `bytes`.
