@@ -47,6 +47,7 @@ pub fn is_in_die(die: &Die, point: Half) -> bool
     is_between(die.x1, die.x2, point.x) && is_between(die.y1, die.y2, point.y)
 }
 
+/// Whether a point in half nm lies in the inside of a block.
 pub fn is_inside(block: &Block, point: Half) -> bool
     requires { IsPointInRange point }
     ensures { IsTrue result ↔ IsInside block.now point }

@@ -1,3 +1,5 @@
+//! Points of whole nm.
+
 ghost use Rattle.std.specs.Prelude.{◌≡◌};
 
 /// A point of whole nm.

@@ -36,7 +36,7 @@ pub record IsSubtree (i : Parts) (t : BinaryTree TreeNode) (s : Subtree) : Type 
   pub bound_is : s.bound ≡ bound i t
   pub not_over : ¬ IsPairOver i t
   pub few_wires : s.wires + 2 ^ 31 ≤ size t * 2 ^ 31
-  pub small_bound : s.bound ≤ size t * 2 ^ 104
+  pub small_bound : s.bound ≤ size t * max_delay
 
 -- the ranges that a step upward asks for
 pub record IsSubtreeInRange (s : Subtree) : Type 0 where

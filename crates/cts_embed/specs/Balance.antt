@@ -7,6 +7,7 @@ use Rattle.cts_units.specs.declared.params.Wire.{Wire}
 use Rattle.cts_units.specs.declared.params.Params.{Params}
 use Rattle.cts_units.specs.Choice.{added_delay_of, seen_load_of}
 use Rattle.cts_units.specs.Delay.{wire_delay_of}
+use Rattle.cts_units.specs.Limits.{max_delay, max_length, max_load}
 use Rattle.cts_merge.specs.LeastPair.{IsLeastPair, Covers}
 use Rattle.cts_postorder.specs.BinaryTree.{BinaryTree, tip, fork, label}
 use Rattle.cts_tree.specs.declared.nodes.NodeKind.{NodeKind}
@@ -48,10 +49,10 @@ pub record IsPairBalance (params : Params) (buffer : Option ℕ) (a : NodeBalanc
   pub greatest : pair.greatest
       ≡ delay_below params.wire a b pair.left_wire pair.right_wire
       + added_delay_of params.library buffer (load_below params.wire a b pair.left_wire pair.right_wire)
-  pub left_within : pair.left_wire ≤ 2 ^ 31 - 1
-  pub right_within : pair.right_wire ≤ 2 ^ 31 - 1
-  pub load_within : load_below params.wire a b pair.left_wire pair.right_wire ≤ 2 ^ 56
-  pub greatest_within : pair.greatest ≤ 2 ^ 104
+  pub left_within : pair.left_wire ≤ max_length
+  pub right_within : pair.right_wire ≤ max_length
+  pub load_within : load_below params.wire a b pair.left_wire pair.right_wire ≤ max_load
+  pub greatest_within : pair.greatest ≤ max_delay
 
 -- beyond: with the least pair of lengths a wire is over the limit, or the load before the buffer, or the greatest delay
 -- after it
@@ -60,8 +61,8 @@ pub record IsPairBeyond (params : Params) (buffer : Option ℕ) (a : NodeBalance
   pub xa : ℕ
   pub xb : ℕ
   pub wires : IsWirePair params.wire a la b lb xa xb
-  pub over : (2 ^ 31 - 1 < xa) ⊎ ((2 ^ 31 - 1 < xb) ⊎ ((2 ^ 56 < load_below params.wire a b xa xb)
-      ⊎ (2 ^ 104 < delay_below params.wire a b xa xb + added_delay_of params.library buffer (load_below params.wire a b xa xb))))
+  pub over : (max_length < xa) ⊎ ((max_length < xb) ⊎ ((max_load < load_below params.wire a b xa xb)
+      ⊎ (max_delay < delay_below params.wire a b xa xb + added_delay_of params.library buffer (load_below params.wire a b xa xb))))
 
 -- the sink that a leaf names, and none at a pair
 abbrev pub sink_of : List Sink → NodeKind → Option Sink
@@ -90,6 +91,6 @@ source_load_of wire root len = root.load + wire.c * len
 -- The limits that are asked of the root alone, with a wire of this length from the source: that of the wire, that of the
 -- source's load, and that of the greatest delay with the source's and the wire's own.
 pub record IsRootWithin (parts : Parts) (len : ℕ) (root : NodeBalance) : Type 0 where
-  pub wire : len ≤ 2 ^ 31 - 1
-  pub load : source_load_of parts.params.wire root len ≤ 2 ^ 56
-  pub delay : 2 * parts.source_r * source_load_of parts.params.wire root len + delay_through parts.params.wire root len ≤ 2 ^ 104
+  pub wire : len ≤ max_length
+  pub load : source_load_of parts.params.wire root len ≤ max_load
+  pub delay : 2 * parts.source_r * source_load_of parts.params.wire root len + delay_through parts.params.wire root len ≤ max_delay

@@ -1,8 +1,9 @@
 -- The range of the numbers of a balanced node.
 use Rattle.std.specs.Prelude.{◌^◌, ◌≤◌}
+use Rattle.cts_units.specs.Limits.{max_delay, max_load}
 use Rattle.cts_embed.specs.declared.node.NodeBalance.{NodeBalance}
 
 -- the limits of a greatest doubled delay and of a load
 pub record IsInRange (node : NodeBalance) : Type 0 where
-  pub greatest : node.greatest ≤ 2 ^ 104
-  pub load : node.load ≤ 2 ^ 56
+  pub greatest : node.greatest ≤ max_delay
+  pub load : node.load ≤ max_load

@@ -3,7 +3,7 @@
 ghost use Rattle.std.specs.Prelude.{◌≡◌, ◌+◌, ◌-◌, ◌^◌, ◌<◌, ◌≤◌, ◌++◌, ◌∷◌, ◌↔◌, [], IsTrue, map, take, length, IfOk, IfErr, MatchOption, All};
 ghost use Rattle.std.specs.List.{AllZip};
 ghost use Rattle.cts_units.specs.Choice.{added_delay_of, seen_load_of};
-ghost use Rattle.cts_units.specs.Limits.{IsParams};
+ghost use Rattle.cts_units.specs.Limits.{IsParams, max_length, max_load};
 ghost use Rattle.cts_merge.specs.LeastPair.{IsTooLong, Covers};
 ghost use Rattle.cts_postorder.specs.PostOrder.{IsPostOrder, trees_of};
 ghost use Rattle.cts_postorder.specs.Pass.{IsLeastFailure};
@@ -52,8 +52,8 @@ fn wire_pair(
     requires a { IsInRange a.now }
     requires b { IsInRange b.now }
     ensures wires { IfOk result (λ pair. IsWirePair params.now.wire a.now la b.now lb pair.0 pair.1) }
-    ensures left_within { IfOk result (λ pair. pair.0 ≤ 2 ^ 31 - 1) }
-    ensures right_within { IfOk result (λ pair. pair.1 ≤ 2 ^ 31 - 1) }
+    ensures left_within { IfOk result (λ pair. pair.0 ≤ max_length) }
+    ensures right_within { IfOk result (λ pair. pair.1 ≤ max_length) }
     ensures beyond { IfErr result (λ _.
         IsTooLong (delay_through params.now.wire a.now) (delay_through params.now.wire b.now) (Covers la lb)) }
 {
@@ -64,7 +64,7 @@ fn wire_pair(
 fn delay_through(params: &Params, node: &NodeBalance, length: u64) -> u128
     requires params { IsParams params.now }
     requires node { IsInRange node.now }
-    requires length { length ≤ 2 ^ 31 - 1 }
+    requires length { length ≤ max_length }
     ensures value { result ≡ delay_through params.now.wire node.now length }
     ensures bound { result ≤ 2 ^ 111 }
 {
@@ -74,12 +74,12 @@ fn delay_through(params: &Params, node: &NodeBalance, length: u64) -> u128
 /// The delay that a node's buffer adds over a load, and the load that is seen from above it.
 fn buffered(params: &Params, buffer: Option<u16>, load: u64) -> (u128, u64)
     requires params { IsParams params.now }
-    requires load { load ≤ 2 ^ 56 }
+    requires load { load ≤ max_load }
     requires buffer { MatchOption buffer (Unit {0}) (λ index. index < length params.now.library) }
     ensures added { result.0 ≡ added_delay_of params.now.library buffer load }
     ensures added_bound { result.0 ≤ 2 ^ 118 }
     ensures seen { result.1 ≡ seen_load_of params.now.library buffer load }
-    ensures seen_bound { result.1 ≤ 2 ^ 56 }
+    ensures seen_bound { result.1 ≤ max_load }
 {
     match buffer {
         Some(index) => {

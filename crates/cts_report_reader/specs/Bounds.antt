@@ -1,5 +1,6 @@
 -- Which numbers, points and nodes a report can print, and which reports there are.
 use Rattle.std.specs.Prelude.{◌≡◌, ℕ, ◌+◌, ◌-◌, ◌*◌, ◌/◌, ◌%◌, ◌^◌, ◌<◌, ◌≤◌, length, map, All, Option, Some, None, IfSome}
+use Rattle.cts_units.specs.Limits.{max_length}
 use Rattle.cts_postorder.specs.PostOrder.{IsPostOrder}
 use Rattle.cts_report.specs.Printed.{PrintedPoint, PrintedKind, sink_leaf, pair_node, PrintedNode, PrintedTotals, Printed}
 
@@ -32,7 +33,7 @@ pub record IsPrintedNode (buffers : ℕ) (node : PrintedNode) : Type 0 where
   pub load : IsShort node.load
   pub delay : IsShort node.delay
   pub slew : IsShort node.slew
-  pub wire : node.wire ≤ 2 ^ 31 - 1
+  pub wire : node.wire ≤ max_length
   pub few : length node.corners ≤ 65536
   pub corners : All IsPrintedPoint node.corners
 

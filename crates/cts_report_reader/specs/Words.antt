@@ -3,6 +3,7 @@ use Rattle.std.specs.Prelude.{◌≡◌, ℕ, zero, suc, ◌+◌, ◌-◌, ◌*�
 use Rattle.std.specs.Borrow.{Bor}
 use Rattle.std.specs.List.{prefix_len}
 use Rattle.cts_num.specs.Canonical.{canonical_of}
+use Rattle.cts_units.specs.Limits.{max_length}
 use Rattle.cts_report.specs.Printed.{PrintedPoint}
 use Rattle.cts_report_reader.specs.Reader.{PartReader, is_number_byte}
 
@@ -97,4 +98,4 @@ unfoldable pub tail_at : PartReader (ℕ × (ℕ × (ℕ × (List PrintedPoint �
 tail_at =
     both_at (labelled_at (codes " delay ") 16)
     (both_at (labelled_at (codes " slew ") 16)
-    (both_at (bounded_at (codes " wire ") 3 (2 ^ 31 - 1)) (both_at corners_at (word_at (codes "\n")))))
+    (both_at (bounded_at (codes " wire ") 3 max_length) (both_at corners_at (word_at (codes "\n")))))

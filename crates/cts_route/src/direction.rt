@@ -1,3 +1,5 @@
+//! The four directions of a grid.
+
 /// The direction of a step on the grid. A route prefers them in this order.
 #[derive(Clone, Copy, Debug, PartialEq, Eq)]
 pub enum Direction {

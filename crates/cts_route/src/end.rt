@@ -1,13 +1,16 @@
 //! Why there is no route.
 
 use std::alloc::{AllocError, AllocFailed};
+use thiserror::Error;
 
 /// Why there is no route.
-#[derive(Clone, Copy, Debug, PartialEq, Eq)]
+#[derive(Clone, Copy, Debug, PartialEq, Eq, Error)]
 pub enum RouteEnd {
     /// No path of the grid joins the two points.
+    #[error("no path joins the two points")]
     Cut,
     /// Memory ran out.
+    #[error("no memory")]
     NoMemory,
 }
 

@@ -32,6 +32,7 @@ use cts_work::{Gate, rebuild};
 use std::alloc::Global;
 use std::sync::Wait;
 use std::sync::ledger::Ledger;
+use thiserror::Error;
 
 /// The tree of a version, with its figures. A version is a number of accepted edits.
 #[derive(Drop)]
@@ -42,11 +43,13 @@ pub struct Drawn {
 }
 
 /// Why a draw gives no tree.
-#[derive(Clone, Copy, Debug)]
+#[derive(Clone, Copy, Debug, Error)]
 pub enum TreeEnd {
     /// The sinks of this version have no tree: a node is beyond the limits, or cut.
+    #[error("no tree of version {version}: {why}")]
     None { version: u32, why: NoTree },
     /// Memory ran out.
+    #[error("no memory")]
     NoMemory,
 }
 

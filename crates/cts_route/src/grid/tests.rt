@@ -1,3 +1,5 @@
+//! Routes around a block and with one bend, and a pocket that no route leads into.
+
 ghost use Rattle.cts_route.specs.Limits.{IsBlockInRange};
 
 use super::{Grid, route};

@@ -1,5 +1,5 @@
 use Rattle.cts_postorder.proofs.Statements.{tips_are_occurrences_lem}
-use Rattle.cts_postorder.proofs.tips_are_occurrences.Goals as goal
+use Rattle.cts_postorder.proofs.laws.tips_are_occurrences.Goals as goal
 
 pub returns : goal.returns
 returns g c = tips_are_occurrences_lem _
