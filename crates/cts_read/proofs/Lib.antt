@@ -2,6 +2,7 @@ pub mod Contents
 pub mod Counts
 pub mod ListSteps
 pub mod Places
+pub mod Plains
 pub mod WordLists
 pub mod WordCounts
 pub mod Refusals

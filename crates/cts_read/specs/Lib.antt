@@ -1,5 +1,6 @@
 pub mod Place
 pub mod Lines
+pub mod Plain
 pub mod Grammar
 pub mod Header
 pub mod Items

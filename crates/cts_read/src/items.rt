@@ -7,6 +7,7 @@ ghost use Rattle.cts_read.specs.Items.{block_count_of, block_numbers, buffer_cou
 ghost use Rattle.cts_read.specs.Lines.{words_of};
 
 use crate::fields::{fields, number, refuse};
+use crate::plain::plain_sink;
 use crate::stop::Cause;
 use crate::words::word_at;
 use cts_block::{Block, Kind};
@@ -76,8 +77,18 @@ pub fn buffer_numbers(line: &[u8]) -> Result<Buffer, Cause>
 }
 
 /// A sink: its id, its place in nm and its capacitance in zF.
-#[tactic(auto, unfolding(crate::specs::Items::sink_numbers))]
 pub fn sink_numbers(line: &[u8]) -> Result<Sink, Cause>
+    ensures { result ≡ sink_numbers line.now }
+{
+    match plain_sink(line) {
+        Some(sink) => Ok(sink),
+        None => any_sink(line),
+    }
+}
+
+/// As [`sink_numbers`], word by word.
+#[tactic(auto, unfolding(crate::specs::Items::sink_numbers))]
+fn any_sink(line: &[u8]) -> Result<Sink, Cause>
     ensures { result ≡ sink_numbers line.now }
 {
     let rest = fields(b"sink", 4, line)?;

@@ -15,6 +15,7 @@ mod items;
 pub mod laws;
 mod left;
 mod lists;
+mod plain;
 mod read;
 mod stop;
 mod words;

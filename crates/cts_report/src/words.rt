@@ -9,12 +9,11 @@ ghost use Rattle.cts_report.specs.Report.{printed_point, printed_time};
 
 use cts_geom::{Half, Spot, halves};
 use cts_io::{ByteSink, SinkBuffer};
-use cts_num::decimal;
 use cts_units::slew_tenths;
 
 /// A label, and then a number of units of 10^-`places`.
 #[tactic(auto, unfolding(crate::specs::Lines::labelled))]
-#[inline]
+#[inline(always)]
 fn put_number<K: ByteSink>(
     out: &mut SinkBuffer,
     sink: &mut K,
@@ -27,11 +26,12 @@ fn put_number<K: ByteSink>(
     ensures { Puts K.held K.faults sink.old out.old sink.new out.new (labelled label.now places value) }
 {
     out.put(sink, label);
-    out.put(sink, decimal(value, places).bytes());
+    out.put_decimal(sink, value, places);
 }
 
 /// A whole number.
 #[tactic(auto, unfolding(crate::specs::Lines::whole))]
+#[inline(always)]
 pub fn put_whole<K: ByteSink>(out: &mut SinkBuffer, sink: &mut K, label: &[u8], number: u64)
     ensures { Puts K.held K.faults sink.old out.old sink.new out.new (whole label.now number) }
 {
@@ -40,6 +40,7 @@ pub fn put_whole<K: ByteSink>(out: &mut SinkBuffer, sink: &mut K, label: &[u8], 
 
 /// A length in nm.
 #[tactic(auto, unfolding(crate::specs::Lines::length_in_um))]
+#[inline(always)]
 pub fn put_length<K: ByteSink>(out: &mut SinkBuffer, sink: &mut K, label: &[u8], length: u64)
     ensures { Puts K.held K.faults sink.old out.old sink.new out.new (length_in_um label.now length) }
 {
@@ -48,6 +49,7 @@ pub fn put_length<K: ByteSink>(out: &mut SinkBuffer, sink: &mut K, label: &[u8],
 
 /// A load in zF.
 #[tactic(auto, unfolding(crate::specs::Lines::capacitance))]
+#[inline(always)]
 pub fn put_capacitance<K: ByteSink>(out: &mut SinkBuffer, sink: &mut K, label: &[u8], load: u64)
     ensures { Puts K.held K.faults sink.old out.old sink.new out.new (capacitance label.now load) }
 {
@@ -56,6 +58,7 @@ pub fn put_capacitance<K: ByteSink>(out: &mut SinkBuffer, sink: &mut K, label: &
 
 /// A doubled delay in 10^-27 s.
 #[tactic(auto, unfolding(crate::specs::Lines::time))]
+#[inline(always)]
 pub fn put_delay<K: ByteSink>(out: &mut SinkBuffer, sink: &mut K, label: &[u8], delay: u128)
     requires { delay ≤ 10 ^ 37 }
     ensures { Puts K.held K.faults sink.old out.old sink.new out.new (time label.now (printed_time delay)) }
@@ -65,6 +68,7 @@ pub fn put_delay<K: ByteSink>(out: &mut SinkBuffer, sink: &mut K, label: &[u8], 
 
 /// The slew of a stage of this doubled delay, in 10^-27 s.
 #[tactic(auto, unfolding(crate::specs::Lines::time))]
+#[inline(always)]
 pub fn put_slew<K: ByteSink>(out: &mut SinkBuffer, sink: &mut K, label: &[u8], stage: u128)
     requires { stage ≤ 2 ^ 120 }
     ensures { Puts K.held K.faults sink.old out.old sink.new out.new (time label.now (slew_of stage)) }
@@ -74,6 +78,7 @@ pub fn put_slew<K: ByteSink>(out: &mut SinkBuffer, sink: &mut K, label: &[u8], s
 
 /// The x of a point in half nm, which is not below 0.
 #[tactic(auto, unfolding(crate::specs::Lines::coordinate))]
+#[inline(always)]
 fn put_x<K: ByteSink>(out: &mut SinkBuffer, sink: &mut K, point: Half)
     ensures { Puts K.held K.faults sink.old out.old sink.new out.new
         (coordinate (codes " ") (5 * unsigned_abs point.x)) }
@@ -83,6 +88,7 @@ fn put_x<K: ByteSink>(out: &mut SinkBuffer, sink: &mut K, point: Half)
 
 /// The y of a point in half nm, which is not below 0.
 #[tactic(auto, unfolding(crate::specs::Lines::coordinate))]
+#[inline(always)]
 fn put_y<K: ByteSink>(out: &mut SinkBuffer, sink: &mut K, point: Half)
     ensures { Puts K.held K.faults sink.old out.old sink.new out.new
         (coordinate (codes " ") (5 * unsigned_abs point.y)) }
@@ -91,6 +97,7 @@ fn put_y<K: ByteSink>(out: &mut SinkBuffer, sink: &mut K, point: Half)
 }
 
 /// A point in half nm, its x before its y.
+#[inline]
 pub fn put_point<K: ByteSink>(out: &mut SinkBuffer, sink: &mut K, point: Half)
     ensures { Puts K.held K.faults sink.old out.old sink.new out.new (point_words (printed_point point)) }
 {
@@ -99,6 +106,7 @@ pub fn put_point<K: ByteSink>(out: &mut SinkBuffer, sink: &mut K, point: Half)
 }
 
 /// A place, its x before its y.
+#[inline]
 pub fn put_place<K: ByteSink>(out: &mut SinkBuffer, sink: &mut K, place: Spot)
     requires { IsSpotInRange place }
     ensures { Puts K.held K.faults sink.old out.old sink.new out.new (point_words (printed_point (point_of place))) }
