@@ -5,24 +5,26 @@ use Rattle.std.specs.Result.{IfOk, IsErr}
 use Rattle.cts_geom.specs.declared.bounds.Die.{Die}
 use Rattle.cts_geom.specs.declared.points.Half.{Half}
 use Rattle.cts_geom.specs.declared.points.Spot.{Spot}
-use Rattle.cts_geom.specs.Points.{IsSpotInRange, point_of}
+use Rattle.cts_geom.specs.Points.{point_of}
 use Rattle.cts_block.specs.declared.blocks.Block.{Block}
 use Rattle.cts_tree.specs.declared.route.Route.{Route}
 use Rattle.cts_route.specs.declared.end.RouteEnd.{RouteEnd}
 use Rattle.cts_route.specs.declared.grid.Grid.{Grid}
-use Rattle.cts_route.specs.declared.grid.Window.{Window}
+use Rattle.cts_route.specs.declared.frame.Frame.{Frame}
+use Rattle.cts_route.specs.declared.view.View.{View}
+use Rattle.cts_route.specs.declared.view.Window.{Window}
 use Rattle.cts_route.specs.declared.table.Table.{Table}
 use Rattle.cts_route.specs.declared.wall.Wall.{Wall}
 use Rattle.cts_route.specs.Grid.{lines_of}
-use Rattle.cts_route.specs.Grids.{IsGrid, IsGridOf, IsRouteOn, IsCutOn}
+use Rattle.cts_route.specs.Grids.{IsGridOf, IsRouteOn, IsCutOn}
 use Rattle.cts_route.specs.Laws.{bend_of, RunsAlongXFirst}
 use Rattle.cts_route.specs.Routes.{IsCut}
-use Rattle.cts_route.specs.Search.{AreLabels, IsSettled}
 use Rattle.cts_route.specs.Walks.{IsWayDown}
 use Rattle.cts_route.specs.Walls.{MissesWalls}
-use Rattle.cts_route.specs.WindowOf.{IsWindowOf}
+use Rattle.cts_route.specs.WindowOf.{IsDone}
 use Rattle.cts_route.specs.Windows.{Stands}
 use Rattle.cts_route.proofs.ClearWay.{clear_way_route}
+use Rattle.cts_route.proofs.Edges.{shut_closed, shut_sealed}
 use Rattle.cts_route.proofs.Found.{found_route, found_cut}
 use Rattle.cts_route.proofs.GridLines.{search_of}
 use Rattle.cts_route.proofs.Searches.{IsSearch, clear_from_misses}
@@ -65,39 +67,28 @@ pub same_way : (xs ys xs' ys' : List ℤ) (window : Window) (table : Table) (sta
 same_way xs ys xs' ys' window table start corners way e f =
     subst (λ (ls : List ℤ). IsWayDown xs ls window.graph table start corners) f (subst (λ (ls : List ℤ). IsWayDown ls ys' window.graph table start corners) e way)
 
--- a search that is done
-pub record IsDone (grid : Grid) (from to : Spot) (window : Window) (table : Table) (start : ℕ) : Type 0 where
-  pub grid_is : IsGrid grid
-  pub from_in : IsSpotInRange from
-  pub to_in : IsSpotInRange to
-  pub window_is : IsWindowOf grid from to window
-  pub valid : AreLabels window.graph table.goal table.labels.items
-  pub settled : IsSettled window.graph table.labels.items start
-  pub at_start : Stands window.xs.items window.ys.items (point_of from) start
-  pub at_goal : Stands window.xs.items window.ys.items (point_of to) table.goal
+search_is : (grid : Grid) (from to : Spot) (frame : Frame) (view : View) → IsDone grid from to frame view → (blocks : List Block) (die : Die) → IsGridOf blocks die grid
+    → IsSearch blocks (lines_of blocks die (point_of from) (point_of to)) grid.walls.items view.window.xs.items view.window.ys.items view.window.graph view.table.goal view.table.labels.items
+search_is grid from to frame view done blocks die of =
+    search_of blocks die grid from to frame view.window view.table.goal view.table.labels.items of done.view_is.window_is done.view_is.searched.valid
 
-search_is : (grid : Grid) (from to : Spot) (window : Window) (table : Table) (start : ℕ) → IsDone grid from to window table start
-    → (blocks : List Block) (die : Die) → IsGridOf blocks die grid
-    → IsSearch blocks (lines_of blocks die (point_of from) (point_of to)) grid.walls.items window.xs.items window.ys.items window.graph table.goal table.labels.items
-search_is grid from to window table start done blocks die of =
-    search_of blocks die grid from to window.xs.items window.ys.items window.graph table.goal table.labels.items of done.grid_is done.from_in done.to_in
-    done.window_is.xs done.window_is.ys done.window_is.steps done.valid
-
-pub done_cut : (grid : Grid) (from to : Spot) (window : Window) (table : Table) (start : ℕ) → IsDone grid from to window table start
-    → 2 ^ 64 - 1 ≤ slice_index table.labels.items start → IsCutOn grid from to
-done_cut grid from to window table start done none =
+pub done_cut : (grid : Grid) (from to : Spot) (frame : Frame) (view : View) → IsDone grid from to frame view
+    → 2 ^ 64 - 1 ≤ slice_index view.table.labels.items view.start → IsCutOn grid from to
+done_cut grid from to frame view done none =
     record {
       is = λ blocks die of.
-          found_cut blocks die (point_of from) (point_of to) grid.walls.items window.xs.items window.ys.items window.graph start table.goal table.labels.items
-          (search_is grid from to window table start done blocks die of) done.settled done.at_start done.at_goal none;
+          found_cut blocks die (point_of from) (point_of to) grid.walls.items view.window.xs.items view.window.ys.items view.window.graph view.start view.table.goal view.table.labels.items
+          (search_is grid from to frame view done blocks die of) done.view_is.searched.settled (shut_sealed blocks die grid from to frame view done of none)
+          done.view_is.at_start done.view_is.at_goal none;
     }
 
-pub done_route : (grid : Grid) (from to : Spot) (window : Window) (table : Table) (start : ℕ) (route : Route) (corners : List Half) → IsDone grid from to window table start
-    → slice_index table.labels.items start < 2 ^ 64 - 1 → IsWayDown window.xs.items window.ys.items window.graph table start corners → route.corners ≡ corners → route.length ≡ slice_index table.labels.items start / 2
-    → IsRouteOn grid from to route
-done_route grid from to window table start route corners done reached way same len =
+pub done_route : (grid : Grid) (from to : Spot) (frame : Frame) (view : View) (route : Route) (corners : List Half) → IsDone grid from to frame view
+    → slice_index view.table.labels.items view.start < 2 ^ 64 - 1 → IsWayDown view.window.xs.items view.window.ys.items view.window.graph view.table view.start corners
+    → route.corners ≡ corners → route.length ≡ slice_index view.table.labels.items view.start / 2 → IsRouteOn grid from to route
+done_route grid from to frame view route corners done reached way same len =
     record {
       is = λ blocks die of.
-          found_route blocks die from to grid.walls.items window.xs.items window.ys.items window.graph start table.goal table.labels.items way.cells route
-          (search_is grid from to window table start done blocks die of) done.settled reached done.at_start done.at_goal way.down (same ∙ way.turns) len;
+          found_route blocks die from to grid.walls.items view.window.xs.items view.window.ys.items view.window.graph view.start view.table.goal view.table.labels.items way.cells route
+          (search_is grid from to frame view done blocks die of) done.view_is.searched.settled reached (shut_closed blocks die grid from to frame view done of)
+          done.view_is.at_start done.view_is.at_goal way.down (same ∙ way.turns) len;
     }

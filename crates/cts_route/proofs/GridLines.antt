@@ -1,5 +1,5 @@
 -- The lines of a grid are few and near, and those of its window make a search.
-use Rattle.std.proofs.Common.{Vec, Global, ◌≡◌, ℕ, ◌+◌, ◌*◌, ◌/◌, ◌%◌, ◌^◌, ◌≤◌, inl, inr, cond, ℤ, pos, neg_ℤ, ◌*ℤ◌, List, [], ◌∷◌, length, refl, ap, ◌∙◌, subst, arith, length-append}
+use Rattle.std.proofs.Common.{Vec, Global, ◌≡◌, ℕ, ◌+◌, ◌*◌, ◌/◌, ◌%◌, ◌^◌, ◌≤◌, inl, inr, cond, ℤ, pos, neg_ℤ, ◌*ℤ◌, ◌≤ℤ◌, List, [], ◌∷◌, length, refl, ap, ◌∙◌, subst, arith, length-append}
 use Rattle.std.specs.Prelude.{All, count_by}
 use Rattle.std.specs.List.{Contains, flat_map}
 use Rattle.std.proofs.lemmas.Int.{ints}
@@ -14,16 +14,18 @@ use Rattle.cts_geom.proofs.PointLemmas.{half_same}
 use Rattle.cts_block.specs.declared.blocks.Block.{Block}
 use Rattle.cts_block.specs.declared.blocks.Kind.{Kind}
 use Rattle.cts_block.specs.declared.blocks.Kind.TheVariants.{Buffer, All as KindAll}
-use Rattle.cts_route.specs.declared.graph.Graph.{Graph}
 use Rattle.cts_route.specs.declared.wall.Wall.{Wall}
 use Rattle.cts_route.specs.Walls.{AreWallsOf}
+use Rattle.cts_route.specs.declared.frame.Frame.{Frame}
 use Rattle.cts_route.specs.declared.grid.Grid.{Grid}
+use Rattle.cts_route.specs.declared.view.Window.{Window}
+use Rattle.cts_route.specs.WindowOf.{IsWindowOf}
 use Rattle.cts_route.specs.Grid.{edges_of, fixed_xs, fixed_ys, lines_of}
 use Rattle.cts_route.specs.Grids.{IsNear, IsGrid, IsGridOf}
 use Rattle.cts_route.specs.Limits.{IsDieInRange, IsBlockInRange, AreBlocksInRange, stops_wires}
 use Rattle.cts_route.specs.LineLists.{line_at, AreLinesOf, AreLinesBetween, IsNumberOf}
 use Rattle.cts_route.specs.Search.{AreLabels}
-use Rattle.cts_route.specs.Windows.{point_at, Stands, IsGraphOf, AreShortLines}
+use Rattle.cts_route.specs.Windows.{point_at, Stands, AreShortLines}
 use Rattle.cts_route.proofs.Cells.{cell_is}
 use Rattle.cts_route.proofs.Insertions.{contains_at}
 use Rattle.cts_route.proofs.NextLine.{Contains-cases, Contains-first, Contains-later}
@@ -101,17 +103,18 @@ grid_is blocks die grid in_range die_in is =
       near_y = λ c there. near_fixed ys die.y1 die.y2 blocks c die_in.y1 die_in.y2 (λ b b_in on. near_edge b.kind b.y1 b.y2 c b_in.y1 b_in.y2 on) in_range.each (is.ys.sound c there);
     }
 
--- ---- a window over all lines
-pub short_lines : (wanted lines : List ℤ) → AreLinesBetween wanted (neg_ℤ (pos (2 ^ 41))) (pos (2 ^ 41)) lines → length wanted ≤ 132 → AreShortLines lines
-short_lines wanted lines are few =
+-- ---- the lines of a window
+pub short_lines : (wanted lines : List ℤ) (low high : ℤ) → neg_ℤ (pos (2 ^ 41)) ≤ℤ low → high ≤ℤ pos (2 ^ 41)
+    → AreLinesBetween wanted low high lines → length wanted ≤ 132 → AreShortLines lines
+short_lines wanted lines low high far_low far_high are few =
     record {
       ascending = are.ascending;
       count = let le = are.count in omega (arith, le, few);
-      low = λ k lt. (are.sound (line_at lines k) (contains_at lines k lt)).1.0;
-      high = λ k lt. (are.sound (line_at lines k) (contains_at lines k lt)).1.1;
+      low = λ k lt. let le = (are.sound (line_at lines k) (contains_at lines k lt)).1.0 in omega (arith, ints);
+      high = λ k lt. let le = (are.sound (line_at lines k) (contains_at lines k lt)).1.1 in omega (arith, ints);
     }
 
-swap_fixed : (a b : ℤ) (fixed others : List ℤ) → ((c : ℤ) → Contains fixed c → Contains others c) → (c : ℤ) → Contains (a ∷ b ∷ fixed) c → Contains (a ∷ b ∷ others) c
+pub swap_fixed : (a b : ℤ) (fixed others : List ℤ) → ((c : ℤ) → Contains fixed c → Contains others c) → (c : ℤ) → Contains (a ∷ b ∷ fixed) c → Contains (a ∷ b ∷ others) c
 swap_fixed a b fixed others into c there =
     elim (Contains-cases a (b ∷ fixed) c there) [
       | inl same ↦ subst (λ (z : ℤ). Contains (a ∷ b ∷ others) z) same (Contains-first a (b ∷ others))
@@ -121,7 +124,7 @@ swap_fixed a b fixed others into c there =
       ]
     ]
 
-near_all : (a b : ℤ) (fixed : List ℤ) → IsNear a → IsNear b → ((c : ℤ) → Contains fixed c → IsNear c) → (c : ℤ) → Contains (a ∷ b ∷ fixed) c → IsNear c
+pub near_all : (a b : ℤ) (fixed : List ℤ) → IsNear a → IsNear b → ((c : ℤ) → Contains fixed c → IsNear c) → (c : ℤ) → Contains (a ∷ b ∷ fixed) c → IsNear c
 near_all a b fixed near_a near_b near c there =
     elim (Contains-cases a (b ∷ fixed) c there) [
       | inl same ↦ subst IsNear same near_a
@@ -136,30 +139,32 @@ pub near_point-y : (p : Spot) → IsSpotInRange p → IsNear (point_of p).y
 near_point-y p is =
     record { low = let a = is.u.low in let b = is.v.high in omega (arith, ints); high = let a = is.u.high in let b = is.v.low in omega (arith, ints) }
 
-pub search_of : (blocks : List Block) (die : Die) (grid : Grid) (from to : Spot) (xs ys : List ℤ) (graph : Graph) (goal : ℕ) (labels : List ℕ)
-    → IsGridOf blocks die grid → IsGrid grid → IsSpotInRange from → IsSpotInRange to
-    → AreLinesBetween ((point_of from).x ∷ (point_of to).x ∷ grid.xs.items) (neg_ℤ (pos (2 ^ 41))) (pos (2 ^ 41)) xs
-    → AreLinesBetween ((point_of from).y ∷ (point_of to).y ∷ grid.ys.items) (neg_ℤ (pos (2 ^ 41))) (pos (2 ^ 41)) ys
-    → IsGraphOf grid.walls.items xs ys graph → AreLabels graph goal labels
-    → IsSearch blocks (lines_of blocks die (point_of from) (point_of to)) grid.walls.items xs ys graph goal labels
-search_of blocks die grid from to xs ys graph goal labels of is from_in to_in are_x are_y steps valid =
+convex_lines : (wanted lines : List ℤ) (low high : ℤ) → AreLinesBetween wanted low high lines → (a b c : ℤ) → Contains lines a → Contains lines b
+    → a ≤ℤ c → c ≤ℤ b → Contains wanted c → Contains lines c
+convex_lines wanted lines low high are a b c at_a at_b lo hi there =
+    let from : low ≤ℤ a = (are.sound a at_a).1.0 in
+    let to : b ≤ℤ high = (are.sound b at_b).1.1 in
+    are.complete c there (omega (arith, ints)) (omega (arith, ints))
+
+pub search_of : (blocks : List Block) (die : Die) (grid : Grid) (from to : Spot) (frame : Frame) (window : Window) (goal : ℕ) (labels : List ℕ)
+    → IsGridOf blocks die grid → IsWindowOf grid from to frame window → AreLabels window.graph goal labels
+    → IsSearch blocks (lines_of blocks die (point_of from) (point_of to)) grid.walls.items window.xs.items window.ys.items window.graph goal labels
+search_of blocks die grid from to frame window goal labels of is valid =
     let p : Half = point_of from in
     let q : Half = point_of to in
     record {
       walls_of = of.walls;
-      short_x = short_lines (p.x ∷ q.x ∷ grid.xs.items) xs are_x (let few = is.few_x in omega (arith, few));
-      short_y = short_lines (p.y ∷ q.y ∷ grid.ys.items) ys are_y (let few = is.few_y in omega (arith, few));
-      sound_x = λ c there. swap_fixed p.x q.x grid.xs.items (fixed_xs blocks die) of.xs.sound c (are_x.sound c there).0;
-      sound_y = λ c there. swap_fixed p.y q.y grid.ys.items (fixed_ys blocks die) of.ys.sound c (are_y.sound c there).0;
-      complete_x = λ c there.
-          let on : Contains (p.x ∷ q.x ∷ grid.xs.items) c = swap_fixed p.x q.x (fixed_xs blocks die) grid.xs.items of.xs.complete c there in
-          let near : IsNear c = near_all p.x q.x grid.xs.items (near_point-x from from_in) (near_point-x to to_in) is.near_x c on in
-          are_x.complete c on near.low near.high;
-      complete_y = λ c there.
-          let on : Contains (p.y ∷ q.y ∷ grid.ys.items) c = swap_fixed p.y q.y (fixed_ys blocks die) grid.ys.items of.ys.complete c there in
-          let near : IsNear c = near_all p.y q.y grid.ys.items (near_point-y from from_in) (near_point-y to to_in) is.near_y c on in
-          are_y.complete c on near.low near.high;
-      steps = steps;
+      short_x = is.is.short_x;
+      short_y = is.is.short_y;
+      sound_x = λ c there. swap_fixed p.x q.x grid.xs.items (fixed_xs blocks die) of.xs.sound c (is.xs.sound c there).0;
+      sound_y = λ c there. swap_fixed p.y q.y grid.ys.items (fixed_ys blocks die) of.ys.sound c (is.ys.sound c there).0;
+      convex_x = λ a b c at_a at_b lo hi there.
+          convex_lines (p.x ∷ q.x ∷ grid.xs.items) window.xs.items frame.low.x frame.high.x is.xs a b c at_a at_b lo hi
+          (swap_fixed p.x q.x (fixed_xs blocks die) grid.xs.items of.xs.complete c there);
+      convex_y = λ a b c at_a at_b lo hi there.
+          convex_lines (p.y ∷ q.y ∷ grid.ys.items) window.ys.items frame.low.y frame.high.y is.ys a b c at_a at_b lo hi
+          (swap_fixed p.y q.y (fixed_ys blocks die) grid.ys.items of.ys.complete c there);
+      steps = is.steps;
       valid = valid;
     }
 
@@ -189,11 +194,11 @@ same_between a b a' b' low high low' high' fixed fixed' lines lines' are e f g h
     (subst (λ (x : ℤ). AreLinesBetween (a ∷ b ∷ fixed) low x lines') k
     (subst (λ (xs : List ℤ). AreLinesBetween (a ∷ b ∷ fixed) low high xs) l are)))))
 
-pub first_between : (a b : ℤ) (fixed lines : List ℤ) → AreLinesBetween (a ∷ b ∷ fixed) (neg_ℤ (pos (2 ^ 41))) (pos (2 ^ 41)) lines → IsNear a → Contains lines a
-first_between a b fixed lines are near = are.complete a (Contains-first a (b ∷ fixed)) near.low near.high
+pub first_between : (a b low high : ℤ) (fixed lines : List ℤ) → AreLinesBetween (a ∷ b ∷ fixed) low high lines → low ≤ℤ a → a ≤ℤ high → Contains lines a
+first_between a b low high fixed lines are lo hi = are.complete a (Contains-first a (b ∷ fixed)) lo hi
 
-pub second_between : (a b : ℤ) (fixed lines : List ℤ) → AreLinesBetween (a ∷ b ∷ fixed) (neg_ℤ (pos (2 ^ 41))) (pos (2 ^ 41)) lines → IsNear b → Contains lines b
-second_between a b fixed lines are near = are.complete b (Contains-later a (b ∷ fixed) b (Contains-first b fixed)) near.low near.high
+pub second_between : (a b low high : ℤ) (fixed lines : List ℤ) → AreLinesBetween (a ∷ b ∷ fixed) low high lines → low ≤ℤ b → b ≤ℤ high → Contains lines b
+second_between a b low high fixed lines are lo hi = are.complete b (Contains-later a (b ∷ fixed) b (Contains-first b fixed)) lo hi
 
 pub few_more : (a b : ℤ) (lines : List ℤ) → length lines ≤ 130 → length (a ∷ b ∷ lines) ≤ 132
 few_more a b lines le = omega arith

@@ -15,6 +15,8 @@ pub mod Ahead
 pub mod WaysDown
 pub mod Steps
 pub mod Cells
+pub mod Edges
+pub mod Frames
 pub mod Falls
 pub mod Sweeps
 pub mod Insertions

@@ -1,5 +1,5 @@
--- The labels of a search over a whole grid tell its route, or that its ends are cut.
-use Rattle.std.proofs.Common.{◌≡◌, ℕ, ◌+◌, ◌*◌, ◌/◌, ◌%◌, ◌<◌, ◌≤◌, inl, inr, ℤ, ◌<ℤ◌, List, length, slice_index, refl, sym, ap, ◌∙◌, subst, arith}
+-- The setting of a search in a window of a grid: its steps and the joined points of the grid.
+use Rattle.std.proofs.Common.{◌≡◌, ℕ, ◌+◌, ◌*◌, ◌/◌, ◌%◌, ◌<◌, ◌≤◌, inl, inr, ℤ, ◌≤ℤ◌, ◌<ℤ◌, List, length, slice_index, refl, sym, ap, ◌∙◌, subst, arith}
 use Rattle.std.specs.List.{Contains}
 use Rattle.std.proofs.lemmas.Int.{ints}
 use Rattle.std.proofs.Math.Nat.{mul-le-mul_left}
@@ -25,15 +25,15 @@ use Rattle.cts_route.proofs.Labels.{opposite, step_back}
 use Rattle.cts_route.proofs.Steps.{point_at-x, point_at-y, east_parts, north_parts, north_inside, IsEastOf, IsNorthOf, east_of, north_of}
 use Rattle.cts_route.proofs.Unique.{by_order, ahead-apart}
 
--- ---- the setting: the graph has the lines and walls of a grid
+-- ---- the setting: the graph has the walls of a grid, and those of its lines that lie between two bounds
 pub record IsSearch (blocks : List Block) (lines : Lines) (walls : List Wall) (xs ys : List ℤ) (graph : Graph) (goal : ℕ) (labels : List ℕ) : Type 0 where
   pub walls_of : AreWallsOf blocks walls
   pub short_x : AreShortLines xs
   pub short_y : AreShortLines ys
   pub sound_x : (c : ℤ) → Contains xs c → Contains lines.xs c
   pub sound_y : (c : ℤ) → Contains ys c → Contains lines.ys c
-  pub complete_x : (c : ℤ) → Contains lines.xs c → Contains xs c
-  pub complete_y : (c : ℤ) → Contains lines.ys c → Contains ys c
+  pub convex_x : (a b c : ℤ) → Contains xs a → Contains xs b → a ≤ℤ c → c ≤ℤ b → Contains lines.xs c → Contains xs c
+  pub convex_y : (a b c : ℤ) → Contains ys a → Contains ys b → a ≤ℤ c → c ≤ℤ b → Contains lines.ys c → Contains ys c
   pub steps : IsGraphOf walls xs ys graph
   pub valid : AreLabels graph goal labels
 
@@ -129,11 +129,10 @@ grid_point blocks lines walls xs ys graph goal labels search c inside =
           (search.sound_y (line_at ys (c % length ys)) (contains_at ys (c % length ys) (row_inside c (length xs) (length ys) inside)));
     }
 
-pub stands_on_grid : (blocks : List Block) (lines : Lines) (walls : List Wall) (xs ys : List ℤ) (graph : Graph) (goal : ℕ) (labels : List ℕ)
-    → IsSearch blocks lines walls xs ys graph goal labels → (p : Half) → IsGridPoint lines p → (c : ℕ) × Stands xs ys p c
-stands_on_grid blocks lines walls xs ys graph goal labels search p on =
-    let k : (k : ℕ) × ((k < length xs) × (line_at xs k ≡ p.x)) = number_of xs p.x (search.complete_x p.x on.x) in
-    let l : (l : ℕ) × ((l < length ys) × (line_at ys l ≡ p.y)) = number_of ys p.y (search.complete_y p.y on.y) in
+pub stands_on : (xs ys : List ℤ) (p : Half) → Contains xs p.x → Contains ys p.y → (c : ℕ) × Stands xs ys p c
+stands_on xs ys p on_x on_y =
+    let k : (k : ℕ) × ((k < length xs) × (line_at xs k ≡ p.x)) = number_of xs p.x on_x in
+    let l : (l : ℕ) × ((l < length ys) × (line_at ys l ≡ p.y)) = number_of ys p.y on_y in
     let parts : ((k.0 * length ys + l.0) / length ys ≡ k.0) × ((k.0 * length ys + l.0) % length ys ≡ l.0) =
     cell_is (k.0 * length ys + l.0) k.0 l.0 (length ys) l.1.0 refl in (
       k.0 * length ys + l.0,
@@ -167,8 +166,11 @@ east_joined blocks lines walls xs ys graph goal labels search c n len step =
         next = grid_point blocks lines walls xs ys graph goal labels search n n_in;
         ahead = (a.less, a.level);
         nearest = λ r on after before.
-            none_between_next xs (c / h) r.x search.short_x.ascending column (search.complete_x r.x on.x)
-            (subst (λ (z : ℤ). z <ℤ r.x) (point_at-x xs ys c) after.0) (subst (λ (z : ℤ). r.x <ℤ z) next_x before.0);
+            let low : line_at xs (c / h) <ℤ r.x = subst (λ (z : ℤ). z <ℤ r.x) (point_at-x xs ys c) after.0 in
+            let high : r.x <ℤ line_at xs (c / h + 1) = subst (λ (z : ℤ). r.x <ℤ z) next_x before.0 in
+            none_between_next xs (c / h) r.x search.short_x.ascending column
+            (search.convex_x (line_at xs (c / h)) (line_at xs (c / h + 1)) r.x (contains_at xs (c / h) (omega arith)) (contains_at xs (c / h + 1) column)
+            (omega (arith, ints)) (omega (arith, ints)) on.x) low high;
         clear = clear_from_misses blocks walls (point_at xs ys c) (point_at xs ys n) search.walls_of misses;
       },
       step.is.whole misses,
@@ -191,8 +193,11 @@ north_joined blocks lines walls xs ys graph goal labels search c n len step =
         next = grid_point blocks lines walls xs ys graph goal labels search n n_in;
         ahead = (a.level, a.less);
         nearest = λ r on after before.
-            none_between_next ys (c % h) r.y search.short_y.ascending step.row (search.complete_y r.y on.y)
-            (subst (λ (z : ℤ). z <ℤ r.y) (point_at-y xs ys c) after.1) (subst (λ (z : ℤ). r.y <ℤ z) next_y before.1);
+            let low : line_at ys (c % h) <ℤ r.y = subst (λ (z : ℤ). z <ℤ r.y) (point_at-y xs ys c) after.1 in
+            let high : r.y <ℤ line_at ys (c % h + 1) = subst (λ (z : ℤ). r.y <ℤ z) next_y before.1 in
+            none_between_next ys (c % h) r.y search.short_y.ascending step.row
+            (search.convex_y (line_at ys (c % h)) (line_at ys (c % h + 1)) r.y (contains_at ys (c % h) (let row = step.row in omega (arith, row))) (contains_at ys (c % h + 1) step.row)
+            (omega (arith, ints)) (omega (arith, ints)) on.y) low high;
         clear = clear_from_misses blocks walls (point_at xs ys c) (point_at xs ys n) search.walls_of misses;
       },
       step.is.whole misses,
@@ -218,10 +223,10 @@ step_joined blocks lines walls xs ys graph goal labels search South c n len step
     (joined_back blocks lines North (point_at xs ys n) (point_at xs ys c) j.0, j.1 ∙ manhattan-back (point_at xs ys n) (point_at xs ys c))
 
 -- ---- joined points are a step of the graph apart
-stands-x : (xs ys : List ℤ) (p : Half) (c : ℕ) → Stands xs ys p c → line_at xs (c / length ys) ≡ p.x
+pub stands-x : (xs ys : List ℤ) (p : Half) (c : ℕ) → Stands xs ys p c → line_at xs (c / length ys) ≡ p.x
 stands-x xs ys p c stands = sym (point_at-x xs ys c) ∙ ap (λ (r : Half). r.x) stands.at
 
-stands-y : (xs ys : List ℤ) (p : Half) (c : ℕ) → Stands xs ys p c → line_at ys (c % length ys) ≡ p.y
+pub stands-y : (xs ys : List ℤ) (p : Half) (c : ℕ) → Stands xs ys p c → line_at ys (c % length ys) ≡ p.y
 stands-y xs ys p c stands = sym (point_at-y xs ys c) ∙ ap (λ (r : Half). r.y) stands.at
 
 joined_east : (blocks : List Block) (lines : Lines) (walls : List Wall) (xs ys : List ℤ) (graph : Graph) (goal : ℕ) (labels : List ℕ)

@@ -84,7 +84,7 @@ pub fn gather_between(
 }
 
 /// The corners of the box of a segment.
-fn span(p: Half, q: Half) -> (Half, Half)
+pub fn span(p: Half, q: Half) -> (Half, Half)
     ensures { IsSpan p q result.0 result.1 }
 {
     let low = Half {

@@ -1,6 +1,6 @@
 //! What is prepared once for a die with blocks, and the routes on it.
 
-ghost use Rattle.std.specs.Prelude.{◌≡◌, ◌≤◌, List, length, Contains, IfOk, IsErr};
+ghost use Rattle.std.specs.Prelude.{◌≡◌, ◌≤◌, List, length, Contains, IfOk, IsErr, IfSome};
 ghost use Rattle.cts_geom.specs.declared.bounds.Die.{Die};
 ghost use Rattle.cts_geom.specs.Points.{IsSpotInRange, point_of};
 ghost use Rattle.cts_block.specs.declared.blocks.Block.{Block};
@@ -9,15 +9,15 @@ ghost use Rattle.cts_route.specs.Laws.{RunsAlongXFirst};
 ghost use Rattle.cts_route.specs.Limits.{IsDieInRange, AreBlocksInRange};
 ghost use Rattle.cts_route.specs.LineLists.{IsNumberOf};
 ghost use Rattle.cts_route.specs.Routes.{IsRoute, IsCut};
-ghost use Rattle.cts_route.specs.WindowOf.{IsWindowOf};
+ghost use Rattle.cts_route.specs.WindowOf.{IsFrameOf, IsWindowOf, IsView};
 ghost use Rattle.cts_route.specs.Windows.{Stands};
 
 use crate::clear::{is_clear, walls_of};
 use crate::end::RouteEnd;
-use crate::graph::Graph;
+use crate::frame::Frame;
 use crate::lines::{fixed_xs, fixed_ys, lines_between};
-use crate::table::{Table, UNREACHED};
-use crate::walk::corners_down;
+use crate::table::Table;
+use crate::view::{View, Window};
 use crate::wall::Wall;
 use crate::window::graph_of;
 use cts_block::Block;
@@ -25,8 +25,8 @@ use cts_geom::{Die, Half, Spot, distance, halves};
 use cts_tree::{Corners, Route};
 use std::alloc::{AllocError, Global};
 
-/// No line is further than this from 0, in half nm.
-const FAR: i64 = 1 << 41;
+/// How many lines each widening of a window passes over.
+const SKIPPED: [usize; 7] = [2, 4, 8, 16, 32, 64, 128];
 
 /// What the routes among the blocks of a die share: the walls, and the lines that every grid has.
 #[derive(Drop)]
@@ -84,14 +84,6 @@ fn along_x_first(from: Spot, to: Spot) -> Route
     }
 }
 
-/// The grid of two points.
-#[derive(Drop)]
-struct Window {
-    xs: Vec<i64>,
-    ys: Vec<i64>,
-    graph: Graph,
-}
-
 impl Grid {
     /// Prepares the routes among these blocks. Takes at most 64 blocks of kind `All`, a die with x1 ≤ x2
     /// and y1 ≤ y2, and coordinates of at most 2^40 nm in size.
@@ -108,21 +100,98 @@ impl Grid {
         })
     }
 
-    /// The whole grid of two points.
-    fn window(&self, alloc: Global, from: Spot, to: Spot) -> Result<Window, AllocError>
+    /// The part of the grid of two points that lies in a frame.
+    fn window(
+        &self,
+        alloc: Global,
+        from: Spot,
+        to: Spot,
+        frame: &Frame,
+    ) -> Result<Window, AllocError>
         requires grid { IsGrid self.now }
         requires from { IsSpotInRange from }
         requires to { IsSpotInRange to }
-        ensures { IfOk result (IsWindowOf self.now from to) }
+        requires frame { IsFrameOf from to frame.now }
+        ensures { IfOk result (IsWindowOf self.now from to frame.now) }
     {
         let (start, goal) = (halves(from), halves(to));
-        let xs = lines_between(alloc, self.xs.as_slice(), (start.x, goal.x), (-FAR, FAR))?;
-        let ys = lines_between(alloc, self.ys.as_slice(), (start.y, goal.y), (-FAR, FAR))?;
+        let (low, high) = (frame.low, frame.high);
+        let xs = lines_between(
+            alloc,
+            self.xs.as_slice(),
+            (start.x, goal.x),
+            (low.x, high.x),
+        )?;
+        let ys = lines_between(
+            alloc,
+            self.ys.as_slice(),
+            (start.y, goal.y),
+            (low.y, high.y),
+        )?;
         let graph = graph_of(alloc, self.walls.as_slice(), xs.as_slice(), ys.as_slice())?;
         Ok(Window { xs, ys, graph })
     }
 
-    /// The route by a search over the grid, as far as the two points are apart.
+    /// The search between two points in a frame.
+    fn view(&self, alloc: Global, from: Spot, to: Spot, frame: &Frame) -> Result<View, AllocError>
+        requires grid { IsGrid self.now }
+        requires from { IsSpotInRange from }
+        requires to { IsSpotInRange to }
+        requires frame { IsFrameOf from to frame.now }
+        ensures { IfOk result (IsView self.now from to frame.now) }
+    {
+        let window = self.window(alloc, from, to, frame)?;
+        let (xs, ys) = (window.xs.as_slice(), window.ys.as_slice());
+        let start = cell_of(xs, ys, halves(from));
+        let goal = cell_of(xs, ys, halves(to));
+        let table = Table::find(alloc, &window.graph, start, goal)?;
+        Ok(View {
+            window,
+            table,
+            start,
+        })
+    }
+
+    /// The route by a search in a frame, if no shorter path leaves it, and else a wider frame.
+    fn search_in(
+        &self,
+        alloc: Global,
+        from: Spot,
+        to: Spot,
+        frame: &mut Frame,
+        skipped: usize,
+    ) -> Result<Option<Route>, RouteEnd>
+        requires grid { IsGrid self.now }
+        requires from { IsSpotInRange from }
+        requires to { IsSpotInRange to }
+        requires frame { IsFrameOf from to frame.old }
+        ensures frame { IsFrameOf from to frame.new }
+        ensures route { IfOk result (λ found. IfSome found (IsRouteOn self.now from to)) }
+        ensures cut { result ≡ Err RouteEnd.Cut → IsCutOn self.now from to }
+    {
+        let view = self.view(alloc, from, to, frame)?;
+        let open = view.open_sides(frame);
+        if open.are_none() {
+            return Ok(Some(view.route(alloc)?));
+        }
+        *frame = frame.widened(self.xs.as_slice(), self.ys.as_slice(), open, skipped);
+        Ok(None)
+    }
+
+    /// The route by a search over the whole grid.
+    fn search_all(&self, alloc: Global, from: Spot, to: Spot) -> Result<Route, RouteEnd>
+        requires grid { IsGrid self.now }
+        requires from { IsSpotInRange from }
+        requires to { IsSpotInRange to }
+        ensures route { IfOk result (IsRouteOn self.now from to) }
+        ensures cut { result ≡ Err RouteEnd.Cut → IsCutOn self.now from to }
+    {
+        let view = self.view(alloc, from, to, &Frame::whole())?;
+        view.route(alloc)
+    }
+
+    /// The route by searches in windows, each wider than the one before where a path through its edge
+    /// might be shorter.
     fn search(&self, alloc: Global, from: Spot, to: Spot) -> Result<Route, RouteEnd>
         requires grid { IsGrid self.now }
         requires from { IsSpotInRange from }
@@ -130,20 +199,13 @@ impl Grid {
         ensures route { IfOk result (IsRouteOn self.now from to) }
         ensures cut { result ≡ Err RouteEnd.Cut → IsCutOn self.now from to }
     {
-        let window = self.window(alloc, from, to)?;
-        let (xs, ys) = (window.xs.as_slice(), window.ys.as_slice());
-        let start = cell_of(xs, ys, halves(from));
-        let goal = cell_of(xs, ys, halves(to));
-        let table = Table::find(alloc, &window.graph, start, goal)?;
-        let label = table.labels[start];
-        if label == UNREACHED {
-            return Err(RouteEnd::Cut);
+        let mut frame = Frame::around(from, to);
+        'windows: for skipped in SKIPPED {
+            if let Some(route) = self.search_in(alloc, from, to, &mut frame, skipped)? {
+                return Ok(route);
+            }
         }
-        let corners = corners_down(alloc, xs, ys, &window.graph, &table, start)?;
-        Ok(Route {
-            corners: Corners::of(corners),
-            length: label / 2,
-        })
+        self.search_all(alloc, from, to)
     }
 
     /// The route between two points among the blocks of this grid, as [`route`] tells it.

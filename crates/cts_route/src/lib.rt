@@ -15,11 +15,13 @@
 mod clear;
 mod direction;
 mod end;
+mod frame;
 mod graph;
 mod grid;
 pub mod laws;
 mod lines;
 mod table;
+mod view;
 mod walk;
 mod wall;
 mod walls;
