@@ -1,5 +1,5 @@
 -- The edges of a window: where the grid goes on past them, and why no shorter path does where they are shut.
-use Rattle.std.proofs.Common.{◌≡◌, false, ℕ, zero, suc, ◌+◌, ◌-◌, ◌/◌, ◌%◌, ◌^◌, ◌<◌, ◌≤◌, inl, inr, ℤ, pos, neg_ℤ, ◌≤ℤ◌, ◌<ℤ◌, List, ◌∷◌, length, slice_index, refl, sym, ap, ◌∙◌, subst, arith}
+use Rattle.std.proofs.Common.{◌≡◌, false, ℕ, zero, suc, ◌+◌, ◌-◌, ◌*◌, ◌/◌, ◌%◌, ◌/◌, ◌%◌, ◌^◌, ◌<◌, ◌≤◌, inl, inr, ℤ, pos, neg_ℤ, ◌≤ℤ◌, ◌<ℤ◌, List, ◌∷◌, length, slice_index, refl, sym, ap, ◌∙◌, subst, arith}
 use Rattle.std.specs.Prelude.{nat_lt}
 use Rattle.std.specs.List.{Contains}
 use Rattle.std.proofs.lemmas.Bool.{ltb-false}
@@ -14,18 +14,19 @@ use Rattle.cts_route.specs.declared.direction.Direction.{Direction}
 use Rattle.cts_route.specs.declared.direction.Direction.TheVariants.{East, West, North, South}
 use Rattle.cts_route.specs.declared.frame.Frame.{Frame}
 use Rattle.cts_route.specs.declared.grid.Grid.{Grid}
+use Rattle.cts_route.specs.declared.view.Edge.{Edge}
 use Rattle.cts_route.specs.declared.view.View.{View}
 use Rattle.cts_route.specs.Grid.{fixed_xs, fixed_ys, Lines, lines_of, IsJoined}
 use Rattle.cts_route.specs.Grids.{IsNear, IsGridOf}
 use Rattle.cts_route.specs.LineLists.{line_at, IsAscending, AreLinesBetween}
 use Rattle.cts_route.specs.Windows.{point_at, Stands, AreShortLines}
-use Rattle.cts_route.specs.WindowOf.{EndsAt, IsOutermost, IsSearched, IsNoDetour, IsDone}
-use Rattle.cts_route.proofs.Cells.{column_inside, row_inside}
+use Rattle.cts_route.specs.WindowOf.{EndsAt, IsOutermost, IsEdge, IsShutTo, IsSearched, IsNoDetour, IsDone}
+use Rattle.cts_route.proofs.Cells.{cell_parts, column_inside, row_inside}
 use Rattle.cts_route.proofs.Found.{IsClosed, IsSealed}
 use Rattle.cts_route.proofs.GridLines.{swap_fixed, near_all, near_point-x, near_point-y, search_of}
 use Rattle.cts_route.proofs.Insertions.{contains_at}
 use Rattle.cts_route.proofs.Labels.{opposite, sum_short}
-use Rattle.cts_route.proofs.Searches.{IsSearch, stands_on, stands-x, stands-y}
+use Rattle.cts_route.proofs.Searches.{IsSearch, column_end, stands_on, stands-x, stands-y}
 use Rattle.cts_route.proofs.Unique.{by_order}
 
 -- ---- the outermost of some lines
@@ -353,6 +354,78 @@ at_most_over view c p q x y found label less at_p at_q far_x far_y e f g le =
 pub read_point : (c : ℕ) (p : Half) (xs ys xs' ys' : List ℤ) → p ≡ point_at xs ys c → xs ≡ xs' → ys ≡ ys' → p ≡ point_at xs' ys' c
 read_point c p xs ys xs' ys' at e f = at ∙ ap (λ (ls : List ℤ). point_at ls ys c) e ∙ ap (λ (ls : List ℤ). point_at xs' ls c) f
 
-pub outermost_as : (w h w' h' : ℕ) (d : Direction) (c : ℕ) → w' ≡ w → h' ≡ h → IsOutermost w h d c → IsOutermost w' h' d c
-outermost_as w h w' h' d c e f outer =
-    subst (λ (n : ℕ). IsOutermost n h' d c) (sym e) (subst (λ (n : ℕ). IsOutermost w n d c) (sym f) outer)
+-- ---- the points of an edge by number
+pub east_edge : (w h : ℕ) (d : Direction) → 0 < w → d ≡ East → IsEdge w h d (record { first = (w - 1) * h; step = 1; count = h })
+east_edge w h d some e =
+    subst (λ (f : Direction). IsEdge w h f (record { first = (w - 1) * h; step = 1; count = h })) (sym e)
+    (record {
+      inside = λ k lt. let lt' = column_end (w - 1) k w h (omega arith) lt in omega (arith, lt');
+      all = λ c inside outer.
+          let parts = cell_parts c h (column_inside c w h inside).0 in
+          let column : (c / h) * h ≡ (w - 1) * h = ap (λ (n : ℕ). n * h) (before (c / h) w outer) in
+          (c % h, (parts.1, (let at = parts.0 in omega (arith, at, column))));
+    })
+  where
+    before : (n w : ℕ) → n + 1 ≡ w → n ≡ w - 1
+    before n w e = omega arith
+
+pub west_edge : (w h : ℕ) (d : Direction) → 0 < w → d ≡ West → IsEdge w h d (record { first = 0; step = 1; count = h })
+west_edge w h d some e =
+    subst (λ (f : Direction). IsEdge w h f (record { first = 0; step = 1; count = h })) (sym e)
+    (record {
+      inside = λ k lt. let lt' = column_end 0 k w h some lt in omega (arith, lt');
+      all = λ c inside outer.
+          let parts = cell_parts c h (column_inside c w h inside).0 in
+          let column : (c / h) * h ≡ 0 * h = ap (λ (n : ℕ). n * h) outer in
+          (c % h, (parts.1, (let at = parts.0 in omega (arith, at, column))));
+    })
+
+pub north_edge : (w h : ℕ) (d : Direction) → 0 < h → d ≡ North → IsEdge w h d (record { first = h - 1; step = h; count = w })
+north_edge w h d some e =
+    subst (λ (f : Direction). IsEdge w h f (record { first = h - 1; step = h; count = w })) (sym e)
+    (record {
+      inside = λ k lt. let lt' = column_end k (h - 1) w h lt (omega arith) in omega (arith, lt');
+      all = λ c inside outer.
+          let parts = cell_parts c h (column_inside c w h inside).0 in
+          (c / h, ((column_inside c w h inside).1, (let at = parts.0 in omega (arith, at, outer))));
+    })
+
+pub south_edge : (w h : ℕ) (d : Direction) → 0 < h → d ≡ South → IsEdge w h d (record { first = 0; step = h; count = w })
+south_edge w h d some e =
+    subst (λ (f : Direction). IsEdge w h f (record { first = 0; step = h; count = w })) (sym e)
+    (record {
+      inside = λ k lt. let lt' = column_end k 0 w h lt some in omega (arith, lt');
+      all = λ c inside outer.
+          let parts = cell_parts c h (column_inside c w h inside).0 in
+          (c / h, ((column_inside c w h inside).1, (let at = parts.0 in omega (arith, at, outer))));
+    })
+
+-- a window has lines along both axes
+pub some_lines : (view : View) → IsSearched view → (0 < length view.window.xs.items) × (0 < length view.window.ys.items)
+some_lines view searched =
+    let start_in : view.start < length view.window.xs.items * length view.window.ys.items =
+    (let a = searched.start_inside in let b = searched.valid.size in let e = searched.window.cells in omega (arith, a, b, e)) in
+    let inside = column_inside view.start (length view.window.xs.items) (length view.window.ys.items) start_in in
+    (let lt = inside.1 in omega (arith, lt), inside.0)
+
+pub edge_shut : (frame : Frame) (view : View) (d : Direction) (w h : ℕ) (edge : Edge) → IsSearched view → w ≡ length view.window.xs.items → h ≡ length view.window.ys.items
+    → IsEdge w h d edge → ((k : ℕ) → k < edge.count → IsNoDetour view (edge.first + k * edge.step)) → IsShutTo frame view d
+edge_shut frame view d w h edge searched e f is all =
+    let here : IsEdge (length view.window.xs.items) (length view.window.ys.items) d edge =
+    subst (λ (n : ℕ). IsEdge n (length view.window.ys.items) d edge) e (subst (λ (n : ℕ). IsEdge w n d edge) f is) in
+    record {
+      either = inr (λ c inside outer.
+          let k = here.all c (let a = searched.valid.size in let b = searched.window.cells in omega (arith, inside, a, b)) outer in
+          subst (IsNoDetour view) (sym k.1.1) (all k.0 k.1.0));
+    }
+
+-- a point of an edge is one of the window, and its number is small
+pub edge_inside : (view : View) (d : Direction) (w h k : ℕ) (edge : Edge) → IsSearched view → w ≡ length view.window.xs.items → h ≡ length view.window.ys.items
+    → IsEdge w h d edge → k < edge.count → (edge.first + k * edge.step < length view.table.labels.items) × (edge.first + k * edge.step < 2 ^ 18)
+edge_inside view d w h k edge searched e f is lt =
+    let a = searched.valid.size in
+    let b = searched.window.cells in
+    let g = searched.window.graph.size in
+    let size : w * h ≡ length view.window.xs.items * length view.window.ys.items = ap (λ (n : ℕ). n * h) e ∙ ap (λ (n : ℕ). length view.window.xs.items * n) f in
+    let inside = is.inside k lt in
+    (omega (arith, a, b, size, inside), omega (arith, a, b, g, size, inside))

@@ -10,6 +10,7 @@ use Rattle.cts_route.specs.declared.direction.Direction.TheVariants.{East, West,
 use Rattle.cts_route.specs.declared.frame.Frame.{Frame}
 use Rattle.cts_route.specs.declared.frame.Sides.{Sides}
 use Rattle.cts_route.specs.declared.grid.Grid.{Grid}
+use Rattle.cts_route.specs.declared.view.Edge.{Edge}
 use Rattle.cts_route.specs.declared.view.View.{View}
 use Rattle.cts_route.specs.declared.view.Window.{Window}
 use Rattle.cts_route.specs.LineLists.{AreLinesBetween}
@@ -94,6 +95,11 @@ IsOutermost w h East c = c / h + 1 ≡ w
 IsOutermost w h West c = c / h ≡ 0
 IsOutermost w h North c = c % h + 1 ≡ h
 IsOutermost w h South c = c % h ≡ 0
+
+-- the edge has the numbers of all points of the outermost line on this side
+pub record IsEdge (w h : ℕ) (direction : Direction) (edge : Edge) : Type 0 where
+  pub inside : (k : ℕ) → k < edge.count → edge.first + k * edge.step < w * h
+  pub all : (c : ℕ) → c < w * h → IsOutermost w h direction c → (k : ℕ) × ((k < edge.count) × (c ≡ edge.first + k * edge.step))
 
 -- a path over this point is no shorter than the one that was found
 pub record IsNoDetour (view : View) (c : ℕ) : Type 0 where

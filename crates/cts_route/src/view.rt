@@ -1,12 +1,12 @@
 //! What a search in a window of the grid sees.
 
-ghost use Rattle.std.specs.Prelude.{◌≡◌, ◌↔◌, ◌*◌, ◌<◌, ◌≤◌, IsTrue, vec_len, IfOk};
+ghost use Rattle.std.specs.Prelude.{◌≡◌, ◌<◌, ◌≤◌, vec_len, IfOk};
 ghost use Rattle.std.specs.Bool.{OnFalse};
 ghost use Rattle.cts_geom.specs.declared.points.Spot.{Spot};
 ghost use Rattle.cts_route.specs.declared.grid.Grid.{Grid};
 ghost use Rattle.cts_route.specs.declared.frame.Frame.{Frame};
 ghost use Rattle.cts_route.specs.Grids.{IsRouteOn, IsCutOn};
-ghost use Rattle.cts_route.specs.WindowOf.{IsSearched, IsNoDetour, IsOutermost, IsShutTo, AreOpenSides, IsDone};
+ghost use Rattle.cts_route.specs.WindowOf.{IsSearched, IsNoDetour, IsEdge, IsShutTo, AreOpenSides, IsDone};
 
 use crate::direction::Direction;
 use crate::end::RouteEnd;
@@ -34,19 +34,27 @@ pub struct View {
     pub start: usize,
 }
 
-/// Whether a point is on the outermost line on a side, in columns of this many points.
-fn is_outermost(columns: usize, height: usize, direction: Direction, cell: usize) -> bool
-    requires cell { cell < columns * height }
-    requires columns { columns ≤ 132 }
-    requires height { height ≤ 132 }
-    ensures { IsTrue result ↔ IsOutermost columns height direction cell }
+/// The points of a line by number: so many from the first one on, the same step apart.
+#[derive(Clone, Copy)]
+struct Edge {
+    first: usize,
+    step: usize,
+    count: usize,
+}
+
+/// The outermost line on a side, in columns of this many points.
+fn edge_of(columns: usize, height: usize, direction: Direction) -> Edge
+    requires columns { (0 < columns) × (columns ≤ 132) }
+    requires height { (0 < height) × (height ≤ 132) }
+    ensures { IsEdge columns height direction result }
 {
-    match direction {
-        Direction::East => cell / height + 1 == columns,
-        Direction::West => cell / height == 0,
-        Direction::North => cell % height + 1 == height,
-        Direction::South => cell % height == 0,
-    }
+    let (first, step, count) = match direction {
+        Direction::East => ((columns - 1) * height, 1, height),
+        Direction::West => (0, 1, height),
+        Direction::North => (height - 1, height, columns),
+        Direction::South => (0, height, columns),
+    };
+    Edge { first, step, count }
 }
 
 impl View {
@@ -70,9 +78,9 @@ impl View {
         if frame.ends_at(direction) {
             return false;
         }
-        let (columns, height) = (self.window.xs.len(), self.window.ys.len());
-        for cell in 0..self.table.labels.len() {
-            if is_outermost(columns, height, direction, cell) && self.leads_out(cell) {
+        let edge = edge_of(self.window.xs.len(), self.window.ys.len(), direction);
+        for k in 0..edge.count {
+            if self.leads_out(edge.first + k * edge.step) {
                 return true;
             }
         }

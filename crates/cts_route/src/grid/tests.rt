@@ -1,4 +1,4 @@
-//! Routes around a block and with one bend, and a pocket that no route leads into.
+//! Routes around blocks and with one bend, and a pocket that no route leads into.
 
 ghost use Rattle.cts_route.specs.Limits.{IsBlockInRange};
 
@@ -45,6 +45,45 @@ fn goes_round_a_block(rt: HostRuntime) -> Result<(), Fail> {
     let two = [wall(4, 2, 6, 9), wall(4, 0, 6, 2)];
     let found = route(rt.alloc(), &two, &DIE, from, to)?;
     assert_eq!(rt; found.length, 16_000);
+    assert_eq!(rt; found.corners.items(), corners.as_slice());
+    Ok(())
+}
+
+#[test]
+fn looks_past_the_first_windows(rt: HostRuntime) -> Result<(), Fail> {
+    // Between two walls, of which one leaves a gap at the top and one at the bottom: along the die's edge.
+    let two = [wall(4, 0, 5, 18), wall(8, 2, 9, 20)];
+    let found = route(
+        rt.alloc(),
+        &two,
+        &DIE,
+        spot_of(2_000, 5_000),
+        spot_of(12_000, 5_000),
+    )?;
+    assert_eq!(rt; found.length, 20_000);
+    let corners = [half(8_000, 10_000), half(8_000, 0), half(24_000, 0)];
+    assert_eq!(rt; found.corners.items(), corners.as_slice());
+    // Both ways round the first wall are as long, and the one to the north is preferred. It has more
+    // lines on its side.
+    let lines = [
+        wall(4, 1, 6, 15),
+        wall(12, 9, 13, 10),
+        wall(12, 11, 13, 12),
+        wall(12, 13, 13, 14),
+    ];
+    let found = route(
+        rt.alloc(),
+        &lines,
+        &DIE,
+        spot_of(0, 8_000),
+        spot_of(10_000, 8_000),
+    )?;
+    assert_eq!(rt; found.length, 24_000);
+    let corners = [
+        half(8_000, 16_000),
+        half(8_000, 30_000),
+        half(20_000, 30_000),
+    ];
     assert_eq!(rt; found.corners.items(), corners.as_slice());
     Ok(())
 }

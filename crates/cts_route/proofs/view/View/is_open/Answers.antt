@@ -1,22 +1,16 @@
-use Rattle.std.proofs.Common.{inr, length, below_more, arith}
-use Rattle.cts_route.specs.WindowOf.{IsNoDetour, IsOutermost}
-use Rattle.cts_route.proofs.Edges.{outermost_as}
+use Rattle.std.proofs.Common.{◌+◌, ◌*◌, below_more, arith}
+use Rattle.cts_route.specs.WindowOf.{IsNoDetour}
+use Rattle.cts_route.proofs.Edges.{edge_shut}
 use Rattle.cts_route.proofs.view.View.is_open.Goals as goal
-use Rattle.cts_route.proofs.view.View.is_open.Goals.{else-is_outermost-via-then-is_outermost+else-leads_out, else-is_outermost-via-else-is_outermost}
 
-pub loop-cell-init : goal.loop-cell-init
-loop-cell-init c = λ k lt. absurd (omega arith)
+pub loop-k-init : goal.loop-k-init
+loop-k-init c = λ k lt. absurd (omega arith)
 
-pub loop-cell-preserved : goal.loop-cell-preserved
-loop-cell-preserved c =
-    below_more (λ k. IsOutermost (length c.args.self.now.window.xs.items) (length c.args.self.now.window.ys.items) c.args.direction k → IsNoDetour c.args.self.now k)
-    c.loop-cell.cell c.loop-cell.invariant
-    (elim c.else-is_outermost.branch [
-      | else-is_outermost-via-then-is_outermost+else-leads_out w ↦ λ outer. w.if-leads_out.ensures
-      | else-is_outermost-via-else-is_outermost w ↦
-          λ outer. let is = c.is_outermost.ensures.1 (outermost_as _ _ c.len-columns.result c.len-height.result c.args.direction c.loop-cell.cell (omega arith) (omega arith) outer) in
-          let is_not = w.if-is_outermost.false in cc
-    ])
+pub loop-k-preserved : goal.loop-k-preserved
+loop-k-preserved c =
+    below_more (λ k. IsNoDetour c.args.self.now (c.edge_of-edge.result.first + k * c.edge_of-edge.result.step)) c.loop-k.k c.loop-k.invariant c.if-leads_out.ensures
 
 pub returns : goal.returns
-returns c = record { either = inr (λ k lt outer. c.loop-cell.invariant k (omega arith) outer) }
+returns c =
+    edge_shut c.args.frame.now c.args.self.now c.args.direction _ _ c.edge_of-edge.result c.requires (omega arith) (omega arith) c.edge_of-edge.ensures
+    (λ k lt. c.loop-k.invariant k (omega arith))
