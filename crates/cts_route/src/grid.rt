@@ -25,8 +25,8 @@ use cts_geom::{Die, Half, Spot, distance, halves};
 use cts_tree::{Corners, Route};
 use std::alloc::{AllocError, Global};
 
-/// How many lines each widening of a window passes over.
-const SKIPPED: [usize; 7] = [2, 4, 8, 16, 32, 64, 128];
+/// How many lines a side of a window passes over where it moves out, from one window to the next.
+const SKIPPED: [usize; 5] = [3, 9, 27, 81, 130];
 
 /// What the routes among the blocks of a die share: the walls, and the lines that every grid has.
 #[derive(Drop)]

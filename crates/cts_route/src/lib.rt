@@ -9,7 +9,8 @@
 //!
 //! Below the calls stand the walls and the clear segments (`clear`), the lines (`lines`), the numbered
 //! points of a grid with the lengths of their steps (`window`, `graph`), the labels of a search
-//! (`table`) and the way down along them (`walk`).
+//! (`table`) and the way down along them (`walk`), what a search in a part of the grid sees (`view`)
+//! and how this part grows (`frame`).
 #![tactic(auto)]
 
 mod clear;
