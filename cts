@@ -114,4 +114,7 @@ build() {
 }
 
 is_current || build || exit 2
+# The lists of a run are long, so the C library may ask for them in large pages: the system then has fewer to make.
+GLIBC_TUNABLES=${GLIBC_TUNABLES-glibc.malloc.hugetlb=1}
+export GLIBC_TUNABLES
 exec "$program" "$@"
