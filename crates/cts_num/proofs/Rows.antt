@@ -4,7 +4,7 @@ use Rattle.std.specs.Prelude.{codes}
 use Rattle.cts_num.specs.declared.read.DecimalFault.TheVariants.{BadByte, Empty, TooFine, TooGreat}
 use Rattle.cts_num.specs.Decimal.{decimal_text, digits_text, fraction_text, padded_text, whole_text}
 use Rattle.cts_num.specs.Number.{digit_number}
-use Rattle.cts_num.specs.Reading.{bad_place, fine_place, reading_of}
+use Rattle.cts_num.specs.Reading.{bad_place, fine_place, front_size, reading_of}
 
 -- the number that a text is, at so many places, or its first fault
 read_1 :
@@ -48,6 +48,21 @@ read_3 :
     × (reading_of (codes "99999999999999999999999999999999999999999") 0 ≡ Err TooGreat)
 unfolding reading_of bad_place fine_place digit_number
 read_3 = (refl, refl, refl, refl, refl, refl, refl, refl, refl, refl)
+
+-- how many bytes the number in front takes, at so many places
+front_1 :
+    (front_size 3 (codes "12.5 x") ≡ 4)
+    × (front_size 3 (codes "1.23456") ≡ 5)
+    × (front_size 3 (codes "7 8") ≡ 1)
+    × (front_size 3 (codes "5.") ≡ 2)
+    × (front_size 3 (codes ".5") ≡ 0)
+    × (front_size 3 (codes "") ≡ 0)
+    × (front_size 0 (codes "12") ≡ 2)
+    × (front_size 0 (codes "4.5") ≡ 2)
+    × (front_size 3 (codes "1.2.3") ≡ 3)
+    × (front_size 6 (codes "x1") ≡ 0)
+unfolding front_size
+front_1 = (refl, refl, refl, refl, refl, refl, refl, refl, refl, refl)
 
 -- The text of a number at so many places. Longer ones are rows of `cts_cases`.
 written_1 :

@@ -2,9 +2,10 @@
 //! lowest layer.
 //!
 //! The layers above may use [`decimal`], which writes a number as its canonical decimal text,
-//! [`decimal_len`] and [`write_decimal`], which do so in place, [`read_canonical`], which reads such a text and no other, [`read_decimal`], which reads a decimal
-//! text or names the first fault in it, [`read_front`], which reads the number in front of a text, the [`laws`] that tie them, [`isqrt`] and [`floor_div`], and
-//! [`NoMemory`], to which `?` turns every failed allocation.
+//! [`decimal_len`] and [`write_decimal`], which do so in place, [`read_canonical`], which reads such a
+//! text and no other, [`read_decimal`], which reads a decimal text or names the first fault in it,
+//! [`read_front`], which reads the number in front of a text, the [`laws`] that tie them, [`isqrt`] and
+//! [`floor_div`], and [`NoMemory`], to which `?` turns every failed allocation.
 #![tactic(auto)]
 
 mod canonical;
