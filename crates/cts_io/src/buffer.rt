@@ -10,10 +10,10 @@ use crate::write::{WriteEnd, write_all};
 use cts_num::{decimal, decimal_len, write_decimal};
 use std::marker::Model;
 
-/// The bytes that a buffer holds: 8 KiB.
-const ROOM: usize = 8_192;
+/// The bytes that a buffer holds: 64 KiB.
+const ROOM: usize = 65_536;
 
-/// A buffer before a sink, for a text that comes in many pieces. The sink gets some KiB at a time,
+/// A buffer before a sink, for a text that comes in many pieces. The sink gets 64 KiB at a time,
 /// and no memory is taken.
 ///
 /// A failure of the sink is kept until `finish` tells it. After it nothing goes to the sink any
@@ -34,7 +34,7 @@ impl Model for SinkBuffer {
 
     ghost view = { λ s. record { waiting = take s.len s.bytes; written = s.written; failed = s.failed } };
 
-    ghost invariant = { λ s. s.len ≤ 8192 };
+    ghost invariant = { λ s. s.len ≤ 65536 };
 }
 
 impl SinkBuffer {
@@ -51,7 +51,7 @@ impl SinkBuffer {
     }
 
     /// Gives `piece` to the sink, now or later.
-    #[inline]
+    #[inline(always)]
     pub fn put<K: ByteSink>(&mut self, sink: &mut K, piece: &[u8])
         ensures { Puts K.held K.faults sink.old self.old sink.new self.new piece.now }
     {
@@ -123,7 +123,7 @@ impl SinkBuffer {
         requires value { value < 10 ^ 38 }
         requires places { places ≤ 16 }
         requires size { size ≡ length (decimal_text places value) }
-        requires room { length self.old.waiting + size ≤ 8192 }
+        requires room { length self.old.waiting + size ≤ 65536 }
         ensures { self.new ≡ record self.old { waiting = self.old.waiting ++ decimal_text places value } }
     {
         store_decimal(&mut self.bytes, self.len, value, places, size);
@@ -131,9 +131,9 @@ impl SinkBuffer {
     }
 
     /// Copies `piece` behind what waits.
-    #[inline]
+    #[inline(always)]
     fn keep(&mut self, piece: &[u8])
-        requires { length self.old.waiting + length piece.now ≤ 8192 }
+        requires { length self.old.waiting + length piece.now ≤ 65536 }
         ensures { self.new ≡ record self.old { waiting = self.old.waiting ++ piece.now } }
     {
         store(&mut self.bytes, self.len, piece);
@@ -194,7 +194,7 @@ fn store_decimal(bytes: &mut [u8], at: usize, value: u128, places: u32, size: us
 }
 
 /// Copies `piece` to the place `at` of `bytes`.
-#[inline]
+#[inline(always)]
 fn store(bytes: &mut [u8], at: usize, piece: &[u8])
     requires { at + length piece.now ≤ length bytes.old }
     ensures { take (at + length piece.now) bytes.new ≡ take at bytes.old ++ piece.now }
