@@ -15,46 +15,31 @@ is_current() {
     [ -x "$program" ] && [ -z "$(find "$top/crates.txt" "$top/HANDLES" "$top/crates" \( -name out -o -name must-fail \) -prune -o -type f -newer "$program" -print | head -n 1)" ]
 }
 
-# The crates that the program needs, a line for those that are proved beside each other. Each comes after the crates that
-# it stands on, and no two of a line stand on one crate, since rt works in a crate and in those below it alone.
-layers() {
+# The crates that the program needs, each after those that it stands on: its name, and the names of all of those.
+needs() {
     awk -v main="$main" '
         { sub(/#.*/, ""); at = index($0, ":"); if (!at) next
           split(substr($0, 1, at - 1), name, " "); below[name[1]] = substr($0, at + 1) }
-        function visit(crate,    words, count, i, most) {
-            if (crate in height) return
+        function visit(crate,    words, count, i, all, each, at) {
+            if (crate in seen) return
+            seen[crate] = 1
             count = split(below[crate], words, " ")
             for (i = 1; i <= count; i++) if (words[i] in below) {
                 visit(words[i])
-                if (height[words[i]] > most) most = height[words[i]]
-                needs[crate] = needs[crate] " " words[i] needs[words[i]]
+                all = all " " words[i] needs[words[i]]
             }
-            height[crate] = most + 1
-            order[++last] = crate
-            if (height[crate] > highest) highest = height[crate]
-        }
-        function shares(crate, taken,    words, count, i) {
-            count = split(needs[crate], words, " ")
-            for (i = 1; i <= count; i++) if (index(taken " ", " " words[i] " ")) return 1
-            return 0
-        }
-        END {
-            visit(main)
-            for (layer = 1; layer <= highest; layer++) {
-                lines = 0
-                for (i = 1; i <= last; i++) if (height[order[i]] == layer) {
-                    for (at = 1; at <= lines && shares(order[i], taken[at]); at++);
-                    if (at > lines) { lines = at; line[at] = taken[at] = "" }
-                    line[at] = line[at] " " order[i]
-                    taken[at] = taken[at] needs[order[i]]
-                }
-                for (at = 1; at <= lines; at++) print substr(line[at], 2)
+            count = split(all, each, " ")
+            for (i = 1; i <= count; i++) if (!(crate SUBSEP each[i] in has)) {
+                has[crate, each[i]] = 1
+                needs[crate] = needs[crate] " " each[i]
             }
+            print crate needs[crate]
         }
+        END { visit(main) }
     ' "$top/crates.txt"
 }
 
-# How many checks may run beside each other: one a processor, and one for 2 GB of memory.
+# How many crates may be proved beside each other: one a processor, and one for 2 GB of memory.
 jobs() {
     count=$(getconf _NPROCESSORS_ONLN 2>/dev/null || echo 2)
     memory=$(awk '/^MemAvailable/ { print int($2 / 2000000) }' /proc/meminfo 2>/dev/null)
@@ -63,53 +48,99 @@ jobs() {
     echo "$count"
 }
 
-# Becomes the proof of one crate, or a run of a program itself on the example.
+# Gives files and folders further names in another folder, since rt makes its files anew and never writes into them.
+link() {
+    cp -Rl "$@" 2>/dev/null || cp -R "$@"
+}
+
+# Proves one crate over those below it, which are proved, with so many jobs. An rt locks its crate and all below it, so
+# each crate has a folder of its own, with its own files and the sources and libraries of those below.
 prove() {
-    cd "$top/crates/$1" || exit 1
-    case $1 in
-    cts_main) exec rt run --jobs "$2" -- synth 1 <"$top/examples/one-sink.cts" 2>&1 >/dev/null ;;
-    cts_draw_main) exec rt run --jobs "$2" <"$top/crates/$1/stdin" 2>&1 >/dev/null ;;
-    *) exec rt lib --jobs "$2" 2>&1 ;;
+    crate=$1 jobs=$2 folder=$room/$1
+    shift 2
+    mkdir -p "$folder/crates" && cp "$top/crates.txt" "$top/HANDLES" "$folder" || return 1
+    link "$top/crates/$crate" "$folder/crates" || return 1
+    for lower; do
+        mkdir -p "$folder/crates/$lower/out" || return 1
+        for part in "$top/crates/$lower"/* "$top/crates/$lower/out/rlib"; do
+            case $part in
+            */out) ;;
+            */rlib) link "$part" "$folder/crates/$lower/out" || return 1 ;;
+            *) link "$part" "$folder/crates/$lower" || return 1 ;;
+            esac
+        done
+    done
+    (cd "$folder/crates/$crate" && exec rt lib --jobs "$jobs") || return 1
+    rm -rf "$top/crates/$crate/out" && mv "$folder/crates/$crate/out" "$top/crates/$crate" && rm -rf "$folder"
+}
+
+# Becomes the proof of the program's own crate, by a run of it on the example.
+prove_main() {
+    cd "$top/crates/$main" || exit 1
+    case $main in
+    cts_main) exec rt run --jobs "$all" -- synth 1 <"$top/examples/one-sink.cts" 2>&1 >/dev/null ;;
+    *) exec rt run --jobs "$all" <stdin 2>&1 >/dev/null ;;
     esac
 }
 
-# Proves the crates of one layer beside each other, and tells how each ended.
-prove_layer() {
-    each=$(((all + $# - 1) / $#)) started='' failed=''
-    for crate; do
-        prove "$crate" "$each" </dev/null >"$log.$crate" &
+# Whether all of some crates are proved.
+are_proved() {
+    for lower; do
+        [ -e "$room/$lower.proved" ] || return 1
+    done
+}
+
+# Begins the proof of each crate that waits for none, while there is room.
+begin_proofs() {
+    while read -r crate lower; do
+        [ "$running" -lt "$all" ] || return 0
+        [ "$crate" != "$main" ] && [ ! -e "$room/$crate.log" ] && are_proved $lower || continue
+        running=$((running + 1))
+        (
+            if prove "$crate" "$(((all + running - 1) / running))" $lower </dev/null >"$room/$crate.log" 2>&1; then
+                : >"$room/$crate.proved"
+            else
+                : >"$room/$crate.failed"
+            fi
+        ) &
         started="$started $!"
+    done <"$room/needs"
+}
+
+# Tells of the proofs that have ended.
+end_proofs() {
+    for ended in "$room"/*.proved "$room"/*.failed; do
+        crate=${ended##*/} crate=${crate%.*}
+        [ -e "$ended" ] && [ ! -e "$room/$crate.told" ] || continue
+        : >"$room/$crate.told"
+        running=$((running - 1)) done=$((done + 1))
+        case $ended in
+        *.proved) echo "$name: $done of $count: $crate is proved" >&2 ;;
+        *) failed="$failed $crate" ;;
+        esac
+        cat "$room/$crate.log" >>"$log"
     done
-    for pid in $started; do
-        wait "$pid"
-        status=$?
-        done=$((done + 1))
-        if [ "$status" -eq 0 ]; then
-            echo "$name: $done of $count: $1 is proved" >&2
-        else
-            failed="$failed $1"
-        fi
-        cat "$log.$1" >>"$log"
-        rm -f "$log.$1"
-        shift
-    done
-    [ -z "$failed" ] && return 0
-    echo "$name: not proved or built:$failed; what the prover said is in $log" >&2
-    return 1
 }
 
 build() {
     command -v rt >/dev/null || { echo "$name: the Rattle toolchain's command rt is needed to build the program" >&2; return 1; }
-    mkdir -p "${log%/*}" && : >"$log" && layers >"$log.layers" || return 1
+    room=$top/crates/$main/out/first
+    rm -rf "$room" && mkdir -p "$room" && : >"$log" && needs >"$room/needs" || return 1
+    all=$(jobs) done=0 count=$(wc -l <"$room/needs") running=0 started='' failed=''
     trap 'kill $started 2>/dev/null; exit 130' HUP INT TERM
     echo "$name: proving and building the program, once; this takes some minutes" >&2
-    all=$(jobs) done=0 count=$(wc -w <"$log.layers")
-    while read -r layer; do
-        # (a line is a list of words)
-        prove_layer $layer || { rm -f "$log.layers"; return 1; }
-    done <"$log.layers"
-    rm -f "$log.layers"
+    begin_proofs
+    while [ "$running" -gt 0 ]; do
+        sleep 0.2
+        end_proofs
+        [ -n "$failed" ] || begin_proofs
+    done
     trap - HUP INT TERM
+    if [ -z "$failed" ]; then
+        (prove_main) >>"$log" || failed=" $main"
+    fi
+    rm -rf "$room"
+    [ -z "$failed" ] || { echo "$name: not proved or built:$failed; what the prover said is in $log" >&2; return 1; }
     touch "$program"
 }
 

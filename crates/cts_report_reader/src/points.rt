@@ -4,24 +4,25 @@ ghost use Rattle.std.specs.Prelude.{◌≡◌, ℕ, ◌≤◌, pos, ◌≤ℤ◌
 ghost use Rattle.cts_report_reader.specs.Seen.{FindsIn, IsSeen, seen_half, seen_point};
 ghost use Rattle.cts_report_reader.specs.Words.{Finds, coordinate_at, corners_at, place_at, point_at, points_at};
 
-use crate::words::{after_word, bounded, labelled};
+use crate::words::{after_word, bounded};
 use cts_geom::Half;
 use cts_num::NoMemory;
 use cts_tree::Corners;
 use std::alloc::Global;
 
 // The greatest coordinate, in 10^-4 µm.
-const GREATEST: u128 = 1_000_000_000;
+const GREATEST: u64 = 1_000_000_000;
 
 /// A coordinate after a space.
-#[tactic(auto, unfolding(crate::specs::Words::coordinate_at))]
+#[tactic(auto, unfolding(crate::specs::Words::coordinate_at, crate::specs::Words::bounded_at))]
+#[inline(always)]
 fn coordinate(bytes: &[u8]) -> Option<(i64, &[u8])>
     ensures found { Finds seen_half result (coordinate_at bytes.now) }
     ensures low { IfSome result (λ found. pos 0 ≤ℤ found.0) }
     ensures high { IfSome result (λ found. found.0 ≤ℤ pos 200000000) }
 {
-    let (number, rest) = labelled(bytes, b" ", 4)?;
-    if number <= GREATEST && number % 5 == 0 {
+    let (number, rest) = bounded(bytes, b" ", 4, GREATEST)?;
+    if number % 5 == 0 {
         Some(((number / 5) as i64, rest))
     } else {
         None

@@ -29,6 +29,9 @@ pub enum Reading {
     NotText { line: u32 },
 }
 
+// A node's line has at least so many bytes.
+const SHORTEST_LINE: usize = 111;
+
 /// The nodes of a report, so many of them.
 fn nodes(
     alloc: Global,
@@ -42,7 +45,7 @@ fn nodes(
     ensures seen { IfOk result (λ found. IfOk found (λ nodes. All IsSeenNode nodes.0.items)) }
     ensures long { IfOk result (λ found. IfOk found (λ nodes. length nodes.0.items ≡ count)) }
 {
-    let mut items = Vec::new(alloc);
+    let mut items = Vec::with_capacity(alloc, (count as usize).min(bytes.len() / SHORTEST_LINE))?;
     let mut stack = Vec::new(alloc);
     let mut rest = bytes;
     for number in 0..count {

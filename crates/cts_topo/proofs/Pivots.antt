@@ -2,7 +2,8 @@
 use Rattle.std.proofs.Common.{◌≡◌, ℕ, zero, suc, ◌+◌, ◌*◌, ◌<◌, ◌≤◌, Bool, true, false, cond, not, List, [], ◌∷◌, ◌++◌, set, take, drop, length, get_or, filter, IsSortedBy, Result, Ok, Err, OnOk, refl, sym, ap, ap₂, subst, ◌∙◌, arith, append-nil}
 use Rattle.std.specs.List.{AllByRecursion}
 use Rattle.std.specs.Int.{div_ceil}
-use Rattle.std.proofs.lemmas.List.{length-take-le, take_more_set, take_all, length-set}
+use Rattle.std.proofs.lemmas.List.{length-take-le, length-drop, take_more_set, take_all, take-append-drop, take-set-le, drop-set-lt, drop-set-add, length-set}
+use lib.Seq.{take-set-lt}
 use Rattle.std.proofs.Math.Seq.{take-append_seam, drop-append_seam}
 use Rattle.std.proofs.lemmas.List.Elements.{filter_more}
 use Rattle.std.proofs.lemmas.List.Filters.{length-filter_more, length-filter_both}
@@ -240,6 +241,82 @@ module _ (passes : Pin → Bool) (pins : List Pin) where
       ap₂ (λ us vs. us ++ vs)
       (sym (take_all early front first) ∙ s.front_is ∙ ap (filter passes) whole)
       (sym (take_all late back last) ∙ s.back_is ∙ ap (filter (λ p. not (passes p))) whole)
+
+-- the first n of some pins have gone, in their order, to the two parts of a list, whose first one has just room for those that pass
+pub record PartsFilled (passes : Pin → Bool) (pins : List Pin) (n half : ℕ) (target : List Pin) (early late : ℕ) : Type 0 where
+  pub behind : ℕ
+  pub late_is : late ≡ half + behind
+  pub fits : half ≤ length target
+  pub parts : Splitting passes pins n (take half target) (drop half target) early behind
+
+module _ (passes : Pin → Bool) (pins : List Pin) (half : ℕ) where
+  pub parts_none : (target : List Pin) → length (filter passes pins) ≡ half → length target ≡ length pins
+      → PartsFilled passes pins 0 half target 0 half
+  parts_none target count room =
+      let fits : half ≤ length target = omega (arith, count, room, halves_fit passes pins) in
+      record {
+        behind = 0;
+        late_is = omega arith;
+        fits = fits;
+        parts = splitting_none passes pins (take half target) (drop half target)
+            (length-take-le half target fits ∙ sym count)
+            (omega (arith, length-take-le half target fits, length-drop half target, fits, room));
+      }
+
+  module _ (n : ℕ) (d : Pin) (h : n < length pins) (target : List Pin) (early late : ℕ)
+      (filled : PartsFilled passes pins n half target early late) where
+    room_before : passes (get_or pins n d) ≡ true → early < half
+    room_before e =
+        omega (
+          arith,
+          length-take-le half target filled.fits,
+          room_early passes pins n d h (take half target) (drop half target) early filled.behind filled.parts e,
+        )
+
+    pub place_before : passes (get_or pins n d) ≡ true → early < length target
+    place_before e = omega (arith, room_before e, filled.fits)
+
+    pub place_behind : passes (get_or pins n d) ≡ false → late < length target
+    place_behind e =
+        omega (
+          arith,
+          filled.late_is,
+          length-drop half target,
+          room_late passes pins n d h (take half target) (drop half target) early filled.behind filled.parts e,
+        )
+
+    pub put_before : passes (get_or pins n d) ≡ true → (place early' late' : ℕ) → place ≡ early → early' ≡ early + 1 → late' ≡ late
+        → PartsFilled passes pins (n + 1) half (set target place (get_or pins n d)) early' late'
+    put_before e place early' late' at i j = rw (at, i, j) (record {
+      behind = filled.behind;
+      late_is = filled.late_is;
+      fits = omega (arith, filled.fits, length-set target early (get_or pins n d));
+      parts = put_early passes pins n d h (take half target) (drop half target) early filled.behind filled.parts
+          _ _ _ _
+          (take-set-lt half target early (get_or pins n d) (room_before e))
+          (drop-set-lt half target early (get_or pins n d) (room_before e))
+          refl refl e;
+    })
+
+    pub put_behind : passes (get_or pins n d) ≡ false → (place early' late' : ℕ) → place ≡ late → early' ≡ early → late' ≡ late + 1
+        → PartsFilled passes pins (n + 1) half (set target place (get_or pins n d)) early' late'
+    put_behind e place early' late' at i j = rw (at, i, j) (record {
+      behind = filled.behind + 1;
+      late_is = omega (arith, filled.late_is);
+      fits = omega (arith, filled.fits, length-set target late (get_or pins n d));
+      parts = put_late passes pins n d h (take half target) (drop half target) early filled.behind filled.parts
+          _ _ _ _
+          (take-set-le half target late (get_or pins n d) (omega (arith, filled.late_is)))
+          (ap (λ k. drop half (set target k (get_or pins n d))) filled.late_is
+          ∙ drop-set-add half target filled.behind (get_or pins n d))
+          refl refl e;
+    })
+
+  pub parts_all : (n : ℕ) (target : List Pin) (early late : ℕ) → PartsFilled passes pins n half target early late
+      → length pins ≤ n → target ≡ filter passes pins ++ filter (λ p. not (passes p)) pins
+  parts_all n target early late filled all =
+      sym (take-append-drop half target)
+      ∙ splitting_all passes pins n (take half target) (drop half target) early filled.behind filled.parts all
 
 -- the lists of one part are sorted as those of the whole
 pub record PartReady (wide : Bool) (ps qs : List Pin) : Type 0 where

@@ -149,16 +149,14 @@ fn split(pins: &[Pin], wide: bool, pivot: Pin, half: usize, target: &mut [Pin])
     ensures { target.new ≡ filter (λ p. is_before wide p pivot) pins.now
         ++ filter (λ p. not (is_before wide p pivot)) pins.now }
 {
-    let (front, back) = target.split_at_mut(half);
-    let (mut early, mut late) = (0, 0);
+    let (mut early, mut late) = (0, half);
     for pin in pins {
-        if comes_before(wide, pin, &pivot) {
-            front[early] = *pin;
-            early += 1;
-        } else {
-            back[late] = *pin;
-            late += 1;
-        }
+        // A pin goes either way at random, so that its place is chosen without a branch.
+        let before = comes_before(wide, pin, &pivot);
+        let place = if before { early } else { late };
+        target[place] = *pin;
+        early += usize::from(before);
+        late += usize::from(!before);
     }
 }
 

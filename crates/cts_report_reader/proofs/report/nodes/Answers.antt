@@ -13,7 +13,7 @@ use Rattle.cts_report_reader.proofs.report.nodes.Goals as goal
 
 pub loop-number-init : goal.loop-number-init
 loop-number-init c =
-    let items = c.new-items.ensures.items in
+    let items = c.in_ok-items.ensures.items in
     let stack = c.new-stack.ensures.items in
     record {
       found = ap₂ (λ (ns : List ReportNode) (s : List _). fronted_lines (seen_nodes ns) (nodes_at c.args.buffers (c.args.count - 0) 0 (reverse s) c.args.bytes.now)) items stack
