@@ -58,8 +58,8 @@ link() {
 prove() {
     crate=$1 jobs=$2 folder=$room/$1
     shift 2
-    mkdir -p "$folder/crates" && cp "$top/crates.txt" "$top/HANDLES" "$folder" || return 1
-    link "$top/crates/$crate" "$folder/crates" || return 1
+    mkdir -p "$folder/crates" && cp "$top/HANDLES" "$folder" && link "$top/crates/$crate" "$folder/crates" || return 1
+    awk -v kept=" $crate $* " '{ split($0, word, /[ :]/) } index(kept, " " word[1] " ")' "$top/crates.txt" >"$folder/crates.txt"
     for lower; do
         mkdir -p "$folder/crates/$lower/out" || return 1
         for part in "$top/crates/$lower"/* "$top/crates/$lower/out/rlib"; do
