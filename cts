@@ -85,8 +85,8 @@ prove_main() {
 
 # Whether all of some crates are proved.
 are_proved() {
-    for lower; do
-        [ -e "$room/$lower.proved" ] || return 1
+    for each; do
+        [ -e "$room/$each.proved" ] || return 1
     done
 }
 

@@ -179,13 +179,20 @@ fn comes_before(wide: bool, p: &Pin, q: &Pin) -> bool
     compare(wide, p, q).is_lt()
 }
 
-/// How two pins compare along x or along y.
+/// How two pins compare along x or along y. Mostly their first coordinates differ, so that nothing else is looked at.
+#[inline(always)]
 fn compare(wide: bool, p: &Pin, q: &Pin) -> Ordering
     ensures { result ≡ compare_along wide p.now q.now }
 {
     if wide {
-        p.x.cmp(&q.x).then(p.y.cmp(&q.y)).then(p.id.cmp(&q.id))
+        if p.x != q.x {
+            return p.x.cmp(&q.x);
+        }
+        p.y.cmp(&q.y).then(p.id.cmp(&q.id))
     } else {
-        p.y.cmp(&q.y).then(p.x.cmp(&q.x)).then(p.id.cmp(&q.id))
+        if p.y != q.y {
+            return p.y.cmp(&q.y);
+        }
+        p.x.cmp(&q.x).then(p.id.cmp(&q.id))
     }
 }
