@@ -32,18 +32,15 @@ pub fn tap(wire: Wire, a: &Side, b: &Side, d: u64) -> u64
     if whole < a.greatest {
         return 0;
     }
-    let unit = unit_share(
-        wire.r as u128,
-        wire.c as u128,
-        d as u128,
-        (a.load + b.load) as u128,
-    );
+    let unit = unit_share(wire.r, wire.c, d, a.load + b.load);
     let length = (whole - a.greatest) / unit;
     if length < d as u128 { length as u64 } else { d }
 }
 
-// What one unit more on one wire and one less on the other one add to the difference of the two delays.
-fn unit_share(r: u128, c: u128, d: u128, loads: u128) -> u128
+// What one unit more on one wire and one less on the other one add to the difference of the two delays: its factors have one
+// word each.
+#[inline(always)]
+fn unit_share(r: u64, c: u64, d: u64, loads: u64) -> u128
     requires r_low { 1 ≤ r }
     requires r_high { r ≤ 10 ^ 6 }
     requires c_low { 1 ≤ c }
@@ -54,7 +51,7 @@ fn unit_share(r: u128, c: u128, d: u128, loads: u128) -> u128
     ensures value { result ≡ r * (2 * (c * d + loads)) }
     ensures some { 0 < result }
 {
-    r * (2 * (c * d + loads))
+    u128::from(r) * u128::from(2 * (c * d + loads))
 }
 
 /// The greatest length in nm at which a wire into `load` has at most the doubled delay `delta`: it takes

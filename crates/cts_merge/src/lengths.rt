@@ -11,6 +11,7 @@ use crate::side::{Beyond, Side};
 use cts_units::{MAX_LENGTH, Wire, wire_delay};
 
 /// The greatest delay of a side through a wire of this length.
+#[inline(always)]
 pub(crate) fn delay_through(wire: Wire, side: &Side, length: u64) -> u128
     requires wire { IsWire wire }
     requires side { IsSideInRange side.now }

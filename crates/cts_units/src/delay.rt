@@ -10,6 +10,8 @@ use crate::params::{Buffer, Wire};
 /// the wire's resistance into half of its own capacitance and all of the load, taken twice.
 ///
 /// A length may be twice the limit of one wire, since two wires may span a gap.
+#[tactic(auto, unfolding(crate::specs::Delay::wire_delay_of))]
+#[inline(always)]
 pub fn wire_delay(wire: Wire, length: u64, load: u64) -> u128
     requires wire { IsWire wire }
     requires length { length ≤ 2 ^ 32 }
@@ -17,19 +19,30 @@ pub fn wire_delay(wire: Wire, length: u64, load: u64) -> u128
     ensures value { result ≡ wire_delay_of wire.r wire.c length load }
     ensures bound { result ≤ 2 ^ 110 }
 {
-    wide_delay(wire.r as u128, wire.c as u128, length as u128, load as u128)
+    delay_into(per_length(wire.r, length), per_length(wire.c, length), load)
 }
 
-#[tactic(auto, using(crate::proofs::WireDelay::wire_delay_le), unfolding(crate::specs::Delay::wire_delay_of))]
-fn wide_delay(r: u128, c: u128, length: u128, load: u128) -> u128
-    requires r { r ≤ 10 ^ 6 }
-    requires c { c ≤ 10 ^ 6 }
+/// A wire's resistance or capacitance, from that of a unit of its length.
+#[inline(always)]
+fn per_length(unit: u64, length: u64) -> u64
+    requires unit { unit ≤ 10 ^ 6 }
     requires length { length ≤ 2 ^ 32 }
+    ensures value { result ≡ unit * length }
+    ensures bound { result ≤ 10 ^ 6 * 2 ^ 32 }
+{
+    unit * length
+}
+
+/// The doubled delay of a wire of this resistance and capacitance: its factors have one word each.
+#[inline(always)]
+fn delay_into(resistance: u64, capacitance: u64, load: u64) -> u128
+    requires resistance { resistance ≤ 10 ^ 6 * 2 ^ 32 }
+    requires capacitance { capacitance ≤ 10 ^ 6 * 2 ^ 32 }
     requires load { load ≤ max_load }
-    ensures value { result ≡ wire_delay_of r c length load }
+    ensures value { result ≡ resistance * (capacitance + 2 * load) }
     ensures bound { result ≤ 2 ^ 110 }
 {
-    r * length * (c * length + 2 * load)
+    u128::from(resistance) * u128::from(capacitance + 2 * load)
 }
 
 /// The doubled delay, in 10^-27 s, of a linear buffer that drives a load of `load` zF: its intrinsic
