@@ -1,4 +1,5 @@
 pub mod Leaves
+mod LeafOrder
 pub mod Unique
 pub mod Regions
 pub mod Sides

@@ -9,3 +9,4 @@ abbrev pub invariant-loop-number : goal.invariant-loop-number
 invariant-loop-number g l =
     (AllZip (IsFinished l.params l.sinks) (take l.number (trees_of children l.nodes)) l.plan.items)
     × (l.steps + length (leaf_sinks (take l.number l.nodes)) ≡ l.fn.steps + l.number)
+    × (l.leaves ≡ length (leaf_sinks (take l.number l.nodes)))
