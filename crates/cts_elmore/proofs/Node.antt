@@ -1,11 +1,10 @@
 -- One step of the pass upward, by number: what is known of the node at the next number.
 use Rattle.std.proofs.Common.{◌≡◌, ℕ, ◌+◌, ◌<◌, ◌≤◌, List, [], ◌∷◌, ◌++◌, map, take, length, get_or, Option, Some, None, refl, sym, ap, subst, ◌∙◌, arith}
-use Rattle.std.specs.Prelude.{IfSome, IfNone, IsSomeAnd, slice_get}
-use Rattle.std.specs.Option.{option_map_or, option_and_then}
-use Rattle.std.proofs.lemmas.Option.{slice_get-get_or, slice_get_within, get_or_from_slice_get}
+use Rattle.std.specs.Prelude.{IfSome, IfNone, slice_get}
+use Rattle.std.proofs.lemmas.Option.{slice_get-get_or, get_or_from_slice_get}
 use Rattle.std.specs.List.{AllZip}
+use Rattle.std.proofs.lemmas.List.{get_or-map}
 use Rattle.cts_units.specs.declared.params.Params.{Params}
-use Rattle.cts_units.specs.declared.params.Sink.{Sink}
 use Rattle.cts_units.specs.Limits.{max_length}
 use Rattle.cts_units.specs.Choice.{seen_load_of}
 use Rattle.cts_postorder.specs.BinaryTree.{BinaryTree, tip, fork, label, size}
@@ -17,12 +16,12 @@ use Rattle.cts_postorder.proofs.Lists.{IsPair, is_pair}
 use Rattle.cts_postorder.proofs.Upward.{up_more, leaf_here, least_failure}
 use Rattle.cts_tree.specs.declared.nodes.NodeKind.TheVariants.{Leaf, Pair}
 use Rattle.cts_tree.specs.declared.nodes.TreeNode.{TreeNode}
-use Rattle.cts_tree.specs.Nodes.{children_of, tree_children, buffer_of, leaf_sink}
+use Rattle.cts_tree.specs.Nodes.{children_of, tree_children, buffer_of}
 use Rattle.cts_instance.specs.declared.parts.Parts.{Parts}
 use Rattle.cts_instance.specs.Validity.{IsValid}
 use Rattle.cts_elmore.specs.declared.subtree.Subtree.{Subtree}
 use Rattle.cts_elmore.specs.declared.subtree.Branch.{Branch}
-use Rattle.cts_elmore.specs.Fits.{FitsInstance, NamesSink}
+use Rattle.cts_elmore.specs.Fits.{FitsInstance}
 use Rattle.cts_elmore.specs.Loads.{sink_load}
 use Rattle.cts_elmore.specs.Limits.{IsOverAtPair, long_left, long_right, IsPairOver}
 use Rattle.cts_elmore.specs.declared.figures.NodeFigure.{NodeFigure}
@@ -39,13 +38,6 @@ slice_get_none (x ∷ xs) k h none =
 pub if_none : {A : Type 0} {P : Type 0} (o : Option A) → P → IfNone o P
 if_none None p = p
 if_none (Some x) p = tt
-
-pub sink_within : (sinks : List Sink) (id sink : ℕ) → NamesSink sinks (Leaf id sink) → sink < length sinks
-sink_within sinks id sink names = by_found (slice_get sinks sink) refl names
-  where
-    by_found : (o : Option Sink) → slice_get sinks sink ≡ o → IsSomeAnd o (λ named. named.id ≡ id) → sink < length sinks
-    by_found None e none = absurd none
-    by_found (Some s) e some = slice_get_within sinks sink s e
 
 -- what stands at a number that has a node
 pub stands : {N V : Type 0} (kids : N → Option (ℕ × ℕ)) (R : BinaryTree N → V → Type 0) (nodes : List N) (number : ℕ)
@@ -71,20 +63,17 @@ module _ (i : Parts) (valid : IsValid i) (nodes : List TreeNode) (ok : IsPostOrd
 
   -- a leaf
   module _ (id sink : ℕ) (e : TreeNode) (here : (get_or nodes k e).kind ≡ Leaf id sink) where
-    pub leaf_here_is : (sinks : List Sink) → sinks ≡ i.sinks → (d : Sink) (s : Subtree)
-        → s ≡ record { below = (get_or sinks sink d).cap; seen = (get_or sinks sink d).cap; wires = 0; greatest = 0; least = 0; residue = 0; bound = 0 }
+    pub leaf_here_is : (capacitances : List ℕ) → capacitances ≡ map (sink_load i) nodes → (d : ℕ) (s : Subtree)
+        → s ≡ record { below = get_or capacitances k d; seen = get_or capacitances k d; wires = 0; greatest = 0; least = 0; residue = 0; bound = 0 }
         → Here s
-    leaf_here_is sinks sinks_are d s is =
-        let names : NamesSink i.sinks (Leaf id sink) = subst (NamesSink i.sinks) here (fits.sinks k e h) in
-        let cap : (get_or sinks sink d).cap ≡ sink_load i (get_or nodes k e) =
-        ap (λ (ss : List Sink). (get_or ss sink d).cap) sinks_are
-        ∙ ap (λ o. option_map_or (λ (x : Sink). x.cap) o 0) (sym (slice_get-get_or i.sinks sink d (sink_within i.sinks id sink names)))
-        ∙ ap (λ kind. option_map_or (λ (x : Sink). x.cap) (option_and_then (slice_get i.sinks) (leaf_sink kind)) 0) (sym here) in
+    leaf_here_is capacitances capacitances_are d s is =
+        let cap : get_or capacitances k d ≡ sink_load i (get_or nodes k e) =
+        ap (λ cs. get_or cs k d) capacitances_are ∙ get_or-map (sink_load i) nodes k e d h in
         let tree : get_or trees k (tip e) ≡ tip (get_or nodes k e) =
         leaf_here tree_children (IsSubtree i) nodes k e (tip e) h (ap children_of here) in
         stands tree_children (IsSubtree i) nodes k (tip (get_or nodes k e)) s
         (slice_get-get_or trees k (tip e) (omega (arith, h, length-trees_of tree_children nodes)) ∙ ap Some tree)
-        (leaf_is i (get_or nodes k e) s (get_or sinks sink d).cap cap (ap buffer_of here) is)
+        (leaf_is i (get_or nodes k e) s (get_or capacitances k d) cap (ap buffer_of here) is)
 
     pub leaf_next : (s : Subtree) → Here s → AreWaiting tree_children nodes (IsSubtree i) (k + 1) (waiting ++ s ∷ [])
     leaf_next s is = waiting_at_leaf tree_children nodes (IsSubtree i) k e h waiting before (ap children_of here) s is

@@ -61,7 +61,7 @@ returns-in_err-b-in-Pair-clause-over c =
 pub returns-in-Leaf-clause-here : goal.returns-in-Leaf-clause-here
 returns-in-Leaf-clause-here c =
     leaf_here_is c.args.instance.now c.params-params.ensures.valid c.args.nodes.now c.requires.post_order c.requires.fits c.args.number c.requires.number
-    c.args.waiting.now.items c.requires.before c.in-Leaf.id c.in-Leaf.sink _ c.in-Leaf.is c.sinks.result.now c.sinks.ensures.part _
+    c.args.waiting.now.items c.requires.before c.in-Leaf.id c.in-Leaf.sink _ c.in-Leaf.is c.args.capacitances.now c.requires.capacitances _
     c.leaf.result c.leaf.ensures
 
 pub returns-in-Leaf-clause-next : goal.returns-in-Leaf-clause-next
@@ -69,7 +69,7 @@ returns-in-Leaf-clause-next c =
     leaf_next c.args.instance.now c.params-params.ensures.valid c.args.nodes.now c.requires.post_order c.requires.fits c.args.number c.requires.number
     c.args.waiting.now.items c.requires.before c.in-Leaf.id c.in-Leaf.sink _ c.in-Leaf.is c.leaf.result
     (leaf_here_is c.args.instance.now c.params-params.ensures.valid c.args.nodes.now c.requires.post_order c.requires.fits c.args.number c.requires.number
-    c.args.waiting.now.items c.requires.before c.in-Leaf.id c.in-Leaf.sink _ c.in-Leaf.is c.sinks.result.now c.sinks.ensures.part _
+    c.args.waiting.now.items c.requires.before c.in-Leaf.id c.in-Leaf.sink _ c.in-Leaf.is c.args.capacitances.now c.requires.capacitances _
     c.leaf.result c.leaf.ensures)
 
 pub returns-in_ok-b-in-Pair-clause-here : goal.returns-in_ok-b-in-Pair-clause-here
