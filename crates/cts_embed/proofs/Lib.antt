@@ -2,6 +2,7 @@ pub mod Leaves
 pub mod Range
 pub mod Unique
 pub mod Beyond
+pub mod Capacitances
 pub mod Steps
 pub mod Root
 pub mod HandedDown

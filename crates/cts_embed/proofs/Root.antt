@@ -10,8 +10,6 @@ use Rattle.cts_postorder.proofs.Zips.{all_zip-at}
 use Rattle.cts_postorder.proofs.Lists.{Whole, whole_of, length_pos}
 use Rattle.cts_tree.specs.declared.nodes.PlacedNode.{PlacedNode}
 use Rattle.cts_tree.specs.Nodes.{placed_children}
-use Rattle.cts_units.specs.declared.params.Params.{Params}
-use Rattle.cts_units.specs.declared.params.Sink.{Sink}
 use Rattle.cts_instance.specs.declared.parts.Parts.{Parts}
 use Rattle.cts_instance.specs.Validity.{IsSink, IsValid}
 use Rattle.cts_embed.specs.declared.node.NodeBalance.{NodeBalance}
@@ -29,14 +27,6 @@ root_label nodes ok e t is =
     let some : 0 < length nodes = length_pos placed_children nodes ok in
     ap label (sym (get_or_from_slice_get trees (length nodes - 1) t t is))
     ∙ label-tree placed_children nodes (length nodes - 1) t e (omega arith)
-
--- what is read of an instance is its own
-pub of_instance : (parts : Parts) (params : Params) (sinks : List Sink) (nodes : List PlacedNode) (balances : List NodeBalance)
-    → params ≡ parts.params → sinks ≡ parts.sinks → AllZip (IsBalance params sinks) (trees_of placed_children nodes) balances
-    → AllZip (IsBalance parts.params parts.sinks) (trees_of placed_children nodes) balances
-of_instance parts params sinks nodes balances same_params same_sinks all =
-    subst (λ ps. AllZip (IsBalance ps parts.sinks) (trees_of placed_children nodes) balances) same_params
-    (subst (λ ss. AllZip (IsBalance params ss) (trees_of placed_children nodes) balances) same_sinks all)
 
 module _ (parts : Parts) (nodes : List PlacedNode) (ok : IsPostOrder (map placed_children nodes)) (balances : List NodeBalance)
     (all : AllZip (IsBalance parts.params parts.sinks) (trees_of placed_children nodes) balances) where

@@ -121,20 +121,34 @@ module _ (params : Params) (sinks : List Sink) (nodes : List PlacedNode) (ok : I
           (subst (λ x. P p.route.length x (buffer_of (get_or nodes k e).kind)) second
           (subst (λ x. P p.route.length q.route.length x) third has))
 
-      pub pair_next : (result : Result NodeBalance Beyond)
-          → IfOk result (IsPairBalance params buffer a p.route.length b q.route.length)
+      -- a pair is balanced by parameters that are these
+      pub pair_next : (lent : Params) → lent ≡ params → (result : Result NodeBalance Beyond)
+          → IfOk result (IsPairBalance lent buffer a p.route.length b q.route.length)
           → IfOk result (λ node. AllZip (IsBalance params sinks) (take (k + 1) (trees_of placed_children nodes)) (out ++ node ∷ []))
       unfolding IsBalance
-      pair_next (Ok node) is =
-          pair.next node (a, b, left_is, right_is, routes (λ x y u. IsPairBalance params u a x b y node) is)
-      pair_next (Err x) is = tt
+      pair_next lent same (Ok node) is =
+          pair.next node (
+            a,
+            b,
+            left_is,
+            right_is,
+            routes (λ x y u. IsPairBalance params u a x b y node)
+                (subst (λ ps. IsPairBalance ps buffer a p.route.length b q.route.length node) same is),
+          )
+      pair_next lent same (Err x) is = tt
 
-      pub pair_beyond : (result : Result NodeBalance Beyond)
-          → IfErr result (λ _. IsPairBeyond params buffer a p.route.length b q.route.length)
+      pub pair_beyond : (lent : Params) → lent ≡ params → (result : Result NodeBalance Beyond)
+          → IfErr result (λ _. IsPairBeyond lent buffer a p.route.length b q.route.length)
           → IfErr result (λ _. IsLeastFailure placed_children nodes (IsBeyondBalance params sinks) k)
       unfolding IsBeyondBalance
-      pair_beyond (Ok node) over = tt
-      pair_beyond (Err x) over =
+      pair_beyond lent same (Ok node) over = tt
+      pair_beyond lent same (Err x) over =
           least_failure placed_children (IsBalance params sinks) (IsBeyondBalance params sinks)
-          (λ t node. balanced_not_beyond params sinks t node) nodes out k (fork pair.left pair.right (get_or nodes k e)) before pair.here
-          (a, b, left_is, right_is, routes (λ x y u. IsPairBeyond params u a x b y) over)
+          (λ t node. balanced_not_beyond params sinks t node) nodes out k (fork pair.left pair.right (get_or nodes k e)) before pair.here (
+            a,
+            b,
+            left_is,
+            right_is,
+            routes (λ x y u. IsPairBeyond params u a x b y)
+                (subst (λ ps. IsPairBeyond ps buffer a p.route.length b q.route.length) same over),
+          )

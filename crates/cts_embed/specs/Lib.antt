@@ -4,6 +4,7 @@ pub mod Prepared
 pub mod Naming
 pub mod Fitting
 pub mod Balance
+pub mod Capacitances
 pub mod BalancedTree
 pub mod WithWires
 pub mod Ends

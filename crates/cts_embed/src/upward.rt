@@ -1,15 +1,17 @@
 //! The upward pass of the balance: what it makes of each node.
 
-ghost use Rattle.std.specs.Prelude.{◌≡◌, ◌+◌, ◌-◌, ◌^◌, ◌<◌, ◌≤◌, ◌++◌, ◌∷◌, ◌↔◌, [], IsTrue, map, take, length, IfOk, IfErr, MatchOption, All};
+ghost use Rattle.std.specs.Prelude.{◌≡◌, ℕ, ◌+◌, ◌-◌, ◌^◌, ◌<◌, ◌≤◌, ◌++◌, ◌∷◌, ◌↔◌, [], IsTrue, map, take, length, IfOk, IfErr, MatchOption, All};
 ghost use Rattle.std.specs.List.{AllZip};
 ghost use Rattle.cts_units.specs.Choice.{added_delay_of, seen_load_of};
 ghost use Rattle.cts_units.specs.Limits.{IsParams, max_length, max_load};
+ghost use Rattle.cts_instance.specs.Validity.{IsValid};
 ghost use Rattle.cts_merge.specs.LeastPair.{IsTooLong, Covers};
 ghost use Rattle.cts_postorder.specs.PostOrder.{IsPostOrder, trees_of};
 ghost use Rattle.cts_postorder.specs.Pass.{IsLeastFailure};
 ghost use Rattle.cts_tree.specs.Nodes.{placed_children};
 ghost use Rattle.cts_embed.specs.Balance.{IsBalance, IsBeyondBalance, IsLeafBalance, IsPairBalance, IsPairBeyond, IsRootWithin, IsWirePair, delay_through};
 ghost use Rattle.cts_embed.specs.BalancedTree.{IsBalancedWithin};
+ghost use Rattle.cts_embed.specs.Capacitances.{caps_of};
 ghost use Rattle.cts_embed.specs.Ends.{BalanceEnds, NodeEnds};
 ghost use Rattle.cts_embed.specs.Fitting.{Fits, NamesWithin};
 ghost use Rattle.cts_embed.specs.Range.{IsInRange};
@@ -19,6 +21,7 @@ use crate::node::NodeBalance;
 use cts_geom::Region;
 use cts_instance::Instance;
 use cts_merge::{Beyond, Side, choose};
+use cts_num::NoMemory;
 use cts_tree::{NodeKind, PlacedNode};
 use cts_units::{MAX_DELAY, MAX_LENGTH, MAX_LOAD, Params, Sink, buffer_delay, wire_delay};
 use std::alloc::Global;
@@ -126,44 +129,63 @@ fn pair_balance(
     })
 }
 
-/// A leaf over its sink.
-fn leaf_balance(sink: &Sink) -> NodeBalance
-    ensures { IsLeafBalance sink.now result }
+/// The capacitance in zF of each leaf's sink, by number of node, and 0 at a pair. They are looked up before the
+/// pass, whose branches would wait for each of them.
+fn capacitances(alloc: Global, sinks: &[Sink], nodes: &[PlacedNode]) -> Result<Vec<u64>, NoMemory>
+    requires names { (buffers : ℕ) × All (λ node. NamesWithin (length sinks.now) buffers node.kind) nodes.now }
+    ensures { IfOk result (λ caps. caps.items ≡ caps_of sinks.now nodes.now) }
+{
+    let mut caps = Vec::with_capacity(alloc, nodes.len())?;
+    for node in nodes {
+        let cap = match node.kind {
+            NodeKind::Leaf { sink, .. } => sinks[sink as usize].cap,
+            NodeKind::Pair { .. } => 0,
+        };
+        caps.push(cap)?;
+    }
+    Ok(caps)
+}
+
+/// A leaf over a sink of this capacitance in zF.
+fn leaf_balance(cap: u64) -> NodeBalance
+    ensures { (sink : Sink) → sink.cap ≡ cap → IsLeafBalance sink result }
 {
     NodeBalance {
         greatest: 0,
-        load: sink.cap,
+        load: cap,
         left_wire: 0,
         right_wire: 0,
     }
 }
 
-/// What the balance makes of the node of this number, by what it made of the nodes before it.
+/// What the balance makes of the node of this number, by the capacitances of the leaves' sinks and by what it
+/// made of the nodes before it.
 fn balance_node(
-    params: &Params,
-    sinks: &[Sink],
+    instance: &Instance,
+    caps: &[u64],
     nodes: &[PlacedNode],
     number: usize,
     balances: &[NodeBalance],
 ) -> Result<NodeBalance, Beyond>
-    requires params { IsParams params.now }
-    requires caps { All (λ sink. sink.cap ≤ 10 ^ 12) sinks.now }
+    requires caps { caps.now ≡ caps_of instance.now.sinks nodes.now }
     requires post_order { IsPostOrder (map placed_children nodes.now) }
-    requires names { All (λ node. NamesWithin (length sinks.now) (length params.now.library) node.kind) nodes.now }
+    requires fits { Fits instance.now nodes.now }
     requires number { number < length nodes.now }
-    requires before { AllZip (IsBalance params.now sinks.now) (take number (trees_of placed_children nodes.now)) balances.now }
-    ensures next { IfOk result (λ node. AllZip (IsBalance params.now sinks.now)
+    requires before { AllZip (IsBalance instance.now.params instance.now.sinks)
+        (take number (trees_of placed_children nodes.now)) balances.now }
+    ensures next { IfOk result (λ node. AllZip (IsBalance instance.now.params instance.now.sinks)
         (take (number + 1) (trees_of placed_children nodes.now)) (balances.now ++ node ∷ [])) }
-    ensures beyond { IfErr result (λ _.
-        IsLeastFailure placed_children nodes.now (IsBeyondBalance params.now sinks.now) number) }
+    ensures beyond { IfErr result (λ _. IsLeastFailure placed_children nodes.now
+        (IsBeyondBalance instance.now.params instance.now.sinks) number) }
 {
     match nodes[number].kind {
-        NodeKind::Leaf { sink, .. } => Ok(leaf_balance(&sinks[sink as usize])),
+        NodeKind::Leaf { .. } => Ok(leaf_balance(caps[number])),
         NodeKind::Pair {
             left,
             right,
             buffer,
         } => {
+            let params = instance.params();
             let (left, right) = (left as usize, right as usize);
             let (la, lb) = (nodes[left].route.length, nodes[right].route.length);
             pair_balance(params, buffer, &balances[left], la, &balances[right], lb)
@@ -174,22 +196,26 @@ fn balance_node(
 /// What the balance makes of each node, by number.
 fn balance_nodes(
     alloc: Global,
-    params: &Params,
-    sinks: &[Sink],
+    instance: &Instance,
     nodes: &[PlacedNode],
 ) -> Result<Vec<NodeBalance>, BalanceEnd>
-    requires params { IsParams params.now }
-    requires caps { All (λ sink. sink.cap ≤ 10 ^ 12) sinks.now }
     requires post_order { IsPostOrder (map placed_children nodes.now) }
-    requires few { length nodes.now ≤ 131071 }
-    requires names { All (λ node. NamesWithin (length sinks.now) (length params.now.library) node.kind) nodes.now }
-    ensures balances { IfOk result (λ balances.
-        AllZip (IsBalance params.now sinks.now) (trees_of placed_children nodes.now) balances.items) }
-    ensures ends { IfErr result (NodeEnds params.now sinks.now nodes.now) }
+    requires fits { Fits instance.now nodes.now }
+    ensures valid { IsValid instance.now }
+    ensures balances { IfOk result (λ balances. AllZip (IsBalance instance.now.params instance.now.sinks)
+        (trees_of placed_children nodes.now) balances.items) }
+    ensures ends { IfErr result (NodeEnds instance.now.params instance.now.sinks nodes.now) }
 {
+    let caps = capacitances(alloc, instance.sinks(), nodes)?;
     let mut balances = Vec::with_capacity(alloc, nodes.len())?;
     for number in 0..nodes.len() {
-        match balance_node(params, sinks, nodes, number, balances.as_slice()) {
+        match balance_node(
+            instance,
+            caps.as_slice(),
+            nodes,
+            number,
+            balances.as_slice(),
+        ) {
             Ok(node) => balances.push(node)?,
             Err(Beyond) => {
                 return Err(BalanceEnd::Beyond {
@@ -231,7 +257,7 @@ pub(crate) fn balances_of(
         (trees_of placed_children nodes.now) balances.items) }
     ensures ends { IfErr result (BalanceEnds instance.now nodes.now) }
 {
-    let balances = balance_nodes(alloc, instance.params(), instance.sinks(), nodes)?;
+    let balances = balance_nodes(alloc, instance, nodes)?;
     let last = nodes.len() - 1;
     let root = balances[last];
     if !is_root_within(instance, nodes[last].route.length, &root) {

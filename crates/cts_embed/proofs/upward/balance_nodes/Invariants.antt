@@ -7,4 +7,4 @@ use Rattle.cts_embed.proofs.upward.balance_nodes.Given as goal
 
 abbrev pub invariant-loop-number : goal.invariant-loop-number
 invariant-loop-number l =
-    AllZip (IsBalance l.params l.sinks) (take l.number (trees_of placed_children l.nodes)) l.balances.items
+    AllZip (IsBalance l.instance.params l.instance.sinks) (take l.number (trees_of placed_children l.nodes)) l.balances.items

@@ -1,7 +1,7 @@
 use Rattle.std.proofs.Common.{inr, refl, arith}
 use Rattle.cts_postorder.proofs.Lists.{length_pos}
 use Rattle.cts_tree.specs.Nodes.{placed_children}
-use Rattle.cts_embed.proofs.Root.{of_instance, last_within, root_in_range, all_within, root_beyond}
+use Rattle.cts_embed.proofs.Root.{last_within, root_in_range, all_within, root_beyond}
 use Rattle.cts_embed.proofs.upward.balances_of.Goals as goal
 
 pub overflow_sub-last : goal.overflow_sub-last
@@ -13,8 +13,7 @@ index-requires c =
       arith,
       c.in_ok-balances.balances.ok.0,
       last_within c.args.instance.now c.args.nodes.now c.requires.post_order c.in_ok-balances.balances.items
-          (of_instance c.args.instance.now c.params.result.now c.sinks.result.now c.args.nodes.now c.in_ok-balances.balances.items
-          c.params.ensures.part c.sinks.ensures.part c.in_ok-balances.ensures.balances),
+          c.in_ok-balances.ensures.balances,
     )
 
 pub bounds-nodes-last : goal.bounds-nodes-last
@@ -26,23 +25,20 @@ bounds-nodes-last-in_ok-balances c = omega (arith, length_pos placed_children c.
 pub is_root_within-requires : goal.is_root_within-requires
 is_root_within-requires c = record {
   root = root_in_range c.args.instance.now c.args.nodes.now c.requires.post_order c.in_ok-balances.balances.items
-      (of_instance c.args.instance.now c.params.result.now c.sinks.result.now c.args.nodes.now c.in_ok-balances.balances.items
-      c.params.ensures.part c.sinks.ensures.part c.in_ok-balances.ensures.balances)
-      c.index-nodes-last.result c.index.result.now c.index.result.now c.index.ensures c.params.ensures.valid;
+      c.in_ok-balances.ensures.balances
+      c.index-nodes-last.result c.index.result.now c.index.result.now c.index.ensures c.balance_nodes.ensures.valid;
 }
 
 pub returns-then-not-is_root_within-clause-ends : goal.returns-then-not-is_root_within-clause-ends
 returns-then-not-is_root_within-clause-ends c =
     inr (root_beyond c.args.instance.now c.args.nodes.now c.requires.post_order c.in_ok-balances.balances.items
-    (of_instance c.args.instance.now c.params.result.now c.sinks.result.now c.args.nodes.now c.in_ok-balances.balances.items
-    c.params.ensures.part c.sinks.ensures.part c.in_ok-balances.ensures.balances)
+    c.in_ok-balances.ensures.balances
     c.index-nodes-last.result c.index.result.now c.index.result.now c.index.ensures
     (λ within. let clash = c.if-not-is_root_within.ensures.1 within in cc))
 
 pub returns-clause-within : goal.returns-clause-within
 returns-clause-within c =
     all_within c.args.instance.now c.args.nodes.now c.requires.post_order c.in_ok-balances.balances.items
-    (of_instance c.args.instance.now c.params.result.now c.sinks.result.now c.args.nodes.now c.in_ok-balances.balances.items
-    c.params.ensures.part c.sinks.ensures.part c.in_ok-balances.ensures.balances)
+    c.in_ok-balances.ensures.balances
     c.index-nodes-last.result c.index.result.now c.index.result.now c.index.ensures
     (c.if-not-is_root_within.ensures.0 refl)
