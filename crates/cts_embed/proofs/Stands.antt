@@ -1,21 +1,22 @@
 -- What a node is and where it stands, under the names that the code gives to sinks.
-use Rattle.std.proofs.Common.{◌≡◌, ℕ, ◌<◌, List, length, get_or, slice_get, Option, Some, refl, sym, ap, subst, ◌∙◌, arith}
+use Rattle.std.proofs.Common.{◌≡◌, ◌↔◌, ℕ, ℤ, ◌<◌, List, length, get_or, slice_get, Option, None, Some, refl, sym, ap, subst, ◌∙◌, arith}
 use Rattle.std.specs.Option.{MatchOption, option_map}
 use Rattle.std.proofs.lemmas.Option.{slice_get-get_or}
 use Rattle.std.proofs.lemmas.Int.{ints}
-use Rattle.cts_geom.specs.Regions.{IsRegionInRange}
+use Rattle.cts_geom.specs.declared.regions.Region.{Region}
+use Rattle.cts_geom.specs.Regions.{ContainsSpot, IsRegionInRange}
 use Rattle.cts_geom.specs.declared.points.Spot.{Spot}
-use Rattle.cts_geom.specs.Coordinate.{IsCoordinate}
 use Rattle.cts_geom.specs.Points.{IsSpotInRange, spot_at}
+use Rattle.cts_units.specs.declared.params.Params.{Params}
 use Rattle.cts_units.specs.declared.params.Sink.{Sink}
 use Rattle.cts_instance.specs.declared.parts.Parts.{Parts}
 use Rattle.cts_instance.specs.Validity.{IsSink, IsValid}
-use Rattle.cts_instance.proofs.PlaceLemmas.{has_coordinates}
 use Rattle.cts_topo.specs.declared.shape.ShapeNode.{ShapeNode}
 use Rattle.cts_topo.specs.declared.shape.ShapeNode.TheVariants.{Leaf, Pair}
 use Rattle.cts_postorder.specs.BinaryTree.{BinaryTree, tip}
 use Rattle.cts_postorder.specs.PostOrder.{trees_of}
 use Rattle.cts_postorder.proofs.Growth.{length-trees_of}
+use Rattle.cts_postorder.proofs.Upward.{leaf_here}
 use Rattle.cts_postorder.proofs.Zips.{all_zip-at}
 use Rattle.cts_topo.specs.Shape.{children, IsShapeOver}
 use Rattle.cts_topo.proofs.Counts.{leaf_within}
@@ -25,7 +26,9 @@ use Rattle.cts_up.proofs.Sides.{sides_merge}
 use Rattle.cts_tree.specs.declared.nodes.PlacedNode.{PlacedNode}
 use Rattle.cts_embed.specs.PlacedTree.{IsCutFrom, IsPlacedFrom}
 use Rattle.cts_merge.specs.declared.side.Finished.{Finished}
+use Rattle.cts_merge.specs.Merge.{IsLeaf}
 use Rattle.cts_tree.specs.declared.nodes.NodeKind.TheVariants as kinds
+use Rattle.cts_embed.specs.Leaves.{IsLeafOf}
 use Rattle.cts_embed.specs.Naming.{NamesOneOf}
 use Rattle.cts_embed.specs.Places.{IsNodePlace, IsPairPlace, kind_of}
 use Rattle.cts_embed.proofs.FreePlaces.{in_die_in_range}
@@ -52,24 +55,29 @@ module _ (parts : Parts) (lent : List Sink) (same : lent ≡ parts.sinks) (s : �
     leaf_kind_is buffer =
         ap (λ m. kind_of parts.sinks m buffer) is ∙ ap (option_map (λ (x : Sink). kinds.Leaf x.id s)) found
 
-    pub leaf_place_is : (f : Finished) (from place : Spot) → place ≡ spot_at (get_or lent s d).x (get_or lent s d).y
-        → IsNodePlace parts n f from place
-    unfolding IsNodePlace
-    leaf_place_is f from place at =
-        subst (λ m. IsNodePlace parts m f from place) (sym is)
-        (subst (λ (o : Option Sink). MatchOption o ⊥ (λ x. place ≡ spot_at x.x x.y)) (sym found) at)
+-- the first corner of a region with only one spot is that spot
+pub corner_is : (region : Region) (spot : Spot) → ((p : Spot) → ContainsSpot region p ↔ (p ≡ spot)) → (u v : ℤ)
+    → u ≡ region.u1 → v ≡ region.v1 → record { u = u; v = v } ≡ spot
+corner_is region spot only u v u_is v_is =
+    (only (record { u = u; v = v })).0
+    (record {
+      u_low = omega (arith, ints, u_is);
+      u_high = omega (arith, ints, u_is, region.u_ordered);
+      v_low = omega (arith, ints, v_is);
+      v_high = omega (arith, ints, v_is, region.v_ordered);
+    })
 
-    sink_in : IsValid parts → (P : Sink → Type 0) → P (get_or parts.sinks s d) → P (get_or lent s d)
-    sink_in ok P has = subst (λ sinks. P (get_or sinks s d)) (sym same) has
-
-    within : s < length parts.sinks
-    within = subst (λ sinks. s < length sinks) same sink_within
-
-    pub sink_x : IsValid parts → IsCoordinate (get_or lent s d).x
-    sink_x ok = sink_in ok (λ x. IsCoordinate x.x) ((has_coordinates parts ok).sinks_x s d within)
-
-    pub sink_y : IsValid parts → IsCoordinate (get_or lent s d).y
-    sink_y ok = sink_in ok (λ x. IsCoordinate x.y) ((has_coordinates parts ok).sinks_y s d within)
+-- a leaf's place is that of the sink that it is made of
+pub leaf_place_is : (parts : Parts) (s : ℕ) (n : ShapeNode) → n ≡ Leaf s → (f : Finished) (from place : Spot)
+    → IsLeafOf parts.sinks n f → ((sink : Sink) → IsLeaf sink f → place ≡ spot_at sink.x sink.y) → IsNodePlace parts n f from place
+unfolding IsNodePlace IsLeafOf
+leaf_place_is parts s n is f from place leaf at =
+    subst (λ m. IsNodePlace parts m f from place) (sym is)
+    (by_sink (slice_get parts.sinks s) (subst (λ m. IsLeafOf parts.sinks m f) is leaf))
+  where
+    by_sink : (o : Option Sink) → MatchOption o ⊥ (λ sink. IsLeaf sink f) → MatchOption o ⊥ (λ sink. place ≡ spot_at sink.x sink.y)
+    by_sink None made = absurd made
+    by_sink (Some sink) made = at sink made
 
 -- a pair
 pub pair_kind_is : (parts : Parts) (l r : ℕ) (n : ShapeNode) (buffer : Option ℕ) → n ≡ Pair l r
@@ -118,6 +126,30 @@ region_at parts nodes plan ok all k f d h read =
     all_zip-at (IsFinished parts.params parts.sinks) (trees_of children nodes) plan k (tip (Leaf 0)) d all
     (omega (arith, length-trees_of children nodes)) in
     (sides_merge parts.params parts.sinks t f (subst (IsFinished parts.params parts.sinks t) (sym read) made) ok.params (sinks_in_range parts ok)).region
+
+-- the leaves of a plan
+pub leaf_at : (params : Params) (sinks : List Sink) (nodes : List ShapeNode) (plan : List Finished) → IsPlan params sinks nodes plan
+    → (k : ℕ) (f d : Finished) (e : ShapeNode) → k < length nodes → f ≡ get_or plan k d → IsLeafOf sinks (get_or nodes k e) f
+unfolding IsLeafOf IsFinished
+leaf_at params sinks nodes plan all k f d e h read = by_node (get_or nodes k e) refl
+  where
+    t : BinaryTree ShapeNode
+    t = get_or (trees_of children nodes) k (tip (Leaf 0))
+
+    made : IsFinished params sinks t f
+    made =
+        subst (IsFinished params sinks t) (sym read)
+        (all_zip-at (IsFinished params sinks) (trees_of children nodes) plan k (tip (Leaf 0)) d all
+        (omega (arith, length-trees_of children nodes)))
+
+    at_leaf : (s : ℕ) → get_or nodes k e ≡ Leaf s → IsFinished params sinks (tip (Leaf s)) f
+    at_leaf s here =
+        subst (λ u. IsFinished params sinks u f)
+        (leaf_here children (IsFinished params sinks) nodes k e (tip (Leaf 0)) h (ap children here) ∙ ap tip here) made
+
+    by_node : (n : ShapeNode) → get_or nodes k e ≡ n → IsLeafOf sinks n f
+    by_node (Leaf s) here = at_leaf s here
+    by_node (Pair l r) here = tt
 
 -- what is placed from values that are read from lists
 pub placed_read : (parts : Parts) (n : ShapeNode) (f g : Finished) (from start : Spot) (node : PlacedNode) → f ≡ g → from ≡ start

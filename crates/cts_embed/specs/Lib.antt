@@ -2,6 +2,7 @@ pub mod Places
 pub mod PlacedTree
 pub mod Prepared
 pub mod Naming
+pub mod Leaves
 pub mod Fitting
 pub mod Balance
 pub mod Capacitances

@@ -2,8 +2,10 @@
 
 ghost use Rattle.std.specs.Prelude.{◌≡◌, length, Some, IfOk, Err};
 ghost use Rattle.cts_geom.specs.Points.{IsSpotInRange, spot_at};
-ghost use Rattle.cts_geom.specs.Coordinate.{IsCoordinate};
 ghost use Rattle.cts_geom.specs.Regions.{IsRegionInRange};
+ghost use Rattle.cts_merge.specs.Merge.{IsLeaf};
+ghost use Rattle.cts_units.specs.declared.params.Sink.{Sink};
+ghost use Rattle.cts_embed.specs.Leaves.{IsLeafOf};
 ghost use Rattle.cts_embed.specs.Naming.{NamesOneOf};
 ghost use Rattle.cts_embed.specs.PlacedTree.{IsCutFrom, IsPlacedFrom};
 ghost use Rattle.cts_instance.specs.declared.parts.Parts.{Parts};
@@ -20,7 +22,6 @@ use cts_num::NoMemory;
 use cts_route::{Grid, RouteEnd};
 use cts_topo::ShapeNode;
 use cts_tree::{NodeKind, PlacedNode};
-use cts_units::Sink;
 use std::alloc::Global;
 
 /// The place of the clock source.
@@ -53,13 +54,16 @@ fn pair_place(free: &FreeMap, pair: &Finished, from: Spot) -> Spot
     free.nearest_free(first, pair.buffer.is_some())
 }
 
-/// The place of a sink.
-fn sink_place(sink: &Sink) -> Spot
-    requires x { IsCoordinate sink.now.x }
-    requires y { IsCoordinate sink.now.y }
-    ensures { result ≡ spot_at sink.now.x sink.now.y }
+/// The place of a leaf, which is the only spot of its region. The sink has it too, but would have to be waited for.
+fn leaf_place(leaf: &Finished) -> Spot
+    requires { IsRegionInRange leaf.now.side.region }
+    ensures { (sink : Sink) → IsLeaf sink leaf.now → result ≡ spot_at sink.x sink.y }
 {
-    spot_of(sink.x, sink.y)
+    let region = leaf.side.region;
+    Spot {
+        u: region.u1,
+        v: region.v1,
+    }
 }
 
 /// What a node is, and its final place.
@@ -72,6 +76,7 @@ fn stand(
 ) -> (NodeKind, Spot)
     requires free { IsFreeMapOf instance.now free.now }
     requires names { NamesOneOf (length instance.now.sinks) node }
+    requires leaf { IsLeafOf instance.now.sinks node finished.now }
     requires region { IsRegionInRange finished.now.side.region }
     requires from { IsSpotInRange from }
     ensures kind { kind_of instance.now.sinks node finished.now.buffer ≡ Some result.0 }
@@ -80,8 +85,8 @@ fn stand(
 {
     match node {
         ShapeNode::Leaf { sink } => {
-            let named = &instance.sinks()[sink as usize];
-            (NodeKind::Leaf { id: named.id, sink }, sink_place(named))
+            let id = instance.sinks()[sink as usize].id;
+            (NodeKind::Leaf { id, sink }, leaf_place(finished))
         }
         ShapeNode::Pair { left, right } => {
             let buffer = finished.buffer;
@@ -109,6 +114,7 @@ pub(crate) fn place_node(
 ) -> Result<PlacedNode, RouteEnd>
     requires ground { IsGroundOf instance.now ground.now }
     requires names { NamesOneOf (length instance.now.sinks) node }
+    requires leaf { IsLeafOf instance.now.sinks node finished.now }
     requires region { IsRegionInRange finished.now.side.region }
     requires from { IsSpotInRange from }
     ensures placed { IfOk result (IsPlacedFrom instance.now node finished.now from) }

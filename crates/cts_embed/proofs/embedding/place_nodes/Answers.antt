@@ -14,7 +14,7 @@ use Rattle.cts_embed.specs.Ends.{EmbedEnds}
 use Rattle.cts_embed.specs.PlacedTree.{IsPlacedNode}
 use Rattle.cts_embed.proofs.Fronts.{IsFrontOfPlan, front_at_start, plan_front_long, plan_popped, front_next}
 use Rattle.cts_embed.proofs.Starts.{plan_long, starts_begin, number_in_starts, from_in_range, placed_more, starts_at_leaf, starts_at_pair, left_within, right_within, all_placed, none_placed}
-use Rattle.cts_embed.proofs.Stands.{cut_read, names_at, region_at, placed_read}
+use Rattle.cts_embed.proofs.Stands.{cut_read, leaf_at, names_at, region_at, placed_read}
 use Rattle.cts_topo.proofs.Counts.{length-shape}
 use Rattle.cts_embed.proofs.Cuts.{greatest_cut}
 use Rattle.cts_embed.proofs.PlacedFits.{placed_fits}
@@ -43,6 +43,19 @@ pub place_node-requires-clause-names : goal.place_node-requires-clause-names
 place_node-requires-clause-names c =
     names_at (length c.args.instance.now.sinks) c.args.nodes.now c.requires.shape (c.loop-number.number - 1) (Leaf 0)
     (omega (arith, c.loop-number-test.true, c.loop-number.auto.number))
+
+pub place_node-requires-clause-leaf : goal.place_node-requires-clause-leaf
+place_node-requires-clause-leaf c =
+    leaf_at c.args.instance.now.params c.args.instance.now.sinks c.args.nodes.now (c.loop-number.invariant.0).plan (c.loop-number.invariant.0).is_plan (c.loop-number.number - 1)
+    c.in-Some.finished c.in-Some.finished (Leaf 0) (omega (arith, c.loop-number-test.true, c.loop-number.auto.number)) (plan_popped c.args.instance.now c.args.nodes.now c.loop-number.number c.loop-number-test.true c.loop-number.auto.number
+    c.loop-number.plan.items (c.loop-number.invariant.0) c.loop-number.plan.len c.loop-number.plan.ok.0 c.in-Some.finished c.in-Some.finished
+    (c.in-Some.ensures.value c.in-Some.finished (omega (
+      arith,
+      c.loop-number-test.true,
+      c.loop-number.plan.ok.0,
+      plan_front_long c.args.instance.now c.args.nodes.now c.loop-number.number c.loop-number-test.true c.loop-number.auto.number
+          c.loop-number.plan.items (c.loop-number.invariant.0),
+    ))))
 
 pub place_node-requires-clause-region : goal.place_node-requires-clause-region
 place_node-requires-clause-region c =

@@ -1,6 +1,6 @@
 use Rattle.std.proofs.Common.{pos}
 use Rattle.cts_units.specs.declared.params.Sink.{Sink}
-use Rattle.cts_embed.proofs.Stands.{place_in_range, sink_within, leaf_kind_is, leaf_place_is, sink_x, sink_y, pair_kind_is, pair_place_is}
+use Rattle.cts_embed.proofs.Stands.{place_in_range, sink_within, leaf_kind_is, leaf_place_is, pair_kind_is, pair_place_is}
 use Rattle.cts_embed.proofs.placing.stand.Goals as goal
 
 -- the value past the end of the list
@@ -11,16 +11,6 @@ pub bounds-sinks-sink : goal.bounds-sinks-sink
 bounds-sinks-sink c =
     sink_within c.args.instance.now c.sinks.result.now c.sinks.ensures.part c.in-Leaf.sink c.args.node c.in-Leaf.is c.requires.names
 
-pub sink_place-requires-clause-x : goal.sink_place-requires-clause-x
-sink_place-requires-clause-x c =
-    sink_x c.args.instance.now c.sinks.result.now c.sinks.ensures.part c.in-Leaf.sink c.args.node c.in-Leaf.is c.requires.names none
-    c.sinks.ensures.valid
-
-pub sink_place-requires-clause-y : goal.sink_place-requires-clause-y
-sink_place-requires-clause-y c =
-    sink_y c.args.instance.now c.sinks.result.now c.sinks.ensures.part c.in-Leaf.sink c.args.node c.in-Leaf.is c.requires.names none
-    c.sinks.ensures.valid
-
 pub returns-in-Leaf-clause-kind : goal.returns-in-Leaf-clause-kind
 returns-in-Leaf-clause-kind c =
     leaf_kind_is c.args.instance.now c.sinks.result.now c.sinks.ensures.part c.in-Leaf.sink c.args.node c.in-Leaf.is c.requires.names none
@@ -28,14 +18,14 @@ returns-in-Leaf-clause-kind c =
 
 pub returns-in-Leaf-clause-place : goal.returns-in-Leaf-clause-place
 returns-in-Leaf-clause-place c =
-    leaf_place_is c.args.instance.now c.sinks.result.now c.sinks.ensures.part c.in-Leaf.sink c.args.node c.in-Leaf.is c.requires.names none
-    c.args.finished.now c.args.from c.sink_place.result c.sink_place.ensures
+    leaf_place_is c.args.instance.now c.in-Leaf.sink c.args.node c.in-Leaf.is c.args.finished.now c.args.from c.leaf_place.result
+    c.requires.leaf c.leaf_place.ensures
 
 pub returns-in-Leaf-clause-in_range : goal.returns-in-Leaf-clause-in_range
 returns-in-Leaf-clause-in_range c =
-    place_in_range c.args.instance.now c.args.node c.args.finished.now c.args.from c.sink_place.result c.sinks.ensures.valid
-    (leaf_place_is c.args.instance.now c.sinks.result.now c.sinks.ensures.part c.in-Leaf.sink c.args.node c.in-Leaf.is c.requires.names none
-    c.args.finished.now c.args.from c.sink_place.result c.sink_place.ensures)
+    place_in_range c.args.instance.now c.args.node c.args.finished.now c.args.from c.leaf_place.result c.sinks.ensures.valid
+    (leaf_place_is c.args.instance.now c.in-Leaf.sink c.args.node c.in-Leaf.is c.args.finished.now c.args.from c.leaf_place.result
+    c.requires.leaf c.leaf_place.ensures)
 
 pub returns-in-Pair-clause-kind : goal.returns-in-Pair-clause-kind
 returns-in-Pair-clause-kind c =
