@@ -70,7 +70,9 @@ prove() {
             esac
         done
     done
-    (cd "$folder/crates/$crate" && exec rt lib --jobs "$jobs") || return 1
+    (cd "$folder/crates/$crate" && exec rt lib --jobs "$jobs") &
+    rt=$!
+    wait "$rt" || return 1
     rm -rf "$top/crates/$crate/out" && mv "$folder/crates/$crate/out" "$top/crates/$crate" && rm -rf "$folder"
 }
 
@@ -97,6 +99,7 @@ begin_proofs() {
         [ "$crate" != "$main" ] && [ ! -e "$room/$crate.log" ] && are_proved $lower || continue
         running=$((running + 1))
         (
+            trap 'kill "$rt"; exit 1' TERM
             if prove "$crate" "$(((all + running - 1) / running))" $lower </dev/null >"$room/$crate.log" 2>&1; then
                 : >"$room/$crate.proved"
             else
@@ -128,7 +131,7 @@ build() {
     rm -rf "$room" && mkdir -p "$room" && : >"$log" && needs >"$room/needs" || return 1
     all=$(jobs) done=0 count=$(wc -l <"$room/needs") running=0 started='' failed=''
     trap 'kill $started 2>/dev/null; exit 130' HUP INT TERM
-    echo "$name: proving and building the program, once; this takes some minutes" >&2
+    echo "$name: proving and building the program, once; this takes some 20 to 30 minutes on four processors" >&2
     begin_proofs
     while [ "$running" -gt 0 ]; do
         sleep 0.2
