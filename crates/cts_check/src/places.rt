@@ -1,8 +1,9 @@
 //! Sinks by their ids.
 
-ghost use Rattle.std.specs.Prelude.{◌≡◌, ◌≤◌, List, length, IfOk};
+ghost use Rattle.std.specs.Prelude.{◌≡◌, ◌<◌, ◌≤◌, List, length, slice_index_or, IfSome, IfOk};
 ghost use Rattle.cts_units.specs.Ids.{HasDistinctIds};
 ghost use Rattle.cts_units.specs.declared.params.Sink.{Sink};
+ghost use Rattle.cts_check.specs.declared.places.NamedSink.{NamedSink};
 ghost use Rattle.cts_check.specs.Places.{AreNamed, FindsSinks};
 ghost use Rattle.cts_check.specs.Told.{place_of_id};
 
@@ -44,11 +45,29 @@ fn named_sinks(alloc: Global, sinks: &[Sink]) -> Result<Vec<NamedSink>, NoMemory
     Ok(ids)
 }
 
+/// Where a sink with this id stands in the list, if the ids up to it follow each other. Mostly they do, and then
+/// no search is needed.
+fn in_sequence(ids: &[NamedSink], id: u32) -> Option<usize>
+    ensures inside { IfSome result (λ at. at < length ids.now) }
+    ensures found { IfSome result (λ at. (named : NamedSink) → (slice_index_or ids.now at named).id ≡ id) }
+{
+    let first = ids.first()?;
+    let at = id.checked_sub(first.id)? as usize;
+    if ids.get(at)?.id == id {
+        Some(at)
+    } else {
+        None
+    }
+}
+
 /// The place of the sink with this id; where no sink has it, the number of sinks.
 pub fn place_of(ids: &[NamedSink], id: u32) -> u32
     requires { length ids.now ≤ 65536 }
     ensures { (sinks : List Sink) → FindsSinks sinks ids.now → result ≡ place_of_id sinks id }
 {
+    if let Some(at) = in_sequence(ids, id) {
+        return ids[at].place;
+    }
     match ids.binary_search_by_key(&id, |named| named.id) {
         Ok(at) => ids[at].place,
         Err(_) => ids.len() as u32,

@@ -4,6 +4,12 @@ use Rattle.cts_check.specs.declared.places.NamedSink.{NamedSink}
 use Rattle.cts_check.proofs.Named.{name_found, no_name, place_at_name, place_past_names}
 use Rattle.cts_check.proofs.places.place_of.Goals as goal
 
+pub returns-in-Some : goal.returns-in-Some
+returns-in-Some c = λ sinks finds.
+    let n : NamedSink = record { id = 0; place = 0 } in
+    place_at_name sinks c.args.ids.now finds c.args.id (get_or c.args.ids.now c.in-Some.at n) (finds.named.sound c.in-Some.at n c.in-Some.ensures.inside)
+    (c.in-Some.ensures.found n)
+
 pub returns-in-Ok : goal.returns-in-Ok
 returns-in-Ok c = λ sinks finds.
     let found = c.in-Ok.ensures.position (λ (n : NamedSink). n.id) (answers_always _ _ _ (λ f a r g called. search rules)) in
