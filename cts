@@ -128,10 +128,17 @@ end_proofs() {
 build() {
     command -v rt >/dev/null || { echo "$name: the Rattle toolchain's command rt is needed to build the program" >&2; return 1; }
     room=$top/crates/$main/out/first
+    # Of two that begin at once, as in a pipeline, one builds, and the other one waits for it.
+    exec 9<"$top/crates" || return 1
+    ! command -v flock >/dev/null || flock 9
+    if is_current; then
+        exec 9<&-
+        return 0
+    fi
     rm -rf "$room" && mkdir -p "$room" && : >"$log" && needs >"$room/needs" || return 1
     all=$(jobs) done=0 count=$(wc -l <"$room/needs") running=0 started='' failed=''
     trap 'kill $started 2>/dev/null; exit 130' HUP INT TERM
-    echo "$name: proving and building the program, once; this takes some 20 to 30 minutes on four processors" >&2
+    echo "$name: proving and building the program; the first time that takes some 20 to 30 minutes on four processors" >&2
     begin_proofs
     while [ "$running" -gt 0 ]; do
         sleep 0.2
@@ -140,11 +147,11 @@ build() {
     done
     trap - HUP INT TERM
     if [ -z "$failed" ]; then
-        (prove_main) >>"$log" || failed=" $main"
+        (prove_main) >>"$log" && touch "$program" || failed=" $main"
     fi
     rm -rf "$room"
+    exec 9<&-
     [ -z "$failed" ] || { echo "$name: not proved or built:$failed; what the prover said is in $log" >&2; return 1; }
-    touch "$program"
 }
 
 is_current || build || exit 2
