@@ -203,10 +203,10 @@ fn write_lines<K: ByteSink>(sink: &mut K, name: &[u8], value: &[u8]) -> Result<(
     out.finish(sink)
 }
 
-/// 1,000 pieces of 42 bytes, and one that is longer than the buffer.
+/// 8,000 pieces of 42 bytes, of which 1,560 fit the buffer, and one that is longer than the buffer.
 fn write_many(sink: &mut MemSink, long: &[u8]) -> Result<(), WriteEnd> {
     let mut out = SinkBuffer::new();
-    for _ in 0..1000 {
+    for _ in 0..8_000 {
         out.put(sink, TEXT);
     }
     out.put(sink, long);
@@ -219,17 +219,17 @@ fn writes_through_a_buffer(rt: HostRuntime) -> Result<(), Fail> {
     write_lines(&mut sink, b"wire", b"1")?;
     assert_eq!(rt; sink.bytes(), b"wire 1\n1 wire\n".as_slice());
 
-    let long = vec![in rt.alloc(); b'x'; 20_000]?;
-    let mut sink = MemSink::new(rt.alloc(), 62_000, Vec::new(rt.alloc()), 100_000)?;
+    let long = vec![in rt.alloc(); b'x'; 160_000]?;
+    let mut sink = MemSink::new(rt.alloc(), 496_000, Vec::new(rt.alloc()), 1_000_000)?;
     write_many(&mut sink, &long)?;
-    assert_eq!(rt; sink.bytes().len(), 62_000);
+    assert_eq!(rt; sink.bytes().len(), 496_000);
     assert_eq!(rt; sink.calls(), 7);
 
     let failing = vec![in rt.alloc(); 2]?;
-    let mut sink = MemSink::new(rt.alloc(), 62_000, failing, 100_000)?;
+    let mut sink = MemSink::new(rt.alloc(), 496_000, failing, 1_000_000)?;
     let end = write_many(&mut sink, &long);
-    assert!(rt; matches!(end, Err(WriteEnd::WriteFault { written: 16_380 })));
-    assert_eq!(rt; sink.bytes().len(), 16_380);
+    assert!(rt; matches!(end, Err(WriteEnd::WriteFault { written: 131_040 })));
+    assert_eq!(rt; sink.bytes().len(), 131_040);
     assert_eq!(rt; sink.calls(), 3);
     Ok(())
 }
