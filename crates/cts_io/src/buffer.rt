@@ -7,11 +7,14 @@ ghost use Rattle.cts_io.specs.Text.{Finishes, Puts};
 
 use crate::device::ByteSink;
 use crate::write::{WriteEnd, write_all};
-use cts_num::{decimal, decimal_len, write_decimal};
+use cts_num::{decimal, write_decimal};
 use std::marker::Model;
 
 /// The bytes that a buffer holds: 64 KiB.
 const ROOM: usize = 65_536;
+
+/// The bytes of the longest number: 38 digits and a point.
+const LONGEST_NUMBER: usize = 39;
 
 /// A buffer before a sink, for a text that comes in many pieces. The sink gets 64 KiB at a time,
 /// and no memory is taken.
@@ -70,9 +73,8 @@ impl SinkBuffer {
         requires places { places ≤ 16 }
         ensures { Puts K.held K.faults sink.old self.old sink.new self.new (decimal_text places value) }
     {
-        let size = decimal_len(value, places);
-        if size <= ROOM - self.len {
-            self.keep_decimal(value, places, size);
+        if LONGEST_NUMBER <= ROOM - self.len {
+            self.keep_decimal(value, places);
         } else {
             self.put_decimal_over(sink, value, places);
         }
@@ -117,17 +119,15 @@ impl SinkBuffer {
         self.put_over(sink, decimal(value, places).bytes());
     }
 
-    /// Writes a number, whose text is so long, behind what waits.
+    /// Writes a number behind what waits.
     #[inline(always)]
-    fn keep_decimal(&mut self, value: u128, places: u32, size: usize)
+    fn keep_decimal(&mut self, value: u128, places: u32)
         requires value { value < 10 ^ 38 }
         requires places { places ≤ 16 }
-        requires size { size ≡ length (decimal_text places value) }
-        requires room { length self.old.waiting + size ≤ 65536 }
+        requires room { length self.old.waiting + 39 ≤ 65536 }
         ensures { self.new ≡ record self.old { waiting = self.old.waiting ++ decimal_text places value } }
     {
-        store_decimal(&mut self.bytes, self.len, value, places, size);
-        self.len += size;
+        self.len = store_decimal(&mut self.bytes, self.len, value, places);
     }
 
     /// Copies `piece` behind what waits.
@@ -181,16 +181,16 @@ fn hand_over<K: ByteSink>(sink: &mut K, bytes: &[u8], written: &mut usize, faile
     }
 }
 
-/// Writes a number, whose text is so long, to the place `at` of `bytes`.
+/// Writes a number to the place `at` of `bytes`, and returns where its text ends.
 #[inline(always)]
-fn store_decimal(bytes: &mut [u8], at: usize, value: u128, places: u32, size: usize)
+fn store_decimal(bytes: &mut [u8], at: usize, value: u128, places: u32) -> usize
     requires value { value < 10 ^ 38 }
     requires places { places ≤ 16 }
-    requires size { size ≡ length (decimal_text places value) }
-    requires room { at + size ≤ length bytes.old }
-    ensures { take (at + size) bytes.new ≡ take at bytes.old ++ decimal_text places value }
+    requires room { at + 39 ≤ length bytes.old }
+    ensures end { result ≤ at + 39 }
+    ensures written { take result bytes.new ≡ take at bytes.old ++ decimal_text places value }
 {
-    write_decimal(value, places, &mut bytes[at..at + size]);
+    at + write_decimal(value, places, &mut bytes[at..])
 }
 
 /// Copies `piece` to the place `at` of `bytes`.

@@ -3,7 +3,9 @@ pub mod Computed
 pub mod Floors
 pub mod FrontNumbers
 pub mod Fronts
+pub mod Lanes
 pub mod Lengths
+pub mod Pieces
 pub mod Readings
 pub mod Spelling
 pub mod Steps

@@ -244,7 +244,7 @@ pub record Cut (n q t : ℕ) : Type 0 where
   pub rest : n / q % t ≡ n % (t * q) / q
   pub low : n % (t * q) % q ≡ n % q
 
-cut_by : (n q t : ℕ) → 0 < q → 0 < t → Cut n q t
+pub cut_by : (n q t : ℕ) → 0 < q → 0 < t → Cut n q t
 cut_by n q t pq pt =
     let u = t * q in
     let pu : 0 < u = mul-pos pt pq in
@@ -266,9 +266,10 @@ cut_at c p n le =
     let s : c - p + p ≡ c = omega arith in
     (cut_by n (10 ^ p) (10 ^ (c - p)) (ten_pos p) (ten_pos (c - p)), sym (pow-add 10 (c - p) p) ∙ ap (λ j. 10 ^ j) s)
 
-fraction_text-low : (p v : ℕ) → v % 10 ^ 16 % 10 ^ p ≡ v % 10 ^ p → fraction_text p v ≡ fraction_text p (v % 10 ^ 16)
+-- a fraction goes by the last digits alone
+pub fraction_text-low : (p v w : ℕ) → w % 10 ^ p ≡ v % 10 ^ p → fraction_text p v ≡ fraction_text p w
 unfolding fraction_text
-fraction_text-low p v e = rw e refl
+fraction_text-low p v w e = rw e refl
 
 pub decimal_text-cut : (p v : ℕ) → p ≤ 16 → 10 ^ 16 ≤ v
     → decimal_text p v ≡ whole_text (v / 10 ^ 16) ++ (padded_text (16 - p) (v % 10 ^ 16 / 10 ^ p % 10 ^ (16 - p)) ++ fraction_text p (v % 10 ^ 16))
@@ -283,4 +284,4 @@ decimal_text-cut p v le big =
     let low : v % 10 ^ 16 % q ≡ v % q = ap (λ u. v % u % q) (sym cut.1) ∙ cut.0.low in
     let whole : whole_text x ≡ whole_text (v / 10 ^ 16) ++ padded_text (16 - p) (v % 10 ^ 16 / q % t) =
     whole_text_split (16 - p) x more ∙ rw (high, rest) refl in
-    decimal_text-parts p v ∙ rw (whole, fraction_text-low p v low) (append_assoc (whole_text (v / 10 ^ 16)) (padded_text (16 - p) (v % 10 ^ 16 / q % t)) (fraction_text p (v % 10 ^ 16)))
+    decimal_text-parts p v ∙ rw (whole, fraction_text-low p v (v % 10 ^ 16) low) (append_assoc (whole_text (v / 10 ^ 16)) (padded_text (16 - p) (v % 10 ^ 16 / q % t)) (fraction_text p (v % 10 ^ 16)))

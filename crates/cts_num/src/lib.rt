@@ -2,22 +2,25 @@
 //! lowest layer.
 //!
 //! The layers above may use [`decimal`], which writes a number as its canonical decimal text,
-//! [`decimal_len`] and [`write_decimal`], which do so in place, [`read_canonical`], which reads such a
-//! text and no other, [`read_decimal`], which reads a decimal text or names the first fault in it,
-//! [`read_front`], which reads the number in front of a text, the [`laws`] that tie them, [`isqrt`] and
+//! [`write_decimal`], which does so in place, [`read_canonical`], which reads such a text and no other,
+//! [`read_decimal`], which reads a decimal text or names the first fault in it, [`read_front`], which
+//! reads the number in front of a text, the [`laws`] that tie them, [`isqrt`] and
 //! [`floor_div`], and [`NoMemory`], to which `?` turns every failed allocation.
 #![tactic(auto)]
 
 mod canonical;
 mod error;
+mod forward;
 pub mod laws;
 mod powers;
 mod read;
 mod roots;
+mod sixteen;
 mod write;
 
 pub use canonical::read_canonical;
 pub use error::NoMemory;
+pub use forward::write_decimal;
 pub use read::{DecimalFault, read_decimal, read_front};
 pub use roots::{floor_div, isqrt};
-pub use write::{Digits, decimal, decimal_len, write_decimal};
+pub use write::{Digits, decimal};

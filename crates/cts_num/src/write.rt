@@ -1,16 +1,16 @@
 //! Numbers written as decimal text, from the last digit to the first.
 
-ghost use Rattle.std.specs.Prelude.{◌≡◌, ℕ, ◌+◌, ◌-◌, ◌/◌, ◌%◌, ◌^◌, ◌<◌, ◌≤◌, List, ◌++◌, length, drop};
+ghost use Rattle.std.specs.Prelude.{◌≡◌, ℕ, ◌+◌, ◌-◌, ◌/◌, ◌%◌, ◌^◌, ◌<◌, ◌≤◌, List, ◌++◌, length, take, drop};
 ghost use Rattle.cts_num.specs.Decimal.{decimal_text, fraction_text, padded_text, pair_text, whole_text};
 
-use crate::powers::POWERS_OF_TEN;
+use crate::sixteen::sixteen_digits;
 use std::marker::Model;
 
 // The longest text has 38 digits and a point.
 const CAPACITY: usize = 39;
 
 // A value of two words is cut after this many digits, as many as the greatest number of places.
-const CHUNK: usize = 16;
+pub(crate) const CHUNK: usize = 16;
 
 const CHUNK_UNIT: u64 = 10_000_000_000_000_000;
 
@@ -66,74 +66,6 @@ pub fn decimal(value: u128, places: u32) -> Digits
     digits
 }
 
-/// How many bytes the canonical decimal text of `value` takes.
-#[inline(always)]
-pub fn decimal_len(value: u128, places: u32) -> usize
-    requires value { value < 10 ^ 38 }
-    requires places { places ≤ 16 }
-    ensures length { result ≡ length (decimal_text places value) }
-    ensures short { result ≤ 39 }
-{
-    let places = places as usize;
-    if value <= u128::from(u64::MAX) {
-        return word_len(value as u64 / POWERS_OF_TEN[places]) + fraction_len(places);
-    }
-    let (high, _) = split(value);
-    whole_len(high) + (CHUNK - places) + fraction_len(places)
-}
-
-// How many bytes the point and the fraction take.
-#[inline(always)]
-fn fraction_len(places: usize) -> usize
-    requires { places ≤ 16 }
-    ensures { (number : ℕ) → result ≡ length (fraction_text places number) }
-{
-    match places {
-        0 => 0,
-        _ => places + 1,
-    }
-}
-
-/// Writes the canonical decimal text of `value` over the bytes of `text`, which are as many as it takes.
-#[inline(always)]
-pub fn write_decimal(value: u128, places: u32, text: &mut [u8])
-    requires value { value < 10 ^ 38 }
-    requires places { places ≤ 16 }
-    requires long { length text.old ≡ length (decimal_text places value) }
-    ensures { text.new ≡ decimal_text places value }
-{
-    write_ending(value, places as usize, text);
-}
-
-// How many digits a number of one word has.
-#[inline(always)]
-fn word_len(number: u64) -> usize
-    ensures { result ≡ length (whole_text number) }
-{
-    let mut rest = number;
-    let mut more = 0;
-    while rest >= 100 {
-        rest /= 100;
-        more += 2;
-    }
-    if rest < 10 { more + 1 } else { more + 2 }
-}
-
-// How many digits a number has.
-#[inline(always)]
-fn whole_len(number: u128) -> usize
-    requires { number < 10 ^ 38 }
-    ensures { result ≡ length (whole_text number) }
-{
-    let mut rest = number;
-    let mut more = 0;
-    while rest > u128::from(u64::MAX) {
-        rest = split(rest).0;
-        more += CHUNK;
-    }
-    more + word_len(rest as u64)
-}
-
 // Writes the text so that it ends with the buffer, and returns where it starts.
 #[inline(always)]
 fn write_ending(value: u128, places: usize, buffer: &mut [u8]) -> usize
@@ -157,7 +89,7 @@ fn write_ending(value: u128, places: usize, buffer: &mut [u8]) -> usize
 // The chunks of a value, and what is left below one. A small high word is turned into chunks and a
 // rest without the slow division of two words.
 #[inline(always)]
-fn split(value: u128) -> (u128, u64)
+pub(crate) fn split(value: u128) -> (u128, u64)
     ensures chunks { result.0 ≡ value / 10 ^ 16 }
     ensures low { result.1 ≡ value % 10 ^ 16 }
 {
@@ -251,14 +183,19 @@ fn write_first(number: u64, buffer: &mut [u8], end: usize) -> usize
 
 // Writes the last `width` digits so that they end at `end`, and returns the number before them.
 #[inline(always)]
-fn write_low(number: u64, width: usize, buffer: &mut [u8], end: usize) -> u64
+pub(crate) fn write_low(number: u64, width: usize, buffer: &mut [u8], end: usize) -> u64
     requires room { width ≤ end }
     requires end { end ≤ length buffer.old }
     ensures rest { result ≡ number / 10 ^ width }
+    ensures before { take (end - width) buffer.new ≡ take (end - width) buffer.old }
     ensures written { drop (end - width) buffer.new
         ≡ padded_text width (number % 10 ^ width) ++ drop end buffer.old }
 {
     let start = end - width;
+    if width == CHUNK {
+        buffer[start..end].copy_from_slice(&sixteen_digits(number % CHUNK_UNIT));
+        return number / CHUNK_UNIT;
+    }
     let mut rest = number;
     let mut at = end;
     while at - start >= 2 {
@@ -274,10 +211,11 @@ fn write_low(number: u64, width: usize, buffer: &mut [u8], end: usize) -> u64
 }
 
 #[inline(always)]
-fn write_pair(pair: u64, buffer: &mut [u8], at: usize)
+pub(crate) fn write_pair(pair: u64, buffer: &mut [u8], at: usize)
     requires pair { pair < 100 }
     requires room { at + 2 ≤ length buffer.old }
-    ensures { drop at buffer.new ≡ pair_text pair ++ drop (at + 2) buffer.old }
+    ensures before { take at buffer.new ≡ take at buffer.old }
+    ensures written { drop at buffer.new ≡ pair_text pair ++ drop (at + 2) buffer.old }
 {
     let from = pair as usize * 2;
     let (tens, ones) = (PAIRS[from], PAIRS[from + 1]);

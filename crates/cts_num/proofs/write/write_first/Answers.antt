@@ -37,4 +37,4 @@ pub returns-else-number-lt10-clause-written : goal.returns-else-number-lt10-clau
 returns-else-number-lt10-clause-written c =
     let long = ap length (whole_text_two c.args.number c.if-number-lt10.false c.requires.small) in
     let e : c.args.end - 2 + 2 ≡ c.args.end = omega arith in
-    rw (c.write_pair.ensures, e, whole_text_two c.args.number c.if-number-lt10.false c.requires.small)
+    rw (c.write_pair.ensures.written, e, whole_text_two c.args.number c.if-number-lt10.false c.requires.small)

@@ -1,5 +1,6 @@
 use Rattle.std.proofs.Common.{◌≡◌, ◌+◌, ◌-◌, ◌/◌, ◌%◌, ◌^◌, ap, ◌∙◌, arith, append_assoc}
-use Rattle.std.proofs.lemmas.List.{drop-set}
+use Rattle.std.proofs.lemmas.List.{drop-set, take-set-le}
+use Rattle.cts_num.proofs.Pieces.{take_front}
 use Rattle.cts_num.proofs.Texts.{low_text_pair, low_text-zero, padded_text_one, hundred_more, ten_more}
 use Rattle.cts_num.proofs.write.write_low.Goals as goal
 
@@ -15,7 +16,8 @@ loop-at-preserved c =
       above = omega arith;
       below = omega arith;
       rest = ap (λ n. n / 100) l.invariant.rest ∙ hundred_more c.args.number (c.args.end - l.at) ∙ ap (λ k. c.args.number / 10 ^ k) w;
-      text = rw (c.write_pair.ensures, e) (rw (s, low_text_pair left l.rest, append_assoc) at l.invariant.text);
+      kept = take_front start (l.at - 2) _ _ (omega arith) c.write_pair.ensures.before ∙ l.invariant.kept;
+      text = rw (c.write_pair.ensures.written, e) (rw (s, low_text_pair left l.rest, append_assoc) at l.invariant.text);
     }
 
 pub returns-then-at-start-clause-rest : goal.returns-then-at-start-clause-rest
@@ -39,3 +41,11 @@ returns-else-at-start-clause-written c =
     let s : l.at - start ≡ 0 = omega arith in
     let e : l.at ≡ start = omega arith in
     rw (← e) (rw (s, low_text-zero l.rest) at l.invariant.text)
+
+pub returns-then-at-start-clause-before : goal.returns-then-at-start-clause-before
+returns-then-at-start-clause-before c =
+    let start = c.args.end - c.args.width in
+    take-set-le start c.loop-at.buffer start _ (omega arith) ∙ c.loop-at.invariant.kept
+
+pub returns-else-at-start-clause-before : goal.returns-else-at-start-clause-before
+returns-else-at-start-clause-before c = c.loop-at.invariant.kept

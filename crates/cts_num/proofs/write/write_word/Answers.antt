@@ -17,5 +17,5 @@ loop-rest-preserved c =
       room = omega arith;
       below = omega arith;
       moved = omega arith;
-      text = rw (c.write_pair.ensures, e) (rw (whole_text_pair l.rest c.loop-rest-test.true, append_assoc) at l.invariant.text);
+      text = rw (c.write_pair.ensures.written, e) (rw (whole_text_pair l.rest c.loop-rest-test.true, append_assoc) at l.invariant.text);
     }
