@@ -80,6 +80,30 @@ impl SinkBuffer {
         }
     }
 
+    /// Gives a label and then a number, as [`put`](Self::put) and [`put_decimal`](Self::put_decimal) do
+    /// one after the other.
+    #[inline(always)]
+    pub fn put_labelled<K: ByteSink>(
+        &mut self,
+        sink: &mut K,
+        label: &[u8],
+        value: u128,
+        places: u32,
+    )
+        requires value { value < 10 ^ 38 }
+        requires places { places ≤ 16 }
+        ensures { Puts K.held K.faults
+            sink.old self.old sink.new self.new (label.now ++ decimal_text places value) }
+    {
+        let room = ROOM - self.len;
+        if LONGEST_NUMBER <= room && label.len() <= room - LONGEST_NUMBER {
+            self.keep(label);
+            self.keep_decimal(value, places);
+        } else {
+            self.put_labelled_over(sink, label, value, places);
+        }
+    }
+
     /// Gives what waits to the sink, and tells how the writing of the whole text ended.
     pub fn finish<K: ByteSink>(mut self, sink: &mut K) -> Result<(), WriteEnd>
         ensures { Finishes K.held K.faults sink.old self sink.new result }
@@ -117,6 +141,25 @@ impl SinkBuffer {
         ensures { Puts K.held K.faults sink.old self.old sink.new self.new (decimal_text places value) }
     {
         self.put_over(sink, decimal(value, places).bytes());
+    }
+
+    /// As `put_labelled`, by a write between.
+    #[cold]
+    #[inline(never)]
+    fn put_labelled_over<K: ByteSink>(
+        &mut self,
+        sink: &mut K,
+        label: &[u8],
+        value: u128,
+        places: u32,
+    )
+        requires value { value < 10 ^ 38 }
+        requires places { places ≤ 16 }
+        ensures { Puts K.held K.faults
+            sink.old self.old sink.new self.new (label.now ++ decimal_text places value) }
+    {
+        self.put_over(sink, label);
+        self.put_decimal(sink, value, places);
     }
 
     /// Writes a number behind what waits.

@@ -25,8 +25,7 @@ fn put_number<K: ByteSink>(
     requires places { places ≤ 16 }
     ensures { Puts K.held K.faults sink.old out.old sink.new out.new (labelled label.now places value) }
 {
-    out.put(sink, label);
-    out.put_decimal(sink, value, places);
+    out.put_labelled(sink, label, value, places);
 }
 
 /// A whole number.
