@@ -27,6 +27,12 @@ pub fn exposed<O: Obstacles>(obstacles: &O, die: &Die, segment: Segment) -> Opti
     requires segment { IsSegmentIn die.now segment }
     ensures in_die { IfSome result (IsSegmentIn die.now) }
     ensures column { IfSome result (λ part. part.bottom.x ≡ segment.bottom.x) }
+    ensures bottom_free { IfSome result (λ part.
+        IsFreeAmong (O.counts obstacles.now) die.now part.bottom) }
+    ensures bottom_on { IfSome result (λ part. IsOn segment part.bottom) }
+    ensures top_free { IfSome result (λ part.
+        IsFreeAmong (O.counts obstacles.now) die.now part.top) }
+    ensures top_on { IfSome result (λ part. IsOn segment part.top) }
     ensures whole { (q : Whole) → IsFreeAmong (O.counts obstacles.now) die.now q → IsOn segment q
         → IsSomeAnd result (λ part. IsOn part q) }
 {

@@ -9,8 +9,7 @@ returns-then-top-bottom-clause-whole g c = λ q free on.
     absurd (omega (arith, ints, above, below))
 
 pub returns-clause-whole : goal.returns-clause-whole
-returns-clause-whole g c = λ q free on. record {
-  column = on.column ∙ sym c.rise-bottom.ensures.column;
-  low = c.rise-bottom.ensures.first q free on.column on.low;
-  high = c.fall-top.ensures.first q free (on.column ∙ sym c.args.segment.vertical) on.high;
-}
+returns-clause-whole g c = λ q free on.
+    let low : c.rise-bottom.result.y ≤ℤ q.y = c.rise-bottom.ensures.first q free on.column on.low in
+    let high : q.y ≤ℤ c.fall-top.result.y = c.fall-top.ensures.first q free (on.column ∙ sym c.args.segment.vertical) on.high in
+    search (ints, low, high)
