@@ -13,6 +13,8 @@ pub mod Grounds
 pub mod Fronts
 pub mod Wired
 pub mod Starts
+pub mod Descent
+pub mod LeafIds
 pub mod Stands
 pub mod PlacedFits
 pub mod OnePlace

@@ -1,9 +1,9 @@
 -- What a node is and where it stands, under the names that the code gives to sinks.
 use Rattle.std.proofs.Common.{◌≡◌, ◌↔◌, ℕ, ℤ, ◌<◌, List, length, get_or, slice_get, Option, None, Some, refl, sym, ap, subst, ◌∙◌, arith}
 use Rattle.std.specs.Option.{MatchOption, option_map}
-use Rattle.std.proofs.lemmas.Option.{slice_get-get_or}
 use Rattle.std.proofs.lemmas.Int.{ints}
 use Rattle.cts_geom.specs.declared.regions.Region.{Region}
+use Rattle.cts_geom.specs.Coordinate.{IsCoordinate}
 use Rattle.cts_geom.specs.Regions.{ContainsSpot, IsRegionInRange}
 use Rattle.cts_geom.specs.declared.points.Spot.{Spot}
 use Rattle.cts_geom.specs.Points.{IsSpotInRange, spot_at}
@@ -18,8 +18,7 @@ use Rattle.cts_postorder.specs.PostOrder.{trees_of}
 use Rattle.cts_postorder.proofs.Growth.{length-trees_of}
 use Rattle.cts_postorder.proofs.Upward.{leaf_here}
 use Rattle.cts_postorder.proofs.Zips.{all_zip-at}
-use Rattle.cts_topo.specs.Shape.{children, IsShapeOver}
-use Rattle.cts_topo.proofs.Counts.{leaf_within}
+use Rattle.cts_topo.specs.Shape.{children}
 use Rattle.cts_up.specs.Sinks.{AreSinksInRange}
 use Rattle.cts_up.specs.Plan.{IsFinished, IsPlan}
 use Rattle.cts_up.proofs.Sides.{sides_merge}
@@ -28,8 +27,7 @@ use Rattle.cts_embed.specs.PlacedTree.{IsCutFrom, IsPlacedFrom}
 use Rattle.cts_merge.specs.declared.side.Finished.{Finished}
 use Rattle.cts_merge.specs.Merge.{IsLeaf}
 use Rattle.cts_tree.specs.declared.nodes.NodeKind.TheVariants as kinds
-use Rattle.cts_embed.specs.Leaves.{IsLeafOf}
-use Rattle.cts_embed.specs.Naming.{NamesOneOf}
+use Rattle.cts_embed.specs.Leaves.{IsIdOf, IsLeafOf}
 use Rattle.cts_embed.specs.Places.{IsNodePlace, IsPairPlace, kind_of}
 use Rattle.cts_embed.proofs.FreePlaces.{in_die_in_range}
 use Rattle.cts_embed.proofs.Starts.{place_in_die}
@@ -38,22 +36,17 @@ pub place_in_range : (parts : Parts) (n : ShapeNode) (f : Finished) (from place 
     → IsNodePlace parts n f from place → IsSpotInRange place
 place_in_range parts n f from place ok is = in_die_in_range parts.die place ok.die (place_in_die parts n f from place ok is)
 
--- a leaf, whose sink is read from a list that is the instance's
-module _ (parts : Parts) (lent : List Sink) (same : lent ≡ parts.sinks) (s : ℕ) (n : ShapeNode) (is : n ≡ Leaf s)
-    (names : NamesOneOf (length parts.sinks) n) where
-  pub sink_within : s < length lent
-  unfolding NamesOneOf
-  sink_within =
-      subst (λ sinks. s < length sinks) (sym same) (subst (NamesOneOf (length parts.sinks)) is names)
-
-  module _ (d : Sink) where
-    found : slice_get parts.sinks s ≡ Some (get_or lent s d)
-    found = ap (λ sinks. slice_get sinks s) (sym same) ∙ slice_get-get_or lent s d sink_within
-
-    pub leaf_kind_is : (buffer : Option ℕ) → kind_of parts.sinks n buffer ≡ Some (kinds.Leaf (get_or lent s d).id s)
-    unfolding kind_of
-    leaf_kind_is buffer =
-        ap (λ m. kind_of parts.sinks m buffer) is ∙ ap (option_map (λ (x : Sink). kinds.Leaf x.id s)) found
+-- a leaf, by the id of the sink that it names
+pub leaf_kind_is : (sinks : List Sink) (s id : ℕ) (n : ShapeNode) → n ≡ Leaf s → (buffer : Option ℕ) → IsIdOf sinks n id
+    → kind_of sinks n buffer ≡ Some (kinds.Leaf id s)
+unfolding kind_of IsIdOf
+leaf_kind_is sinks s id n is buffer named =
+    ap (λ m. kind_of sinks m buffer) is ∙ by_sink (slice_get sinks s) (subst (λ m. IsIdOf sinks m id) is named)
+  where
+    by_sink : (o : Option Sink) → MatchOption o ⊥ (λ x. x.id ≡ id)
+        → option_map (λ (x : Sink). kinds.Leaf x.id s) o ≡ Some (kinds.Leaf id s)
+    by_sink None named = absurd named
+    by_sink (Some x) named = ap (λ i. Some (kinds.Leaf i s)) named
 
 -- the first corner of a region with only one spot is that spot
 pub corner_is : (region : Region) (spot : Spot) → ((p : Spot) → ContainsSpot region p ↔ (p ≡ spot)) → (u v : ℤ)
@@ -66,6 +59,11 @@ corner_is region spot only u v u_is v_is =
       v_low = omega (arith, ints, v_is);
       v_high = omega (arith, ints, v_is, region.v_ordered);
     })
+
+pub corner_in_range : (region : Region) → IsRegionInRange region → (u v : ℤ) → u ≡ region.u1 → v ≡ region.v1
+    → IsSpotInRange (record { u = u; v = v })
+corner_in_range region ok u v u_is v_is =
+    record { u = subst IsCoordinate (sym u_is) ok.u1; v = subst IsCoordinate (sym v_is) ok.v1 }
 
 -- a leaf's place is that of the sink that it is made of
 pub leaf_place_is : (parts : Parts) (s : ℕ) (n : ShapeNode) → n ≡ Leaf s → (f : Finished) (from place : Spot)
@@ -80,25 +78,15 @@ leaf_place_is parts s n is f from place leaf at =
     by_sink (Some sink) made = at sink made
 
 -- a pair
-pub pair_kind_is : (parts : Parts) (l r : ℕ) (n : ShapeNode) (buffer : Option ℕ) → n ≡ Pair l r
-    → kind_of parts.sinks n buffer ≡ Some (kinds.Pair l r buffer)
+pub pair_kind_is : (sinks : List Sink) (l r : ℕ) (n : ShapeNode) (buffer : Option ℕ) → n ≡ Pair l r
+    → kind_of sinks n buffer ≡ Some (kinds.Pair l r buffer)
 unfolding kind_of
-pair_kind_is parts l r n buffer is = ap (λ m. kind_of parts.sinks m buffer) is
+pair_kind_is sinks l r n buffer is = ap (λ m. kind_of sinks m buffer) is
 
 pub pair_place_is : (parts : Parts) (l r : ℕ) (n : ShapeNode) (f : Finished) (from place : Spot) → n ≡ Pair l r
     → IsPairPlace parts f from place → IsNodePlace parts n f from place
 unfolding IsNodePlace
 pair_place_is parts l r n f from place is pair = subst (λ m. IsNodePlace parts m f from place) (sym is) pair
-
--- a leaf of a shape names one of the sinks
-pub names_at : (count : ℕ) (nodes : List ShapeNode) → IsShapeOver count nodes → (k : ℕ) (e : ShapeNode) → k < length nodes
-    → NamesOneOf count (get_or nodes k e)
-unfolding NamesOneOf
-names_at count nodes over k e h = by_node (get_or nodes k e) refl
-  where
-    by_node : (n : ShapeNode) → get_or nodes k e ≡ n → NamesOneOf count n
-    by_node (Leaf s) here = leaf_within count nodes over k e s h here
-    by_node (Pair l r) here = tt
 
 sinks_in_range : (parts : Parts) → IsValid parts → AreSinksInRange parts.sinks
 sinks_in_range parts ok = record {

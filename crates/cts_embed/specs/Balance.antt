@@ -1,7 +1,7 @@
 -- The balance of a placed tree: upward over the routes, each pair's two wires get the lengths by which the delays of its
 -- two sides differ least. Buffers stay as they were chosen before, whatever the loads are now.
 -- After the exact zero-skew merge of Tsay; whole lengths over given routes are this project's own rule.
-use Rattle.std.specs.Prelude.{◌≡◌, ℕ, ◌+◌, ◌-◌, ◌*◌, ◌^◌, ◌<◌, ◌≤◌, ◌⊎◌, max, List, slice_get, Option, None, MatchOption}
+use Rattle.std.specs.Prelude.{◌≡◌, ℕ, ◌+◌, ◌*◌, ◌<◌, ◌≤◌, ◌⊎◌, max, List, slice_get, Option, None, MatchOption}
 use Rattle.cts_units.specs.declared.params.Sink.{Sink}
 use Rattle.cts_units.specs.declared.params.Wire.{Wire}
 use Rattle.cts_units.specs.declared.params.Params.{Params}

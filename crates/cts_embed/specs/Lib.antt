@@ -1,7 +1,6 @@
 pub mod Places
 pub mod PlacedTree
 pub mod Prepared
-pub mod Naming
 pub mod Leaves
 pub mod Fitting
 pub mod Balance

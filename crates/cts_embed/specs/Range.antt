@@ -1,5 +1,5 @@
 -- The range of the numbers of a balanced node.
-use Rattle.std.specs.Prelude.{◌^◌, ◌≤◌}
+use Rattle.std.specs.Prelude.{◌≤◌}
 use Rattle.cts_units.specs.Limits.{max_delay, max_load}
 use Rattle.cts_embed.specs.declared.node.NodeBalance.{NodeBalance}
 

@@ -10,6 +10,7 @@ ghost use Rattle.cts_embed.specs.Fitting.{Fits};
 ghost use Rattle.cts_embed.specs.PlacedTree.{IsPlacedNode, IsPlacedTree};
 
 use crate::end::EmbedEnd;
+use crate::ids::{leaf_ids, take_id};
 use crate::placing::{ground_of, place_node, source_place};
 use crate::room::give_back;
 use cts_instance::Instance;
@@ -34,6 +35,7 @@ fn place_nodes(
     ensures ends { IfErr result (EmbedEnds instance.now nodes.now) }
 {
     let ground = ground_of(alloc, instance)?;
+    let mut ids = leaf_ids(alloc, instance.sinks(), nodes)?;
     let mut starts = vec![in alloc; source_place(instance); nodes.len()]?;
     let mut placed = Vec::with_capacity(alloc, nodes.len())?;
     for number in (0..nodes.len()).rev() {
@@ -41,14 +43,8 @@ fn place_nodes(
             unreachable!()
         };
         give_back(&mut plan);
-        let node = match place_node(
-            alloc,
-            instance,
-            &ground,
-            nodes[number],
-            &finished,
-            starts[number],
-        ) {
+        let id = take_id(&mut ids, nodes[number]);
+        let node = match place_node(alloc, &ground, nodes[number], id, &finished, starts[number]) {
             Ok(node) => node,
             Err(RouteEnd::Cut) => {
                 return Err(EmbedEnd::Cut {

@@ -12,6 +12,7 @@ mod balancing;
 mod embedding;
 mod end;
 mod ground;
+mod ids;
 pub mod laws;
 mod node;
 mod placing;

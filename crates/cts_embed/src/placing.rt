@@ -1,12 +1,11 @@
 //! The place of one node, and the route to it.
 
-ghost use Rattle.std.specs.Prelude.{◌≡◌, length, Some, IfOk, Err};
+ghost use Rattle.std.specs.Prelude.{◌≡◌, List, Some, IfOk, Err};
 ghost use Rattle.cts_geom.specs.Points.{IsSpotInRange, spot_at};
 ghost use Rattle.cts_geom.specs.Regions.{IsRegionInRange};
 ghost use Rattle.cts_merge.specs.Merge.{IsLeaf};
 ghost use Rattle.cts_units.specs.declared.params.Sink.{Sink};
-ghost use Rattle.cts_embed.specs.Leaves.{IsLeafOf};
-ghost use Rattle.cts_embed.specs.Naming.{NamesOneOf};
+ghost use Rattle.cts_embed.specs.Leaves.{IsIdOf, IsLeafOf};
 ghost use Rattle.cts_embed.specs.PlacedTree.{IsCutFrom, IsPlacedFrom};
 ghost use Rattle.cts_instance.specs.declared.parts.Parts.{Parts};
 ghost use Rattle.cts_embed.specs.Prepared.{IsFreeMapOf, IsGroundOf};
@@ -57,7 +56,8 @@ fn pair_place(free: &FreeMap, pair: &Finished, from: Spot) -> Spot
 /// The place of a leaf, which is the only spot of its region. The sink has it too, but would have to be waited for.
 fn leaf_place(leaf: &Finished) -> Spot
     requires { IsRegionInRange leaf.now.side.region }
-    ensures { (sink : Sink) → IsLeaf sink leaf.now → result ≡ spot_at sink.x sink.y }
+    ensures place { (sink : Sink) → IsLeaf sink leaf.now → result ≡ spot_at sink.x sink.y }
+    ensures in_range { IsSpotInRange result }
 {
     let region = leaf.side.region;
     Spot {
@@ -66,28 +66,25 @@ fn leaf_place(leaf: &Finished) -> Spot
     }
 }
 
-/// What a node is, and its final place.
+/// What a node is, with the id of a leaf's sink, and its final place.
 fn stand(
-    instance: &Instance,
     free: &FreeMap,
     node: ShapeNode,
+    id: u32,
     finished: &Finished,
     from: Spot,
 ) -> (NodeKind, Spot)
-    requires free { IsFreeMapOf instance.now free.now }
-    requires names { NamesOneOf (length instance.now.sinks) node }
-    requires leaf { IsLeafOf instance.now.sinks node finished.now }
+    requires free { (parts : Parts) × IsFreeMapOf parts free.now }
     requires region { IsRegionInRange finished.now.side.region }
     requires from { IsSpotInRange from }
-    ensures kind { kind_of instance.now.sinks node finished.now.buffer ≡ Some result.0 }
-    ensures place { IsNodePlace instance.now node finished.now from result.1 }
+    ensures kind { (sinks : List Sink) → IsIdOf sinks node id
+        → kind_of sinks node finished.now.buffer ≡ Some result.0 }
+    ensures place { (parts : Parts) → IsFreeMapOf parts free.now → IsLeafOf parts.sinks node finished.now
+        → IsNodePlace parts node finished.now from result.1 }
     ensures in_range { IsSpotInRange result.1 }
 {
     match node {
-        ShapeNode::Leaf { sink } => {
-            let id = instance.sinks()[sink as usize].id;
-            (NodeKind::Leaf { id, sink }, leaf_place(finished))
-        }
+        ShapeNode::Leaf { sink } => (NodeKind::Leaf { id, sink }, leaf_place(finished)),
         ShapeNode::Pair { left, right } => {
             let buffer = finished.buffer;
             let place = pair_place(free, finished, from);
@@ -103,24 +100,26 @@ fn stand(
     }
 }
 
-/// A node of a shape, placed from the place where its route starts; or why there is no route.
+/// A node of a shape, with the id of a leaf's sink, placed from the place where its route starts; or why there is no
+/// route.
 pub(crate) fn place_node(
     alloc: Global,
-    instance: &Instance,
     ground: &Ground,
     node: ShapeNode,
+    id: u32,
     finished: &Finished,
     from: Spot,
 ) -> Result<PlacedNode, RouteEnd>
-    requires ground { IsGroundOf instance.now ground.now }
-    requires names { NamesOneOf (length instance.now.sinks) node }
-    requires leaf { IsLeafOf instance.now.sinks node finished.now }
+    requires ground { (parts : Parts) × IsGroundOf parts ground.now }
     requires region { IsRegionInRange finished.now.side.region }
     requires from { IsSpotInRange from }
-    ensures placed { IfOk result (IsPlacedFrom instance.now node finished.now from) }
-    ensures cut { result ≡ Err RouteEnd.Cut → IsCutFrom instance.now node finished.now from }
+    ensures placed { IfOk result (λ placed. (parts : Parts) → IsGroundOf parts ground.now
+        → IsIdOf parts.sinks node id → IsLeafOf parts.sinks node finished.now
+        → IsPlacedFrom parts node finished.now from placed) }
+    ensures cut { result ≡ Err RouteEnd.Cut → (parts : Parts) → IsGroundOf parts ground.now
+        → IsLeafOf parts.sinks node finished.now → IsCutFrom parts node finished.now from }
 {
-    let (kind, place) = stand(instance, &ground.free, node, finished, from);
+    let (kind, place) = stand(&ground.free, node, id, finished, from);
     let route = ground.grid.route(alloc, from, place)?;
     Ok(PlacedNode { kind, place, route })
 }
