@@ -16,7 +16,7 @@ const ROOM: usize = 65_536;
 /// The bytes of the longest number: 38 digits and a point.
 const LONGEST_NUMBER: usize = 39;
 
-/// A buffer before a sink, for a text that comes in many pieces. The sink gets 64 KiB at a time,
+/// A buffer before a sink, for a text that comes in many pieces. The sink gets some 64 KiB at a time,
 /// and no memory is taken.
 ///
 /// A failure of the sink is kept until `finish` tells it. After it nothing goes to the sink any
