@@ -10,8 +10,8 @@ use Rattle.cts_postorder.specs.PostOrder.{IsPostOrder, trees_of}
 use Rattle.cts_postorder.specs.Pass.{IsLeastFailure}
 use Rattle.cts_postorder.proofs.Lists.{Whole, whole_of}
 use Rattle.cts_postorder.proofs.Upward.{least_failure_unique}
-use Rattle.cts_tree.specs.declared.nodes.PlacedNode.{PlacedNode}
-use Rattle.cts_tree.specs.Nodes.{placed_children}
+use Rattle.cts_tree.specs.declared.nodes.TreeNode.{TreeNode}
+use Rattle.cts_tree.specs.Nodes.{tree_children}
 use Rattle.cts_instance.specs.declared.parts.Parts.{Parts}
 use Rattle.cts_embed.specs.declared.node.NodeBalance.{NodeBalance}
 use Rattle.cts_embed.specs.Balance.{IsBalance, IsBeyondBalance, IsRootWithin}
@@ -20,30 +20,30 @@ use Rattle.cts_embed.specs.Laws.{BalancedIsNotBeyond, LeastBeyondIsOne}
 use Rattle.cts_embed.proofs.Unique.{balance_one, balanced_not_beyond}
 
 -- no part of a tree that is balanced is beyond
-none_beyond : (params : Params) (sinks : List Sink) (t : BinaryTree PlacedNode) (p : NodeBalance) → IsBalance params sinks t p
+none_beyond : (params : Params) (sinks : List Sink) (t : BinaryTree TreeNode) (p : NodeBalance) → IsBalance params sinks t p
     → All (λ u. ¬ IsBeyondBalance params sinks u) (subtrees t)
 unfolding IsBalance subtrees
 none_beyond params sinks (tip n) p is =
     All-cons (λ u. ¬ IsBeyondBalance params sinks u) (tip n) [] (balanced_not_beyond params sinks (tip n) p is) (All-nil _)
 none_beyond params sinks (fork l r n) p is =
-    let Fine : BinaryTree PlacedNode → Type 0 = λ u. ¬ IsBeyondBalance params sinks u in
+    let Fine : BinaryTree TreeNode → Type 0 = λ u. ¬ IsBeyondBalance params sinks u in
     All-append Fine (subtrees l ++ subtrees r) (fork l r n ∷ [])
     (All-append Fine (subtrees l) (subtrees r) (none_beyond params sinks l is.0 is.2) (none_beyond params sinks r is.1 is.3))
     (All-cons Fine (fork l r n) [] (balanced_not_beyond params sinks (fork l r n) p is) (All-nil _))
 
-module _ (parts : Parts) (placed : List PlacedNode) (ok : IsPostOrder (map placed_children placed)) where
-  none_fails : (root : BinaryTree PlacedNode) (balance : NodeBalance) (k : ℕ) → IsBalancedWhole parts placed root balance
-      → ¬ IsLeastFailure placed_children placed (IsBeyondBalance parts.params parts.sinks) k
+module _ (parts : Parts) (placed : List TreeNode) (ok : IsPostOrder (map tree_children placed)) where
+  none_fails : (root : BinaryTree TreeNode) (balance : NodeBalance) (k : ℕ) → IsBalancedWhole parts placed root balance
+      → ¬ IsLeastFailure tree_children placed (IsBeyondBalance parts.params parts.sinks) k
   none_fails root balance k is f =
-      let w : Whole placed_children placed = whole_of placed_children placed ok in
+      let w : Whole tree_children placed = whole_of tree_children placed ok in
       let names : Some w.tree ≡ Some root = sym w.root_is ∙ is.whole in
       let whole : w.tree ≡ root = cc in
-      let trees : trees_of placed_children placed ≡ subtrees root = w.trees_are ∙ ap subtrees whole in
+      let trees : trees_of tree_children placed ≡ subtrees root = w.trees_are ∙ ap subtrees whole in
       let found : slice_get (subtrees root) k ≡ Some f.tree = ap (λ ts. slice_get ts k) (sym trees) ∙ f.found in
       none_beyond parts.params parts.sinks root balance is.balanced k f.tree (slice_get_within (subtrees root) k f.tree found)
       (subst (IsBeyondBalance parts.params parts.sinks) (sym (get_or_from_slice_get (subtrees root) k f.tree f.tree found)) f.fails)
 
-  one_whole : (root root' : BinaryTree PlacedNode) (b b' : NodeBalance) → IsBalancedWhole parts placed root b
+  one_whole : (root root' : BinaryTree TreeNode) (b b' : NodeBalance) → IsBalancedWhole parts placed root b
       → IsBalancedWhole parts placed root' b' → (root ≡ root') × (b ≡ b')
   one_whole root root' b b' p q =
       let names : Some root ≡ Some root' = sym p.whole ∙ q.whole in
@@ -53,10 +53,10 @@ module _ (parts : Parts) (placed : List PlacedNode) (ok : IsPostOrder (map place
             (subst (λ t. IsBalance parts.params parts.sinks t b) same p.balanced) q.balanced,
       )
 
-  not_over : (root root' : BinaryTree PlacedNode) (b b' : NodeBalance) → (root ≡ root') × (b ≡ b')
+  not_over : (root root' : BinaryTree TreeNode) (b b' : NodeBalance) → (root ≡ root') × (b ≡ b')
       → IsRootWithin parts (label root).route.length b → IsRootWithin parts (label root').route.length b'
   not_over root root' b b' same within =
-      subst (λ (t : BinaryTree PlacedNode). IsRootWithin parts (label t).route.length b') (same.0)
+      subst (λ (t : BinaryTree TreeNode). IsRootWithin parts (label t).route.length b') (same.0)
       (subst (λ (x : NodeBalance). IsRootWithin parts (label root).route.length x) (same.1) within)
 
 pub balanced_tree_not_beyond : BalancedIsNotBeyond
@@ -74,7 +74,7 @@ least_beyond_one parts placed j k ok p q =
     elim p [
       | inl first ↦ elim q [
         | inl second ↦
-            least_failure_unique placed_children (IsBeyondBalance parts.params parts.sinks) placed j k first second
+            least_failure_unique tree_children (IsBeyondBalance parts.params parts.sinks) placed j k first second
         | inr second ↦ absurd (none_fails parts placed ok second.root second.balance j second.whole first)
       ]
       | inr first ↦ elim q [

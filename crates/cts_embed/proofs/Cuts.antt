@@ -14,7 +14,7 @@ use Rattle.cts_topo.specs.declared.shape.ShapeNode.{ShapeNode}
 use Rattle.cts_topo.specs.Shape.{children}
 use Rattle.cts_merge.specs.declared.side.Finished.{Finished}
 use Rattle.cts_up.specs.Plan.{IsPlan}
-use Rattle.cts_tree.specs.declared.nodes.PlacedNode.{PlacedNode}
+use Rattle.cts_tree.specs.declared.nodes.TreeNode.{TreeNode}
 use Rattle.cts_embed.specs.PlacedTree.{IsCutFrom, IsCutNode, IsPlacedNode, IsGreatestCut}
 use Rattle.cts_embed.proofs.Starts.{IsStartOf, cut_here}
 use Rattle.cts_embed.proofs.OnePlace.{none_cut}
@@ -22,7 +22,7 @@ use Rattle.cts_embed.proofs.OnePlace.{none_cut}
 pub greatest_cut : (parts : Parts) (nodes : List ShapeNode) (ok : IsPostOrder (map children nodes)) (plan : List Finished)
     (all : IsPlan parts.params parts.sinks nodes plan) (number : ℕ) (starts : List Spot) (some : 0 < number) (within : number ≤ length nodes)
     (settled : (e : ShapeNode) → IsSettled children nodes e (IsStartOf parts) number starts) (e : ShapeNode) (f : Finished) (v : Spot)
-    (placed : List PlacedNode) → AllZip (IsPlacedNode parts) (drop number (occurrences_of children nodes)) (reverse placed)
+    (placed : List TreeNode) → AllZip (IsPlacedNode parts) (drop number (occurrences_of children nodes)) (reverse placed)
     → IsCutFrom parts (get_or nodes (number - 1) e) (get_or plan (number - 1) f) (get_or starts (number - 1) v)
     → IsGreatestCut parts nodes (number - 1)
 greatest_cut parts nodes ok plan all number starts some within settled e f v placed before cut =

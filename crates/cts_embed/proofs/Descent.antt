@@ -8,7 +8,7 @@ use Rattle.cts_instance.specs.declared.parts.Parts.{Parts}
 use Rattle.cts_topo.specs.declared.shape.ShapeNode.{ShapeNode}
 use Rattle.cts_topo.specs.Shape.{children}
 use Rattle.cts_merge.specs.declared.side.Finished.{Finished}
-use Rattle.cts_tree.specs.declared.nodes.PlacedNode.{PlacedNode}
+use Rattle.cts_tree.specs.declared.nodes.TreeNode.{TreeNode}
 use Rattle.cts_embed.specs.Leaves.{leaf_ids}
 use Rattle.cts_embed.specs.PlacedTree.{IsPlacedNode}
 use Rattle.cts_embed.proofs.Fronts.{IsFrontOfPlan}
@@ -16,7 +16,7 @@ use Rattle.cts_embed.proofs.Starts.{IsStartOf}
 
 -- the plan and the ids of the leaves before it are left, the starts above it are known, and the nodes from it on are placed
 pub record IsDescent (parts : Parts) (nodes : List ShapeNode) (number : ℕ) (plan : List Finished) (left : List ℕ) (from : List Spot)
-    (done : List PlacedNode) : Type 0 where
+    (done : List TreeNode) : Type 0 where
   pub front : IsFrontOfPlan parts nodes number plan
   pub ids : left ≡ leaf_ids parts.sinks (take number nodes)
   pub starts : (e : ShapeNode) → IsSettled children nodes e (IsStartOf parts) number from

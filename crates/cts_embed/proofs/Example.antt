@@ -15,7 +15,7 @@ use Rattle.cts_units.specs.Delay.{wire_delay_of}
 use Rattle.cts_postorder.specs.BinaryTree.{BinaryTree, tip, fork, label}
 use Rattle.cts_merge.specs.LeastPair.{Covers}
 use Rattle.cts_tree.specs.declared.nodes.NodeKind.TheVariants.{Leaf, Pair}
-use Rattle.cts_tree.specs.declared.nodes.PlacedNode.{PlacedNode}
+use Rattle.cts_tree.specs.declared.nodes.TreeNode.{TreeNode}
 use Rattle.cts_embed.specs.declared.node.NodeBalance.{NodeBalance}
 use Rattle.cts_embed.specs.Balance.{IsBalance, IsPairBalance, IsWirePair, delay_through}
 
@@ -34,12 +34,12 @@ abbrev sinks : List Sink
 sinks = record { id = 1; x = pos 0; y = pos 0; cap = 5 } ∷ record { id = 2; x = pos 5; y = pos 0; cap = 5 } ∷ []
 
 -- the sink of this number, with its route of so many nm from the pair at (2, 0)
-abbrev leaf : ℕ → ℕ → ℕ → BinaryTree PlacedNode
+abbrev leaf : ℕ → ℕ → ℕ → BinaryTree TreeNode
 leaf number x len =
-    tip (record { kind = Leaf (number + 1) number; place = spot_at (pos x) (pos 0); route = record { corners = []; length = len } })
+    tip (record { kind = Leaf (number + 1) number; place = spot_at (pos x) (pos 0); wire = 0; route = record { corners = []; length = len } })
 
-abbrev root : PlacedNode
-root = record { kind = Pair 0 1 None; place = spot_at (pos 2) (pos 0); route = record { corners = []; length = 2 } }
+abbrev root : TreeNode
+root = record { kind = Pair 0 1 None; place = spot_at (pos 2) (pos 0); wire = 0; route = record { corners = []; length = 2 } }
 
 abbrev below : NodeBalance
 below = record { greatest = 0; load = 5; left_wire = 0; right_wire = 0 }

@@ -1,5 +1,5 @@
 -- A shape has one placed tree, and no node that is cut where it has one.
-use Rattle.std.proofs.Common.{◌≡◌, List, [], ◌∷◌, slice_get, Option, Some, None, sym, ap, subst, ◌∙◌}
+use Rattle.std.proofs.Common.{◌≡◌, ℕ, List, [], ◌∷◌, slice_get, Option, Some, None, sym, ap, subst, ◌∙◌}
 use Rattle.std.specs.List.{All, AllZip}
 use Rattle.std.specs.Option.{is_some, MatchOption}
 use Rattle.std.proofs.lemmas.List.Elements.{All-cons, All-nil}
@@ -12,7 +12,7 @@ use Rattle.cts_postorder.specs.Occurrence.{Occurrence, occurrences_of}
 use Rattle.cts_postorder.proofs.Zips.{all_zip-one}
 use Rattle.cts_postorder.proofs.Failures.{none_greatest, greatest_failure_unique}
 use Rattle.cts_tree.specs.declared.nodes.NodeKind.{NodeKind}
-use Rattle.cts_tree.specs.declared.nodes.PlacedNode.{PlacedNode}
+use Rattle.cts_tree.specs.declared.nodes.TreeNode.{TreeNode}
 use Rattle.cts_tree.specs.declared.route.Route.{Route}
 use Rattle.cts_route.specs.Routes.{IsRoute, IsCut}
 use Rattle.cts_route.proofs.Unique.{route_one, route_not_cut}
@@ -64,15 +64,16 @@ start_one parts [] p q hp hq = hp ∙ sym hq
 start_one parts (pair ∷ up) p q hp hq =
     below_one parts hp.0 hq.0 pair p q (start_one parts up hp.0 hq.0 hp.1 hq.1) hp.2 hq.2
 
-placed_node_same : (p q : PlacedNode) → p.kind ≡ q.kind → p.place ≡ q.place → p.route ≡ q.route → p ≡ q
-placed_node_same p q kind place route =
-    let with_kind : NodeKind → PlacedNode = λ x. record { kind = x; place = p.place; route = p.route } in
-    let with_place : Spot → PlacedNode = λ x. record { kind = q.kind; place = x; route = p.route } in
-    let with_route : Route → PlacedNode = λ x. record { kind = q.kind; place = q.place; route = x } in
-    ap with_kind kind ∙ ap with_place place ∙ ap with_route route
+placed_node_same : (p q : TreeNode) → p.kind ≡ q.kind → p.place ≡ q.place → p.wire ≡ q.wire → p.route ≡ q.route → p ≡ q
+placed_node_same p q kind place wire route =
+    let with_kind : NodeKind → TreeNode = λ x. record p { kind = x } in
+    let with_place : Spot → TreeNode = λ x. record p { kind = q.kind; place = x } in
+    let with_wire : ℕ → TreeNode = λ x. record { kind = q.kind; place = q.place; wire = x; route = p.route } in
+    let with_route : Route → TreeNode = λ x. record q { route = x } in
+    ap with_kind kind ∙ ap with_place place ∙ ap with_wire wire ∙ ap with_route route
 
 -- nodes that are placed from one start
-placed_from_one : (parts : Parts) (n : ShapeNode) (f g : Finished) (from start : Spot) (p q : PlacedNode) → f ≡ g → from ≡ start
+placed_from_one : (parts : Parts) (n : ShapeNode) (f g : Finished) (from start : Spot) (p q : TreeNode) → f ≡ g → from ≡ start
     → IsPlacedFrom parts n f from p → IsPlacedFrom parts n g start q → p ≡ q
 placed_from_one parts n f g from start p q same same_start hp hq =
     let kinds : Some p.kind ≡ Some q.kind =
@@ -82,16 +83,16 @@ placed_from_one parts n f g from start p q same same_start hp hq =
     let route : IsRoute parts.blocks parts.die (point_of start) (point_of q.place) p.route =
     subst (λ (x : Spot). IsRoute parts.blocks parts.die (point_of x) (point_of q.place) p.route) same_start
     (subst (λ (x : Spot). IsRoute parts.blocks parts.die (point_of from) (point_of x) p.route) place hp.route) in
-    placed_node_same p q (let named = kinds in cc) place
+    placed_node_same p q (let named = kinds in cc) place (hp.wire ∙ sym hq.wire)
     (route_one parts.blocks parts.die (point_of start) (point_of q.place) p.route q.route route hq.route)
 
-placed_node_one : (parts : Parts) (o : Occurrence ShapeNode) (p q : PlacedNode) → IsPlacedNode parts o p → IsPlacedNode parts o q → p ≡ q
+placed_node_one : (parts : Parts) (o : Occurrence ShapeNode) (p q : TreeNode) → IsPlacedNode parts o p → IsPlacedNode parts o q → p ≡ q
 placed_node_one parts o p q hp hq =
     placed_from_one parts (label o.here) hp.finished hq.finished hp.from hq.from p q
     (finished_one parts.params parts.sinks o.here hp.finished hq.finished hp.made hq.made)
     (start_one parts o.above hp.from hq.from hp.start hq.start) hp.placed hq.placed
 
-node_not_cut : (parts : Parts) (o : Occurrence ShapeNode) (p : PlacedNode) → IsPlacedNode parts o p → ¬ IsCutNode parts o
+node_not_cut : (parts : Parts) (o : Occurrence ShapeNode) (p : TreeNode) → IsPlacedNode parts o p → ¬ IsCutNode parts o
 node_not_cut parts o p hp cut =
     let same : cut.finished ≡ hp.finished = finished_one parts.params parts.sinks o.here cut.finished hp.finished cut.made hp.made in
     let start : cut.from ≡ hp.from = start_one parts o.above cut.from hp.from cut.start hp.start in
@@ -107,7 +108,7 @@ pub placed_tree_one : PlacedTreeIsOne
 placed_tree_one parts shape placed other p q =
     all_zip-one (IsPlacedNode parts) (λ o m n. placed_node_one parts o m n) (occurrences_of children shape) placed other p q
 
-pub none_cut : (parts : Parts) (os : List (Occurrence ShapeNode)) (placed : List PlacedNode) → AllZip (IsPlacedNode parts) os placed
+pub none_cut : (parts : Parts) (os : List (Occurrence ShapeNode)) (placed : List TreeNode) → AllZip (IsPlacedNode parts) os placed
     → All (λ o. ¬ IsCutNode parts o) os
 none_cut parts [] placed all = All-nil _
 none_cut parts (o ∷ os) [] all = absurd all

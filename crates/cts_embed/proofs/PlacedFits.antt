@@ -20,8 +20,8 @@ use Rattle.cts_merge.specs.declared.side.Finished.{Finished}
 use Rattle.cts_up.specs.Plan.{IsFinished}
 use Rattle.cts_tree.specs.declared.nodes.NodeKind.{NodeKind}
 use Rattle.cts_tree.specs.declared.nodes.NodeKind.TheVariants as kinds
-use Rattle.cts_tree.specs.declared.nodes.PlacedNode.{PlacedNode}
-use Rattle.cts_tree.specs.Nodes.{placed_children}
+use Rattle.cts_tree.specs.declared.nodes.TreeNode.{TreeNode}
+use Rattle.cts_tree.specs.Nodes.{tree_children}
 use Rattle.cts_embed.specs.Fitting.{Fits, NamesWithin}
 use Rattle.cts_embed.specs.Places.{kind_of}
 use Rattle.cts_embed.specs.PlacedTree.{IsPlacedNode, IsPlacedTree}
@@ -55,15 +55,15 @@ names_of parts (fork a b (Pair l r)) f kind made is =
     subst (NamesWithin (length parts.sinks) (length parts.params.library)) (sym (pair_kind parts.sinks l r f.buffer kind is))
     (chosen_within parts.params _ (length parts.sinks) l r f.buffer made.4.buffer)
 
-module _ (parts : Parts) (shape : List ShapeNode) (placed : List PlacedNode) (is : IsPlacedTree parts shape placed) where
+module _ (parts : Parts) (shape : List ShapeNode) (placed : List TreeNode) (is : IsPlacedTree parts shape placed) where
   module _ (ok : IsPostOrder (map children shape)) where
     pub placed_long : length placed ≡ length shape
     placed_long =
         AllZip-long (IsPlacedNode parts) (occurrences_of children shape) placed is ∙ length-occurrences_of children shape ok
 
-    pub placed_post_order : IsPostOrder (map placed_children placed)
+    pub placed_post_order : IsPostOrder (map tree_children placed)
     placed_post_order =
-        subst IsPostOrder (sym (same_children children placed_children (IsPlacedNode parts)
+        subst IsPostOrder (sym (same_children children tree_children (IsPlacedNode parts)
         (λ o m node. same_kids parts.sinks (label o.here) node.finished.buffer m.kind node.placed.kind) shape ok placed is)) ok
 
   pub placed_fits : IsValid parts → IsShapeOver (length parts.sinks) shape → Fits parts placed

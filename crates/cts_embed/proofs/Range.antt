@@ -7,14 +7,14 @@ use Rattle.cts_units.specs.Choice.{seen_load_of}
 use Rattle.cts_units.specs.Limits.{IsParams}
 use Rattle.cts_up.proofs.Sides.{seen_within}
 use Rattle.cts_postorder.specs.BinaryTree.{BinaryTree, tip, fork}
-use Rattle.cts_tree.specs.declared.nodes.PlacedNode.{PlacedNode}
+use Rattle.cts_tree.specs.declared.nodes.TreeNode.{TreeNode}
 use Rattle.cts_tree.specs.Nodes.{buffer_of}
 use Rattle.cts_embed.specs.declared.node.NodeBalance.{NodeBalance}
 use Rattle.cts_embed.specs.Balance.{IsBalance, IsLeafBalance, load_below}
 use Rattle.cts_embed.specs.Range.{IsInRange}
 use Rattle.cts_embed.proofs.Leaves.{SinkOf, sink_found, sink_has}
 
-pub in_range : (params : Params) (sinks : List Sink) (t : BinaryTree PlacedNode) (node : NodeBalance)
+pub in_range : (params : Params) (sinks : List Sink) (t : BinaryTree TreeNode) (node : NodeBalance)
     → IsBalance params sinks t node → IsParams params → All (λ sink. sink.cap ≤ 10 ^ 12) sinks → IsInRange node
 unfolding IsBalance
 in_range params sinks (tip n) node p ok caps =

@@ -8,8 +8,8 @@ use Rattle.cts_postorder.specs.PostOrder.{IsPostOrder, trees_of, root_of}
 use Rattle.cts_postorder.proofs.Growth.{length-trees_of, label-tree}
 use Rattle.cts_postorder.proofs.Zips.{all_zip-at}
 use Rattle.cts_postorder.proofs.Lists.{Whole, whole_of, length_pos}
-use Rattle.cts_tree.specs.declared.nodes.PlacedNode.{PlacedNode}
-use Rattle.cts_tree.specs.Nodes.{placed_children}
+use Rattle.cts_tree.specs.declared.nodes.TreeNode.{TreeNode}
+use Rattle.cts_tree.specs.Nodes.{tree_children}
 use Rattle.cts_instance.specs.declared.parts.Parts.{Parts}
 use Rattle.cts_instance.specs.Validity.{IsSink, IsValid}
 use Rattle.cts_embed.specs.declared.node.NodeBalance.{NodeBalance}
@@ -19,38 +19,38 @@ use Rattle.cts_embed.specs.Range.{IsInRange}
 use Rattle.cts_embed.proofs.Range.{in_range}
 
 -- the last node carries the root
-pub root_label : (nodes : List PlacedNode) → IsPostOrder (map placed_children nodes) → (e : PlacedNode) (t : BinaryTree PlacedNode)
-    → root_of placed_children nodes ≡ Some t → label t ≡ get_or nodes (length nodes - 1) e
+pub root_label : (nodes : List TreeNode) → IsPostOrder (map tree_children nodes) → (e : TreeNode) (t : BinaryTree TreeNode)
+    → root_of tree_children nodes ≡ Some t → label t ≡ get_or nodes (length nodes - 1) e
 unfolding root_of
 root_label nodes ok e t is =
-    let trees : List (BinaryTree PlacedNode) = trees_of placed_children nodes in
-    let some : 0 < length nodes = length_pos placed_children nodes ok in
+    let trees : List (BinaryTree TreeNode) = trees_of tree_children nodes in
+    let some : 0 < length nodes = length_pos tree_children nodes ok in
     ap label (sym (get_or_from_slice_get trees (length nodes - 1) t t is))
-    ∙ label-tree placed_children nodes (length nodes - 1) t e (omega arith)
+    ∙ label-tree tree_children nodes (length nodes - 1) t e (omega arith)
 
-module _ (parts : Parts) (nodes : List PlacedNode) (ok : IsPostOrder (map placed_children nodes)) (balances : List NodeBalance)
-    (all : AllZip (IsBalance parts.params parts.sinks) (trees_of placed_children nodes) balances) where
+module _ (parts : Parts) (nodes : List TreeNode) (ok : IsPostOrder (map tree_children nodes)) (balances : List NodeBalance)
+    (all : AllZip (IsBalance parts.params parts.sinks) (trees_of tree_children nodes) balances) where
   pub last_within : length nodes - 1 < length balances
   last_within =
       omega (
         arith,
-        AllZip-long (IsBalance parts.params parts.sinks) (trees_of placed_children nodes) balances all,
-        length-trees_of placed_children nodes,
-        length_pos placed_children nodes ok,
+        AllZip-long (IsBalance parts.params parts.sinks) (trees_of tree_children nodes) balances all,
+        length-trees_of tree_children nodes,
+        length_pos tree_children nodes ok,
       )
 
   -- the last of the list is that of the root
-  module _ (e : PlacedNode) (b d : NodeBalance) (read : b ≡ get_or balances (length nodes - 1) d) where
-    w : Whole placed_children nodes
-    w = whole_of placed_children nodes ok
+  module _ (e : TreeNode) (b d : NodeBalance) (read : b ≡ get_or balances (length nodes - 1) d) where
+    w : Whole tree_children nodes
+    w = whole_of tree_children nodes ok
 
     root_balance : IsBalance parts.params parts.sinks w.tree b
     unfolding root_of
     root_balance =
-        let trees : List (BinaryTree PlacedNode) = trees_of placed_children nodes in
+        let trees : List (BinaryTree TreeNode) = trees_of tree_children nodes in
         let here : IsBalance parts.params parts.sinks (get_or trees (length nodes - 1) w.tree) (get_or balances (length nodes - 1) d) =
         all_zip-at (IsBalance parts.params parts.sinks) trees balances (length nodes - 1) w.tree d all
-        (omega (arith, length-trees_of placed_children nodes, length_pos placed_children nodes ok)) in
+        (omega (arith, length-trees_of tree_children nodes, length_pos tree_children nodes ok)) in
         subst (λ u. IsBalance parts.params parts.sinks u b) (get_or_from_slice_get trees (length nodes - 1) w.tree w.tree w.root_is)
         (subst (IsBalance parts.params parts.sinks (get_or trees (length nodes - 1) w.tree)) (sym read) here)
 
@@ -69,21 +69,21 @@ module _ (parts : Parts) (nodes : List PlacedNode) (ok : IsPostOrder (map placed
       root = w.tree;
       balance = b;
       whole = whole;
-      within = subst (λ (n : PlacedNode). IsRootWithin parts n.route.length b) root_node within;
+      within = subst (λ (n : TreeNode). IsRootWithin parts n.route.length b) root_node within;
     }
 
     pub root_beyond : ¬ IsRootWithin parts (get_or nodes (length nodes - 1) e).route.length b
         → IsBeyondRoot parts nodes (length nodes - 1)
     root_beyond over = record {
-      last = omega (arith, length_pos placed_children nodes ok);
+      last = omega (arith, length_pos tree_children nodes ok);
       root = w.tree;
       balance = b;
       whole = whole;
-      over = subst (λ (n : PlacedNode). ¬ IsRootWithin parts n.route.length b) root_node over;
+      over = subst (λ (n : TreeNode). ¬ IsRootWithin parts n.route.length b) root_node over;
     }
 
 -- the route to the root of a tree that is within the limits is no longer than a wire may be
-pub root_wire_small : (parts : Parts) (nodes : List PlacedNode) → IsPostOrder (map placed_children nodes)
-    → IsBalancedWithin parts nodes → (e : PlacedNode) → (get_or nodes (length nodes - 1) e).route.length ≤ 2 ^ 31 - 1
+pub root_wire_small : (parts : Parts) (nodes : List TreeNode) → IsPostOrder (map tree_children nodes)
+    → IsBalancedWithin parts nodes → (e : TreeNode) → (get_or nodes (length nodes - 1) e).route.length ≤ 2 ^ 31 - 1
 root_wire_small parts nodes ok b e =
-    omega (arith, b.within.wire, ap (λ (n : PlacedNode). n.route.length) (root_label nodes ok e b.root b.whole.whole))
+    omega (arith, b.within.wire, ap (λ (n : TreeNode). n.route.length) (root_label nodes ok e b.root b.whole.whole))

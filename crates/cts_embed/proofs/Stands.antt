@@ -22,7 +22,7 @@ use Rattle.cts_topo.specs.Shape.{children}
 use Rattle.cts_up.specs.Sinks.{AreSinksInRange}
 use Rattle.cts_up.specs.Plan.{IsFinished, IsPlan}
 use Rattle.cts_up.proofs.Sides.{sides_merge}
-use Rattle.cts_tree.specs.declared.nodes.PlacedNode.{PlacedNode}
+use Rattle.cts_tree.specs.declared.nodes.TreeNode.{TreeNode}
 use Rattle.cts_embed.specs.PlacedTree.{IsCutFrom, IsPlacedFrom}
 use Rattle.cts_merge.specs.declared.side.Finished.{Finished}
 use Rattle.cts_merge.specs.Merge.{IsLeaf}
@@ -140,7 +140,7 @@ leaf_at params sinks nodes plan all k f d e h read = by_node (get_or nodes k e) 
     by_node (Pair l r) here = tt
 
 -- what is placed from values that are read from lists
-pub placed_read : (parts : Parts) (n : ShapeNode) (f g : Finished) (from start : Spot) (node : PlacedNode) → f ≡ g → from ≡ start
+pub placed_read : (parts : Parts) (n : ShapeNode) (f g : Finished) (from start : Spot) (node : TreeNode) → f ≡ g → from ≡ start
     → IsPlacedFrom parts n f from node → IsPlacedFrom parts n g start node
 placed_read parts n f g from start node same_node same_start placed =
     subst (λ (x : Finished). IsPlacedFrom parts n x start node) same_node

@@ -25,7 +25,7 @@ use Rattle.cts_topo.specs.declared.shape.ShapeNode.TheVariants.{Leaf, Pair}
 use Rattle.cts_topo.specs.Shape.{children}
 use Rattle.cts_merge.specs.declared.side.Finished.{Finished}
 use Rattle.cts_up.specs.Plan.{IsFinished, IsPlan}
-use Rattle.cts_tree.specs.declared.nodes.PlacedNode.{PlacedNode}
+use Rattle.cts_tree.specs.declared.nodes.TreeNode.{TreeNode}
 use Rattle.cts_embed.specs.Places.{IsNodePlace, IsPlaceBelow, IsRouteStart, source_of}
 use Rattle.cts_embed.specs.PlacedTree.{IsCutFrom, IsCutNode, IsPlacedFrom, IsPlacedNode}
 use Rattle.cts_embed.proofs.FreePlaces.{nearest_in_die, in_die_in_range}
@@ -61,7 +61,7 @@ start_in_die parts [] from ok is =
 start_in_die parts (pair ∷ up) from ok is =
     place_in_die parts (label pair) is.2.node is.0 from ok is.2.is_place
 
-pub placed_in_die : (parts : Parts) (n : ShapeNode) (f : Finished) (from : Spot) (node : PlacedNode) → IsValid parts
+pub placed_in_die : (parts : Parts) (n : ShapeNode) (f : Finished) (from : Spot) (node : TreeNode) → IsValid parts
     → IsPlacedFrom parts n f from node → IsInDie parts.die (point_of node.place)
 placed_in_die parts n f from node ok is = place_in_die parts n f from node.place ok is.place
 
@@ -128,7 +128,7 @@ module _ (parts : Parts) (nodes : List ShapeNode) (ok : IsPostOrder (map childre
 
     -- the node that is placed from there
     module _ (e : ShapeNode) (f : Finished) (v : Spot) where
-      pub placed_here : (node : PlacedNode) (o : Occurrence ShapeNode)
+      pub placed_here : (node : TreeNode) (o : Occurrence ShapeNode)
           → IsPlacedFrom parts (get_or nodes (number - 1) e) (get_or plan (number - 1) f) (get_or starts (number - 1) v) node
           → IsPlacedNode parts (get_or (occurrences_of children nodes) (number - 1) o) node
       placed_here node o placed = record {
@@ -152,7 +152,7 @@ module _ (parts : Parts) (nodes : List ShapeNode) (ok : IsPostOrder (map childre
             (sym (label_here (number - 1) o e (omega arith))) cut;
       }
 
-      pub placed_more : (node : PlacedNode) (placed : List PlacedNode)
+      pub placed_more : (node : TreeNode) (placed : List TreeNode)
           → AllZip (IsPlacedNode parts) (drop number (occurrences_of children nodes)) (reverse placed)
           → IsPlacedFrom parts (get_or nodes (number - 1) e) (get_or plan (number - 1) f) (get_or starts (number - 1) v) node
           → AllZip (IsPlacedNode parts) (drop (number - 1) (occurrences_of children nodes)) (reverse (placed ++ node ∷ []))
@@ -191,7 +191,7 @@ module _ (parts : Parts) (nodes : List ShapeNode) (ok : IsPostOrder (map childre
             omega (arith, at_pair.right_below, s.long)
 
         -- both parts start at the pair's place
-        pub starts_at_pair : (node : PlacedNode)
+        pub starts_at_pair : (node : TreeNode)
             → IsPlacedFrom parts (get_or nodes (number - 1) e) (get_or plan (number - 1) f) (get_or starts (number - 1) v) node
             → (e' : ShapeNode) → IsSettled children nodes e' (IsStartOf parts) (number - 1) (set (set starts l node.place) r node.place)
         unfolding IsRouteStart label
@@ -214,14 +214,14 @@ module _ (parts : Parts) (nodes : List ShapeNode) (ok : IsPostOrder (map childre
             (get_or starts (number - 1) v, start, below) (get_or starts (number - 1) v, start, below) (settled_next e')
 
 -- at the end all nodes are placed
-pub all_placed : (parts : Parts) (nodes : List ShapeNode) (placed : List PlacedNode) (number : ℕ) → number ≡ 0
+pub all_placed : (parts : Parts) (nodes : List ShapeNode) (placed : List TreeNode) (number : ℕ) → number ≡ 0
     → AllZip (IsPlacedNode parts) (drop number (occurrences_of children nodes)) (reverse placed)
     → AllZip (IsPlacedNode parts) (occurrences_of children nodes) (reverse placed)
 all_placed parts nodes placed number none all =
     subst (λ n. AllZip (IsPlacedNode parts) (drop n (occurrences_of children nodes)) (reverse placed)) none all
 
 -- at the start none is
-pub none_placed : (parts : Parts) (nodes : List ShapeNode) → IsPostOrder (map children nodes) → (placed : List PlacedNode) → placed ≡ []
+pub none_placed : (parts : Parts) (nodes : List ShapeNode) → IsPostOrder (map children nodes) → (placed : List TreeNode) → placed ≡ []
     → AllZip (IsPlacedNode parts) (drop (length nodes) (occurrences_of children nodes)) (reverse placed)
 none_placed parts nodes ok placed empty =
     subst (λ ns. AllZip (IsPlacedNode parts) (drop (length nodes) (occurrences_of children nodes)) (reverse ns)) (sym empty)

@@ -11,11 +11,10 @@ use Rattle.cts_postorder.specs.BinaryTree.{BinaryTree, tip, fork, label}
 use Rattle.cts_postorder.specs.Occurrence.{Occurrence, occurrences_of}
 use Rattle.cts_postorder.proofs.Zips.{all_zip-one}
 use Rattle.cts_tree.specs.declared.nodes.NodeKind.{NodeKind}
-use Rattle.cts_tree.specs.declared.nodes.PlacedNode.{PlacedNode}
 use Rattle.cts_tree.specs.declared.nodes.TreeNode.{TreeNode}
 use Rattle.cts_tree.specs.declared.route.Route.{Route}
 use Rattle.cts_geom.specs.declared.points.Spot.{Spot}
-use Rattle.cts_tree.specs.Nodes.{placed_children, buffer_of}
+use Rattle.cts_tree.specs.Nodes.{tree_children, buffer_of}
 use Rattle.cts_instance.specs.declared.parts.Parts.{Parts}
 use Rattle.cts_embed.specs.declared.node.NodeBalance.{NodeBalance}
 use Rattle.cts_embed.specs.Balance.{IsBalance, IsBeyondBalance, IsLeafBalance, IsPairBalance, IsPairBeyond, delay_through, load_below, delay_below}
@@ -87,7 +86,7 @@ balance_one params sinks (fork l r n) p q hp hq =
     pair_one params (buffer_of n.kind) hp.0 (label l).route.length hp.1 (label r).route.length p q hp.4
     (over (λ a b. IsPairBalance params (buffer_of n.kind) a (label l).route.length b (label r).route.length q) hp.0 hp.1 hq.0 hq.1 first second hq.4)
 
-pub balanced_not_beyond : (params : Params) (sinks : List Sink) (t : BinaryTree PlacedNode) (p : NodeBalance)
+pub balanced_not_beyond : (params : Params) (sinks : List Sink) (t : BinaryTree TreeNode) (p : NodeBalance)
     → IsBalance params sinks t p → ¬ IsBeyondBalance params sinks t
 unfolding IsBalance IsBeyondBalance
 balanced_not_beyond params sinks (tip n) p hp = λ q. q
@@ -106,19 +105,19 @@ equal_keep f g la lb xa xb p same routes =
     elim p.admissible [ inl kept ↦ omega (arith, kept.0, kept.1, total) | inr kept ↦ omega (arith, kept.0, kept.1, total) ]
 
 -- where the two parts of a pair are one tree, so are the lengths of their wires
-equal_parts : (params : Params) (sinks : List Sink) (l r : BinaryTree PlacedNode) (n : PlacedNode) (p : NodeBalance)
+equal_parts : (params : Params) (sinks : List Sink) (l r : BinaryTree TreeNode) (n : TreeNode) (p : NodeBalance)
     → IsBalance params sinks (fork l r n) p → l ≡ r → p.left_wire ≡ p.right_wire
 unfolding IsBalance
 equal_parts params sinks l r n p hp same =
     let sides : hp.0 ≡ hp.1 =
-    balance_one params sinks r hp.0 hp.1 (subst (λ (t : BinaryTree PlacedNode). IsBalance params sinks t hp.0) same hp.2) hp.3 in
-    let routes : (label l).route.length ≡ (label r).route.length = ap (λ (t : BinaryTree PlacedNode). (label t).route.length) same in
+    balance_one params sinks r hp.0 hp.1 (subst (λ (t : BinaryTree TreeNode). IsBalance params sinks t hp.0) same hp.2) hp.3 in
+    let routes : (label l).route.length ≡ (label r).route.length = ap (λ (t : BinaryTree TreeNode). (label t).route.length) same in
     let delays : delay_through params.wire hp.0 (label l).route.length ≡ delay_through params.wire hp.1 (label r).route.length =
     ap (λ (x : NodeBalance). delay_through params.wire x (label l).route.length) sides ∙ ap (delay_through params.wire hp.1) routes in
     equal_keep (delay_through params.wire hp.0) (delay_through params.wire hp.1) (label l).route.length (label r).route.length
     p.left_wire p.right_wire hp.4.wires delays routes
 
-pub wire_one : (parts : Parts) (up : List (BinaryTree PlacedNode)) (t : BinaryTree PlacedNode) (x y : ℕ) → IsWireLength parts up t x
+pub wire_one : (parts : Parts) (up : List (BinaryTree TreeNode)) (t : BinaryTree TreeNode) (x y : ℕ) → IsWireLength parts up t x
     → IsWireLength parts up t y → x ≡ y
 unfolding IsWireLength
 wire_one parts [] t x y hx hy = hx ∙ sym hy
@@ -146,11 +145,11 @@ tree_node_same p q kind place wire route =
     let with_route : Route → TreeNode = λ x. record { kind = q.kind; place = q.place; wire = q.wire; route = x } in
     ap with_kind kind ∙ ap with_place place ∙ ap with_wire wire ∙ ap with_route route
 
-node_one : (parts : Parts) (o : Occurrence PlacedNode) (p q : TreeNode) → IsBalancedNode parts o p → IsBalancedNode parts o q → p ≡ q
+node_one : (parts : Parts) (o : Occurrence TreeNode) (p q : TreeNode) → IsBalancedNode parts o p → IsBalancedNode parts o q → p ≡ q
 node_one parts o p q hp hq =
     tree_node_same p q (hp.kind ∙ sym hq.kind) (hp.place ∙ sym hq.place) (wire_one parts o.above o.here p.wire q.wire hp.wire hq.wire)
     (hp.route ∙ sym hq.route)
 
 pub balanced_tree_one : BalancedTreeIsOne
 balanced_tree_one parts placed tree other p q =
-    all_zip-one (IsBalancedNode parts) (λ o m n. node_one parts o m n) (occurrences_of placed_children placed) tree other p.nodes q.nodes
+    all_zip-one (IsBalancedNode parts) (λ o m n. node_one parts o m n) (occurrences_of tree_children placed) tree other p.nodes q.nodes

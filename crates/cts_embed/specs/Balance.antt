@@ -12,7 +12,7 @@ use Rattle.cts_merge.specs.LeastPair.{IsLeastPair, Covers}
 use Rattle.cts_postorder.specs.BinaryTree.{BinaryTree, tip, fork, label}
 use Rattle.cts_tree.specs.declared.nodes.NodeKind.{NodeKind}
 use Rattle.cts_tree.specs.declared.nodes.NodeKind.TheVariants.{Leaf, Pair}
-use Rattle.cts_tree.specs.declared.nodes.PlacedNode.{PlacedNode}
+use Rattle.cts_tree.specs.declared.nodes.TreeNode.{TreeNode}
 use Rattle.cts_tree.specs.Nodes.{buffer_of}
 use Rattle.cts_instance.specs.declared.parts.Parts.{Parts}
 use Rattle.cts_embed.specs.declared.node.NodeBalance.{NodeBalance}
@@ -71,14 +71,14 @@ sink_of sinks (Pair left right buffer) = None
 
 -- What the balance makes of a tree's root: of a leaf what its sink gives, of a pair what its two children give over the
 -- routes to them, the left one first.
-unfoldable pub IsBalance : Params → List Sink → BinaryTree PlacedNode → NodeBalance → Type 0
+unfoldable pub IsBalance : Params → List Sink → BinaryTree TreeNode → NodeBalance → Type 0
 IsBalance params sinks (tip n) node = MatchOption (sink_of sinks n.kind) ⊥ (λ sink. IsLeafBalance sink node)
 IsBalance params sinks (fork l r n) node =
     (a : NodeBalance) × (b : NodeBalance) × IsBalance params sinks l a × IsBalance params sinks r b
     × IsPairBalance params (buffer_of n.kind) a (label l).route.length b (label r).route.length node
 
 -- a pair is beyond: both its children are balanced, and the pair is over the limits
-unfoldable pub IsBeyondBalance : Params → List Sink → BinaryTree PlacedNode → Type 0
+unfoldable pub IsBeyondBalance : Params → List Sink → BinaryTree TreeNode → Type 0
 IsBeyondBalance params sinks (tip n) = ⊥
 IsBeyondBalance params sinks (fork l r n) =
     (a : NodeBalance) × (b : NodeBalance) × IsBalance params sinks l a × IsBalance params sinks r b

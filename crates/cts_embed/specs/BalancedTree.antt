@@ -5,59 +5,58 @@ use Rattle.cts_postorder.specs.BinaryTree.{BinaryTree, tip, fork, label}
 use Rattle.cts_postorder.specs.PostOrder.{root_of}
 use Rattle.cts_postorder.specs.Occurrence.{Occurrence, occurrences_of}
 use Rattle.cts_postorder.specs.Pass.{IsLeastFailure}
-use Rattle.cts_tree.specs.declared.nodes.PlacedNode.{PlacedNode}
 use Rattle.cts_tree.specs.declared.nodes.TreeNode.{TreeNode}
-use Rattle.cts_tree.specs.Nodes.{placed_children}
+use Rattle.cts_tree.specs.Nodes.{tree_children}
 use Rattle.cts_instance.specs.declared.parts.Parts.{Parts}
 use Rattle.cts_embed.specs.declared.node.NodeBalance.{NodeBalance}
 use Rattle.cts_embed.specs.Balance.{IsBalance, IsBeyondBalance, IsRootWithin}
 
 -- The length of the wire above a tree that stands below these pairs, the nearest first: the root's is that of its route,
 -- and each part's is what the balance gave to that side of its pair.
-unfoldable pub IsWireLength : Parts → List (BinaryTree PlacedNode) → BinaryTree PlacedNode → ℕ → Type 0
+unfoldable pub IsWireLength : Parts → List (BinaryTree TreeNode) → BinaryTree TreeNode → ℕ → Type 0
 IsWireLength parts [] t len = len ≡ (label t).route.length
 IsWireLength parts (tip n ∷ up) t len = ⊥
 IsWireLength parts (fork l r n ∷ up) t len =
     (pair : NodeBalance) × IsBalance parts.params parts.sinks (fork l r n) pair
     × (((t ≡ l) × (len ≡ pair.left_wire)) ⊎ ((t ≡ r) × (len ≡ pair.right_wire)))
 
-abbrev pub IsWireOf : Parts → Occurrence PlacedNode → ℕ → Type 0
+abbrev pub IsWireOf : Parts → Occurrence TreeNode → ℕ → Type 0
 IsWireOf parts o len = IsWireLength parts o.above o.here len
 
 -- a node of the balanced tree: the placed node, and the length of its wire
-pub record IsBalancedNode (parts : Parts) (o : Occurrence PlacedNode) (node : TreeNode) : Type 0 where
+pub record IsBalancedNode (parts : Parts) (o : Occurrence TreeNode) (node : TreeNode) : Type 0 where
   pub kind : node.kind ≡ (label o.here).kind
   pub place : node.place ≡ (label o.here).place
   pub route : node.route ≡ (label o.here).route
   pub wire : IsWireOf parts o node.wire
 
 -- what the balance makes of the whole placed tree
-pub record IsBalancedWhole (parts : Parts) (placed : List PlacedNode) (root : BinaryTree PlacedNode) (balance : NodeBalance)
+pub record IsBalancedWhole (parts : Parts) (placed : List TreeNode) (root : BinaryTree TreeNode) (balance : NodeBalance)
     : Type 0 where
-  pub whole : root_of placed_children placed ≡ Some root
+  pub whole : root_of tree_children placed ≡ Some root
   pub balanced : IsBalance parts.params parts.sinks root balance
 
 -- all of a placed tree is within the limits, those that are asked of the root alone among them
-pub record IsBalancedWithin (parts : Parts) (placed : List PlacedNode) : Type 0 where
-  pub root : BinaryTree PlacedNode
+pub record IsBalancedWithin (parts : Parts) (placed : List TreeNode) : Type 0 where
+  pub root : BinaryTree TreeNode
   pub balance : NodeBalance
   pub whole : IsBalancedWhole parts placed root balance
   pub within : IsRootWithin parts (label root).route.length balance
 
 -- The balanced tree of a placed tree, which is within the limits: the same nodes with the lengths of their wires.
-pub record IsBalancedTree (parts : Parts) (placed : List PlacedNode) (tree : List TreeNode) : Type 0 where
+pub record IsBalancedTree (parts : Parts) (placed : List TreeNode) (tree : List TreeNode) : Type 0 where
   pub within : IsBalancedWithin parts placed
-  pub nodes : AllZip (IsBalancedNode parts) (occurrences_of placed_children placed) tree
+  pub nodes : AllZip (IsBalancedNode parts) (occurrences_of tree_children placed) tree
 
 -- the whole placed tree is balanced, and its root, at this number, is over the limits that are asked of it alone
-pub record IsBeyondRoot (parts : Parts) (placed : List PlacedNode) (k : ℕ) : Type 0 where
+pub record IsBeyondRoot (parts : Parts) (placed : List TreeNode) (k : ℕ) : Type 0 where
   pub last : k + 1 ≡ length placed
-  pub root : BinaryTree PlacedNode
+  pub root : BinaryTree TreeNode
   pub balance : NodeBalance
   pub whole : IsBalancedWhole parts placed root balance
   pub over : ¬ IsRootWithin parts (label root).route.length balance
 
 -- the least number of a node that is beyond
-abbrev pub IsLeastBeyond : Parts → List PlacedNode → ℕ → Type 0
+abbrev pub IsLeastBeyond : Parts → List TreeNode → ℕ → Type 0
 IsLeastBeyond parts placed k =
-    IsLeastFailure placed_children placed (IsBeyondBalance parts.params parts.sinks) k ⊎ IsBeyondRoot parts placed k
+    IsLeastFailure tree_children placed (IsBeyondBalance parts.params parts.sinks) k ⊎ IsBeyondRoot parts placed k

@@ -4,8 +4,8 @@ use Rattle.cts_topo.specs.declared.shape.ShapeNode.{ShapeNode}
 use Rattle.cts_units.specs.declared.params.Sink.{Sink}
 use Rattle.cts_units.specs.declared.params.Params.{Params}
 use Rattle.cts_postorder.specs.Pass.{IsLeastFailure}
-use Rattle.cts_tree.specs.Nodes.{placed_children}
-use Rattle.cts_tree.specs.declared.nodes.PlacedNode.{PlacedNode}
+use Rattle.cts_tree.specs.Nodes.{tree_children}
+use Rattle.cts_tree.specs.declared.nodes.TreeNode.{TreeNode}
 use Rattle.cts_instance.specs.declared.parts.Parts.{Parts}
 use Rattle.cts_embed.specs.declared.end.BalanceEnd.{BalanceEnd}
 use Rattle.cts_embed.specs.declared.end.BalanceEnd.TheVariants.{Beyond, NoMemory}
@@ -16,13 +16,13 @@ use Rattle.cts_embed.specs.Balance.{IsBeyondBalance}
 use Rattle.cts_embed.specs.BalancedTree.{IsLeastBeyond}
 
 -- the balance may end so: at the least node that is beyond, or for want of memory
-abbrev pub BalanceEnds : Parts → List PlacedNode → BalanceEnd → Type 0
+abbrev pub BalanceEnds : Parts → List TreeNode → BalanceEnd → Type 0
 BalanceEnds parts placed (Beyond node) = IsLeastBeyond parts placed node
 BalanceEnds parts placed NoMemory = Unit {0}
 
 -- the same without what is asked of the root alone
-abbrev pub NodeEnds : Params → List Sink → List PlacedNode → BalanceEnd → Type 0
-NodeEnds params sinks placed (Beyond node) = IsLeastFailure placed_children placed (IsBeyondBalance params sinks) node
+abbrev pub NodeEnds : Params → List Sink → List TreeNode → BalanceEnd → Type 0
+NodeEnds params sinks placed (Beyond node) = IsLeastFailure tree_children placed (IsBeyondBalance params sinks) node
 NodeEnds params sinks placed NoMemory = Unit {0}
 
 -- the embedding may end so: at the greatest node that is cut, or for want of memory

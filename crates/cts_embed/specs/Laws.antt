@@ -10,9 +10,8 @@ use Rattle.cts_units.specs.declared.params.Sink.{Sink}
 use Rattle.cts_units.specs.declared.params.Params.{Params}
 use Rattle.cts_postorder.specs.BinaryTree.{BinaryTree, fork}
 use Rattle.cts_postorder.specs.PostOrder.{IsPostOrder}
-use Rattle.cts_tree.specs.declared.nodes.PlacedNode.{PlacedNode}
 use Rattle.cts_tree.specs.declared.nodes.TreeNode.{TreeNode}
-use Rattle.cts_tree.specs.Nodes.{placed_children}
+use Rattle.cts_tree.specs.Nodes.{tree_children}
 use Rattle.cts_instance.specs.declared.parts.Parts.{Parts}
 use Rattle.cts_instance.specs.Validity.{IsValid}
 use Rattle.cts_topo.specs.declared.shape.ShapeNode.{ShapeNode}
@@ -29,13 +28,13 @@ use Rattle.cts_embed.specs.BalancedTree.{IsBalancedTree, IsLeastBeyond}
 -- a shape has one placed tree
 abbrev pub PlacedTreeIsOne : Type 0
 PlacedTreeIsOne =
-    (parts : Parts) (shape : List ShapeNode) (placed other : List PlacedNode) → IsPlacedTree parts shape placed
+    (parts : Parts) (shape : List ShapeNode) (placed other : List TreeNode) → IsPlacedTree parts shape placed
     → IsPlacedTree parts shape other → placed ≡ other
 
 -- and no node that is cut where it has one
 abbrev pub PlacedIsNotCut : Type 0
 PlacedIsNotCut =
-    (parts : Parts) (shape : List ShapeNode) (placed : List PlacedNode) (k : ℕ) → IsPlacedTree parts shape placed
+    (parts : Parts) (shape : List ShapeNode) (placed : List TreeNode) (k : ℕ) → IsPlacedTree parts shape placed
     → IsGreatestCut parts shape k → ⊥
 
 abbrev pub GreatestCutIsOne : Type 0
@@ -45,13 +44,13 @@ GreatestCutIsOne =
 -- a placed tree names what the instance has
 abbrev pub PlacedTreesFit : Type 0
 PlacedTreesFit =
-    (parts : Parts) (shape : List ShapeNode) (placed : List PlacedNode) → IsPlacedTree parts shape placed → IsValid parts
+    (parts : Parts) (shape : List ShapeNode) (placed : List TreeNode) → IsPlacedTree parts shape placed → IsValid parts
     → IsShapeOver (length parts.sinks) shape → Fits parts placed
 
 -- all places lie in the die
 abbrev pub PlacesLieInDie : Type 0
 PlacesLieInDie =
-    (parts : Parts) (shape : List ShapeNode) (placed : List PlacedNode) → IsPlacedTree parts shape placed → IsValid parts
+    (parts : Parts) (shape : List ShapeNode) (placed : List TreeNode) → IsPlacedTree parts shape placed → IsValid parts
     → All (λ node. IsInDie parts.die (point_of node.place)) placed
 
 -- the place of a pair is free for what the pair has
@@ -73,22 +72,22 @@ PartsAreWithinReach =
 -- the balance makes one thing of a tree
 abbrev pub BalanceIsOne : Type 0
 BalanceIsOne =
-    (params : Params) (sinks : List Sink) (t : BinaryTree PlacedNode) (a b : NodeBalance) → IsBalance params sinks t a
+    (params : Params) (sinks : List Sink) (t : BinaryTree TreeNode) (a b : NodeBalance) → IsBalance params sinks t a
     → IsBalance params sinks t b → a ≡ b
 
 -- a placed tree has one balanced tree
 abbrev pub BalancedTreeIsOne : Type 0
 BalancedTreeIsOne =
-    (parts : Parts) (placed : List PlacedNode) (tree other : List TreeNode) → IsBalancedTree parts placed tree
+    (parts : Parts) (placed : List TreeNode) (tree other : List TreeNode) → IsBalancedTree parts placed tree
     → IsBalancedTree parts placed other → tree ≡ other
 
 -- and no node that is beyond where it has one
 abbrev pub BalancedIsNotBeyond : Type 0
 BalancedIsNotBeyond =
-    (parts : Parts) (placed : List PlacedNode) (tree : List TreeNode) (k : ℕ) → IsPostOrder (map placed_children placed)
+    (parts : Parts) (placed : List TreeNode) (tree : List TreeNode) (k : ℕ) → IsPostOrder (map tree_children placed)
     → IsBalancedTree parts placed tree → IsLeastBeyond parts placed k → ⊥
 
 abbrev pub LeastBeyondIsOne : Type 0
 LeastBeyondIsOne =
-    (parts : Parts) (placed : List PlacedNode) (j k : ℕ) → IsPostOrder (map placed_children placed)
+    (parts : Parts) (placed : List TreeNode) (j k : ℕ) → IsPostOrder (map tree_children placed)
     → IsLeastBeyond parts placed j → IsLeastBeyond parts placed k → j ≡ k

@@ -17,7 +17,7 @@ use cts_instance::Instance;
 use cts_merge::Finished;
 use cts_route::RouteEnd;
 use cts_topo::{Shape, ShapeNode};
-use cts_tree::{Placed, PlacedNode};
+use cts_tree::{Placed, TreeNode};
 use std::alloc::Global;
 
 /// The placed nodes of a shape, from the root down. The plan goes as they are placed.
@@ -26,7 +26,7 @@ fn place_nodes(
     instance: &Instance,
     nodes: &[ShapeNode],
     mut plan: Vec<Finished>,
-) -> Result<Vec<PlacedNode>, EmbedEnd>
+) -> Result<Vec<TreeNode>, EmbedEnd>
     requires shape { IsShapeOver (length instance.now.sinks) nodes.now }
     requires plan { IsPlan instance.now.params instance.now.sinks nodes.now plan.items }
     ensures placed { IfOk result (λ placed.
@@ -64,7 +64,7 @@ fn place_nodes(
 }
 
 /// The nodes in the other order.
-fn reversed(mut nodes: Vec<PlacedNode>) -> Vec<PlacedNode>
+fn reversed(mut nodes: Vec<TreeNode>) -> Vec<TreeNode>
     ensures { result.items ≡ reverse nodes.items }
 {
     nodes.as_mut_slice().reverse();

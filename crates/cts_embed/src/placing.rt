@@ -20,7 +20,7 @@ use cts_merge::Finished;
 use cts_num::NoMemory;
 use cts_route::{Grid, RouteEnd};
 use cts_topo::ShapeNode;
-use cts_tree::{NodeKind, PlacedNode};
+use cts_tree::{NodeKind, TreeNode};
 use std::alloc::Global;
 
 /// The place of the clock source.
@@ -109,7 +109,7 @@ pub(crate) fn place_node(
     id: u32,
     finished: &Finished,
     from: Spot,
-) -> Result<PlacedNode, RouteEnd>
+) -> Result<TreeNode, RouteEnd>
     requires ground { (parts : Parts) × IsGroundOf parts ground.now }
     requires region { IsRegionInRange finished.now.side.region }
     requires from { IsSpotInRange from }
@@ -121,5 +121,10 @@ pub(crate) fn place_node(
 {
     let (kind, place) = stand(&ground.free, node, id, finished, from);
     let route = ground.grid.route(alloc, from, place)?;
-    Ok(PlacedNode { kind, place, route })
+    Ok(TreeNode {
+        kind,
+        place,
+        wire: 0,
+        route,
+    })
 }

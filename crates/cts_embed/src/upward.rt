@@ -8,7 +8,7 @@ ghost use Rattle.cts_instance.specs.Validity.{IsValid};
 ghost use Rattle.cts_merge.specs.LeastPair.{IsTooLong, Covers};
 ghost use Rattle.cts_postorder.specs.PostOrder.{IsPostOrder, trees_of};
 ghost use Rattle.cts_postorder.specs.Pass.{IsLeastFailure};
-ghost use Rattle.cts_tree.specs.Nodes.{placed_children};
+ghost use Rattle.cts_tree.specs.Nodes.{tree_children};
 ghost use Rattle.cts_embed.specs.Balance.{IsBalance, IsBeyondBalance, IsLeafBalance, IsPairBalance, IsPairBeyond, IsRootWithin, IsWirePair, delay_through};
 ghost use Rattle.cts_embed.specs.BalancedTree.{IsBalancedWithin};
 ghost use Rattle.cts_embed.specs.Capacitances.{caps_of};
@@ -22,7 +22,7 @@ use cts_geom::Region;
 use cts_instance::Instance;
 use cts_merge::{Beyond, Side, choose};
 use cts_num::NoMemory;
-use cts_tree::{NodeKind, PlacedNode};
+use cts_tree::{NodeKind, TreeNode};
 use cts_units::{MAX_DELAY, MAX_LENGTH, MAX_LOAD, Params, Sink, buffer_delay, wire_delay};
 use std::alloc::Global;
 
@@ -131,7 +131,7 @@ fn pair_balance(
 
 /// The capacitance in zF of each leaf's sink, by number of node, and 0 at a pair. They are looked up before the
 /// pass, whose branches would wait for each of them.
-fn capacitances(alloc: Global, sinks: &[Sink], nodes: &[PlacedNode]) -> Result<Vec<u64>, NoMemory>
+fn capacitances(alloc: Global, sinks: &[Sink], nodes: &[TreeNode]) -> Result<Vec<u64>, NoMemory>
     requires names { (buffers : ℕ) × All (λ node. NamesWithin (length sinks.now) buffers node.kind) nodes.now }
     ensures { IfOk result (λ caps. caps.items ≡ caps_of sinks.now nodes.now) }
 {
@@ -163,19 +163,19 @@ fn leaf_balance(cap: u64) -> NodeBalance
 fn balance_node(
     instance: &Instance,
     caps: &[u64],
-    nodes: &[PlacedNode],
+    nodes: &[TreeNode],
     number: usize,
     balances: &[NodeBalance],
 ) -> Result<NodeBalance, Beyond>
     requires caps { caps.now ≡ caps_of instance.now.sinks nodes.now }
-    requires post_order { IsPostOrder (map placed_children nodes.now) }
+    requires post_order { IsPostOrder (map tree_children nodes.now) }
     requires fits { Fits instance.now nodes.now }
     requires number { number < length nodes.now }
     requires before { AllZip (IsBalance instance.now.params instance.now.sinks)
-        (take number (trees_of placed_children nodes.now)) balances.now }
+        (take number (trees_of tree_children nodes.now)) balances.now }
     ensures next { IfOk result (λ node. AllZip (IsBalance instance.now.params instance.now.sinks)
-        (take (number + 1) (trees_of placed_children nodes.now)) (balances.now ++ node ∷ [])) }
-    ensures beyond { IfErr result (λ _. IsLeastFailure placed_children nodes.now
+        (take (number + 1) (trees_of tree_children nodes.now)) (balances.now ++ node ∷ [])) }
+    ensures beyond { IfErr result (λ _. IsLeastFailure tree_children nodes.now
         (IsBeyondBalance instance.now.params instance.now.sinks) number) }
 {
     match nodes[number].kind {
@@ -197,13 +197,13 @@ fn balance_node(
 fn balance_nodes(
     alloc: Global,
     instance: &Instance,
-    nodes: &[PlacedNode],
+    nodes: &[TreeNode],
 ) -> Result<Vec<NodeBalance>, BalanceEnd>
-    requires post_order { IsPostOrder (map placed_children nodes.now) }
+    requires post_order { IsPostOrder (map tree_children nodes.now) }
     requires fits { Fits instance.now nodes.now }
     ensures valid { IsValid instance.now }
     ensures balances { IfOk result (λ balances. AllZip (IsBalance instance.now.params instance.now.sinks)
-        (trees_of placed_children nodes.now) balances.items) }
+        (trees_of tree_children nodes.now) balances.items) }
     ensures ends { IfErr result (NodeEnds instance.now.params instance.now.sinks nodes.now) }
 {
     let caps = capacitances(alloc, instance.sinks(), nodes)?;
@@ -248,13 +248,13 @@ fn is_root_within(instance: &Instance, length: u64, root: &NodeBalance) -> bool
 pub(crate) fn balances_of(
     alloc: Global,
     instance: &Instance,
-    nodes: &[PlacedNode],
+    nodes: &[TreeNode],
 ) -> Result<Vec<NodeBalance>, BalanceEnd>
-    requires post_order { IsPostOrder (map placed_children nodes.now) }
+    requires post_order { IsPostOrder (map tree_children nodes.now) }
     requires fits { Fits instance.now nodes.now }
     ensures within { IfOk result (λ _. IsBalancedWithin instance.now nodes.now) }
     ensures balances { IfOk result (λ balances. AllZip (IsBalance instance.now.params instance.now.sinks)
-        (trees_of placed_children nodes.now) balances.items) }
+        (trees_of tree_children nodes.now) balances.items) }
     ensures ends { IfErr result (BalanceEnds instance.now nodes.now) }
 {
     let balances = balance_nodes(alloc, instance, nodes)?;

@@ -4,7 +4,7 @@ ghost use Rattle.std.specs.Prelude.{map, IfOk, IfErr};
 ghost use Rattle.std.specs.List.{AllZip};
 ghost use Rattle.cts_postorder.specs.Occurrence.{occurrences_of};
 ghost use Rattle.cts_postorder.specs.PostOrder.{IsPostOrder};
-ghost use Rattle.cts_tree.specs.Nodes.{placed_children};
+ghost use Rattle.cts_tree.specs.Nodes.{tree_children};
 ghost use Rattle.cts_embed.specs.BalancedTree.{IsBalancedWithin, IsWireOf};
 ghost use Rattle.cts_embed.specs.Ends.{BalanceEnds};
 ghost use Rattle.cts_embed.specs.Fitting.{Fits};
@@ -12,7 +12,7 @@ ghost use Rattle.cts_embed.specs.Fitting.{Fits};
 use crate::end::BalanceEnd;
 use crate::upward::balances_of;
 use cts_instance::Instance;
-use cts_tree::{NodeKind, PlacedNode};
+use cts_tree::{NodeKind, TreeNode};
 use std::alloc::Global;
 
 /// The length of the wire above each node, by number: what the balance makes of the pair above it, and
@@ -20,13 +20,13 @@ use std::alloc::Global;
 pub(crate) fn wires_of(
     alloc: Global,
     instance: &Instance,
-    nodes: &[PlacedNode],
+    nodes: &[TreeNode],
 ) -> Result<Vec<u32>, BalanceEnd>
-    requires post_order { IsPostOrder (map placed_children nodes.now) }
+    requires post_order { IsPostOrder (map tree_children nodes.now) }
     requires fits { Fits instance.now nodes.now }
     ensures within { IfOk result (λ _. IsBalancedWithin instance.now nodes.now) }
     ensures wires { IfOk result (λ wires.
-        AllZip (IsWireOf instance.now) (occurrences_of placed_children nodes.now) wires.items) }
+        AllZip (IsWireOf instance.now) (occurrences_of tree_children nodes.now) wires.items) }
     ensures ends { IfErr result (BalanceEnds instance.now nodes.now) }
 {
     let balances = balances_of(alloc, instance, nodes)?;

@@ -8,7 +8,6 @@ use Rattle.cts_postorder.specs.Occurrence.{Occurrence, occurrences_of}
 use Rattle.cts_postorder.proofs.Zips.{all_zip-all, all_zip-at}
 use Rattle.cts_tree.specs.declared.nodes.NodeKind.{NodeKind}
 use Rattle.cts_tree.specs.declared.nodes.NodeKind.TheVariants as kinds
-use Rattle.cts_tree.specs.declared.nodes.PlacedNode.{PlacedNode}
 use Rattle.cts_tree.specs.declared.nodes.TreeNode.{TreeNode}
 use Rattle.cts_instance.specs.declared.parts.Parts.{Parts}
 use Rattle.cts_topo.specs.declared.shape.ShapeNode.{ShapeNode}
@@ -38,7 +37,7 @@ module _ (i : Parts) where
   buffer_within (kinds.Pair l r None) h = tt
   buffer_within (kinds.Pair l r (Some index)) h = h
 
-  pub fitted : (shape : List ShapeNode) (placed : List PlacedNode) (tree : List TreeNode) → Fits i placed
+  pub fitted : (shape : List ShapeNode) (placed : List TreeNode) (tree : List TreeNode) → Fits i placed
       → AllZip (IsMadeOf i) (occurrences_of children shape) tree → AllZip Keeps placed tree → FitsInstance i tree
   fitted shape placed tree fits all kept =
       let long : length tree ≡ length placed = AllZip-long Keeps placed tree kept in
@@ -46,7 +45,7 @@ module _ (i : Parts) where
         few = omega (arith, long, fits.few);
         sinks = all_zip-all (IsMadeOf i) (λ n. NamesSink i.sinks n.kind) names_sink (occurrences_of children shape) tree all;
         buffers = λ k d h.
-            let e : PlacedNode = record { kind = d.kind; place = d.place; route = d.route } in
+            let e : TreeNode = d in
             let keeps : Keeps (get_or placed k e) (get_or tree k d) = all_zip-at Keeps placed tree k e d kept (omega arith) in
             buffer_within (get_or tree k d).kind
             (subst (NamesWithin (length i.sinks) (length i.params.library)) (sym keeps.kind) (fits.names k e (omega arith)));

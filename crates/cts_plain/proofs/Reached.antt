@@ -11,9 +11,8 @@ use Rattle.cts_postorder.specs.PostOrder.{IsPostOrder}
 use Rattle.cts_postorder.specs.Occurrence.{Occurrence, occurrences_of}
 use Rattle.cts_postorder.proofs.Zips.{all_zip-map_left, all_zip-weaker, all_zip-all}
 use Rattle.cts_postorder.proofs.Alike.{map-node-occurrences_of, all_zip-then}
-use Rattle.cts_tree.specs.declared.nodes.PlacedNode.{PlacedNode}
 use Rattle.cts_tree.specs.declared.nodes.TreeNode.{TreeNode}
-use Rattle.cts_tree.specs.Nodes.{placed_children, leaf_id}
+use Rattle.cts_tree.specs.Nodes.{tree_children, leaf_id}
 use Rattle.cts_instance.specs.declared.parts.Parts.{Parts}
 use Rattle.cts_instance.specs.Validity.{IsValid}
 use Rattle.cts_topo.specs.declared.shape.ShapeNode.{ShapeNode}
@@ -29,14 +28,14 @@ use Rattle.cts_elmore.specs.Sound.{IsSinkAt, ReachesEachSinkOnce, leaf_ids}
 use Rattle.cts_plain.proofs.SinksOnce.{stands_by, id_by, ids_once}
 
 -- what a placed node keeps in the balance
-pub record Keeps (m : PlacedNode) (n : TreeNode) : Type 0 where
+pub record Keeps (m : TreeNode) (n : TreeNode) : Type 0 where
   pub kind : n.kind ≡ m.kind
   pub place : n.place ≡ m.place
   pub route : n.route ≡ m.route
   pub no_shorter : m.route.length ≤ n.wire
 
 -- a wire is as long as its route at least
-long_enough : (params : Params) (sinks : List Sink) (l r : BinaryTree PlacedNode) (n : PlacedNode) (p : NodeBalance)
+long_enough : (params : Params) (sinks : List Sink) (l r : BinaryTree TreeNode) (n : TreeNode) (p : NodeBalance)
     → IsBalance params sinks (fork l r n) p
     → ((label l).route.length ≤ p.left_wire) × ((label r).route.length ≤ p.right_wire)
 unfolding IsBalance
@@ -46,7 +45,7 @@ long_enough params sinks l r n p h =
       | inr second ↦ (omega (arith, second.1), omega (arith, second.0))
     ]
 
-wire_covers : (i : Parts) (up : List (BinaryTree PlacedNode)) (t : BinaryTree PlacedNode) (len : ℕ) → IsWireLength i up t len
+wire_covers : (i : Parts) (up : List (BinaryTree TreeNode)) (t : BinaryTree TreeNode) (len : ℕ) → IsWireLength i up t len
     → (label t).route.length ≤ len
 unfolding IsWireLength
 wire_covers i [] t len is = omega (arith, is)
@@ -54,27 +53,27 @@ wire_covers i (tip n ∷ up) t len is = absurd is
 wire_covers i (fork l r n ∷ up) t len is =
     let both = long_enough i.params i.sinks l r n is.0 is.1 in
     elim is.2 [
-      | inl left ↦ omega (arith, both.0, left.1, ap (λ (x : BinaryTree PlacedNode). (label x).route.length) left.0)
-      | inr right ↦ omega (arith, both.1, right.1, ap (λ (x : BinaryTree PlacedNode). (label x).route.length) right.0)
+      | inl left ↦ omega (arith, both.0, left.1, ap (λ (x : BinaryTree TreeNode). (label x).route.length) left.0)
+      | inr right ↦ omega (arith, both.1, right.1, ap (λ (x : BinaryTree TreeNode). (label x).route.length) right.0)
     ]
 
 module _ (i : Parts) where
   -- a node of the tree, and the place of the shape that it was made of
   abbrev pub IsMadeOf : Occurrence ShapeNode → TreeNode → Type 0
-  IsMadeOf o n = (m : PlacedNode) × IsPlacedNode i o m × Keeps m n
+  IsMadeOf o n = (m : TreeNode) × IsPlacedNode i o m × Keeps m n
 
-  pub kept : (placed : List PlacedNode) → IsPostOrder (map placed_children placed) → (tree : List TreeNode)
+  pub kept : (placed : List TreeNode) → IsPostOrder (map tree_children placed) → (tree : List TreeNode)
       → IsBalancedTree i placed tree → AllZip Keeps placed tree
   kept placed ok tree balanced =
-      subst (λ ms. AllZip Keeps ms tree) (map-node-occurrences_of placed_children placed ok)
-      (all_zip-map_left Keeps (λ (o : Occurrence PlacedNode). label o.here) (occurrences_of placed_children placed) tree
+      subst (λ ms. AllZip Keeps ms tree) (map-node-occurrences_of tree_children placed ok)
+      (all_zip-map_left Keeps (λ (o : Occurrence TreeNode). label o.here) (occurrences_of tree_children placed) tree
       (all_zip-weaker (IsBalancedNode i) (λ o n. Keeps (label o.here) n) (λ o n is. record {
         kind = is.kind;
         place = is.place;
         route = is.route;
         no_shorter = wire_covers i o.above o.here n.wire is.wire;
       })
-      (occurrences_of placed_children placed) tree balanced.nodes))
+      (occurrences_of tree_children placed) tree balanced.nodes))
 
   leaf_place : (n : ShapeNode) (finished : Finished) (from place : Spot) → IsNodePlace i n finished from place
       → (s : ℕ) (sink : Sink) → n ≡ Leaf s → slice_get i.sinks s ≡ Some sink → place ≡ spot_at sink.x sink.y
@@ -118,7 +117,7 @@ module _ (i : Parts) where
   filter_map-map f g (x ∷ xs) = ap (cons_option (g (f x))) (filter_map-map f g xs)
 
   module _ (valid : IsValid i) (shape : List ShapeNode) (over : IsShapeOver (length i.sinks) shape)
-      (placed : List PlacedNode) (ok : IsPostOrder (map placed_children placed)) (all : IsPlacedTree i shape placed)
+      (placed : List TreeNode) (ok : IsPostOrder (map tree_children placed)) (all : IsPlacedTree i shape placed)
       (tree : List TreeNode) (balanced : IsBalancedTree i placed tree) where
     pub made : AllZip IsMadeOf (occurrences_of children shape) tree
     made =

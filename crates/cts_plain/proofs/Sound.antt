@@ -12,9 +12,8 @@ use Rattle.cts_postorder.specs.Occurrence.{Occurrence, occurrences_of}
 use Rattle.cts_postorder.proofs.Zips.{all_zip-all}
 use Rattle.cts_postorder.proofs.Alike.{map-node-occurrences_of}
 use Rattle.cts_postorder.proofs.Decorated.{same_children}
-use Rattle.cts_tree.specs.declared.nodes.PlacedNode.{PlacedNode}
 use Rattle.cts_tree.specs.declared.nodes.TreeNode.{TreeNode}
-use Rattle.cts_tree.specs.Nodes.{placed_children, tree_children, children_of}
+use Rattle.cts_tree.specs.Nodes.{tree_children, children_of}
 use Rattle.cts_tree.specs.Path.{AllAlong, IsWithin}
 use Rattle.cts_instance.specs.declared.parts.Parts.{Parts}
 use Rattle.cts_instance.specs.Validity.{IsValid}
@@ -65,7 +64,7 @@ module _ (i : Parts) where
 
   module _ (shape : List ShapeNode) (tree : List TreeNode) (valid : IsValid i) (over : IsShapeOver (length i.sinks) shape)
       (is : IsTreeOf i shape tree) where
-    placed_ok : IsPostOrder (map placed_children is.placed)
+    placed_ok : IsPostOrder (map tree_children is.placed)
     placed_ok = placed_post_order i shape over is.placed is.is_placed
 
     pub nodes_made : AllZip (IsMadeOf i) (occurrences_of children shape) tree
@@ -74,8 +73,8 @@ module _ (i : Parts) where
     pub tree_ok : IsPostOrder (map tree_children tree)
     tree_ok =
         subst IsPostOrder
-        (sym (same_children placed_children tree_children (IsBalancedNode i)
-        (λ (o : Occurrence PlacedNode) m same. ap children_of same.kind) is.placed placed_ok tree is.is_balanced.nodes))
+        (sym (same_children tree_children tree_children (IsBalancedNode i)
+        (λ (o : Occurrence TreeNode) m same. ap children_of same.kind) is.placed placed_ok tree is.is_balanced.nodes))
         placed_ok
 
     pub sound : IsSound i tree

@@ -4,9 +4,8 @@ use Rattle.cts_postorder.specs.BinaryTree.{label}
 use Rattle.cts_postorder.specs.PostOrder.{IsPostOrder}
 use Rattle.cts_postorder.specs.Occurrence.{Occurrence}
 use Rattle.cts_postorder.proofs.Decorated.{same_children}
-use Rattle.cts_tree.specs.declared.nodes.PlacedNode.{PlacedNode}
 use Rattle.cts_tree.specs.declared.nodes.TreeNode.{TreeNode}
-use Rattle.cts_tree.specs.Nodes.{placed_children}
+use Rattle.cts_tree.specs.Nodes.{tree_children}
 use Rattle.cts_instance.specs.declared.parts.Parts.{Parts}
 use Rattle.cts_topo.specs.declared.shape.ShapeNode.{ShapeNode}
 use Rattle.cts_topo.specs.Shape.{children, IsShapeOver}
@@ -23,11 +22,11 @@ use Rattle.cts_plain.specs.Synthesis.{Synthesis, made, beyond, cut, IsSynthesisO
 use Rattle.cts_plain.specs.Laws.{SynthesisIsOne}
 
 -- a placed tree is in post-order, as its shape is
-pub placed_post_order : (i : Parts) (shape : List ShapeNode) → IsShapeOver (length i.sinks) shape → (placed : List PlacedNode)
-    → IsPlacedTree i shape placed → IsPostOrder (map placed_children placed)
+pub placed_post_order : (i : Parts) (shape : List ShapeNode) → IsShapeOver (length i.sinks) shape → (placed : List TreeNode)
+    → IsPlacedTree i shape placed → IsPostOrder (map tree_children placed)
 placed_post_order i shape over placed all =
     subst IsPostOrder
-    (sym (same_children children placed_children (IsPlacedNode i)
+    (sym (same_children children tree_children (IsPlacedNode i)
     (λ (o : Occurrence ShapeNode) m is. same_kids i.sinks (label o.here) is.finished.buffer m.kind is.placed.kind)
     shape over.post_order placed all))
     over.post_order

@@ -12,9 +12,8 @@ use Rattle.cts_postorder.specs.PostOrder.{IsPostOrder, root_of}
 use Rattle.cts_postorder.proofs.Alike.{IsAlike, AlikeLists, alike_lists, alike_label}
 use Rattle.cts_tree.specs.declared.nodes.NodeKind.{NodeKind}
 use Rattle.cts_tree.specs.declared.nodes.NodeKind.TheVariants.{Leaf, Pair}
-use Rattle.cts_tree.specs.declared.nodes.PlacedNode.{PlacedNode}
 use Rattle.cts_tree.specs.declared.nodes.TreeNode.{TreeNode}
-use Rattle.cts_tree.specs.Nodes.{placed_children, tree_children, children_of, buffer_of}
+use Rattle.cts_tree.specs.Nodes.{tree_children, children_of, buffer_of}
 use Rattle.cts_instance.specs.declared.parts.Parts.{Parts}
 use Rattle.cts_embed.specs.declared.node.NodeBalance.{NodeBalance}
 use Rattle.cts_embed.specs.Balance.{IsBalance, IsLeafBalance, IsPairBalance, IsRootWithin, sink_of, delay_through}
@@ -50,7 +49,7 @@ module _ (i : Parts) where
       sink_agrees (slice_get i.sinks sink) b h in
       (ap (λ k. sink_load i (record m { kind = k })) is ∙ at.0, at.1)
 
-  leaf_agrees : (n : PlacedNode) (m : TreeNode) (b : NodeBalance) → m.kind ≡ n.kind
+  leaf_agrees : (n : TreeNode) (m : TreeNode) (b : NodeBalance) → m.kind ≡ n.kind
       → MatchOption (sink_of i.sinks n.kind) ⊥ (λ sink. IsLeafBalance sink b) → Agrees b (tip m)
   unfolding load_below subtrees
   leaf_agrees n m b is h =
@@ -62,7 +61,7 @@ module _ (i : Parts) where
       }
 
   -- of a pair, from what agrees at its two parts
-  module _ (n : PlacedNode) (m : TreeNode) (kind : m.kind ≡ n.kind) (l r : BinaryTree TreeNode) (la lb : ℕ)
+  module _ (n : TreeNode) (m : TreeNode) (kind : m.kind ≡ n.kind) (l r : BinaryTree TreeNode) (la lb : ℕ)
       (a b p : NodeBalance) (pair : IsPairBalance i.params (buffer_of n.kind) a la b lb p)
       (left : Agrees a l) (right : Agrees b r) (left_wire : (label l).wire ≡ p.left_wire) (right_wire : (label r).wire ≡ p.right_wire) where
     whole : BinaryTree TreeNode
@@ -121,14 +120,14 @@ module _ (i : Parts) where
           (All-cons (λ s. ¬ IsPairOver i s) (fork l r m) [] not_over (All-nil (λ s. ¬ IsPairOver i s)));
     }
 
-  agrees : (up : List (BinaryTree PlacedNode)) (q : BinaryTree PlacedNode) (t : BinaryTree TreeNode) (p : NodeBalance)
+  agrees : (up : List (BinaryTree TreeNode)) (q : BinaryTree TreeNode) (t : BinaryTree TreeNode) (p : NodeBalance)
       → IsAlike (IsBalancedNode i) up q t → IsBalance i.params i.sinks q p → Agrees p t
   unfolding IsAlike IsBalance IsWireLength label
   agrees up (tip n) (tip m) p a h = leaf_agrees n m p a.kind h
   agrees up (tip n) (fork l' r' m) p a h = absurd a
   agrees up (fork l r n) (tip m) p a h = absurd a
   agrees up (fork l r n) (fork l' r' m) p a h =
-      let top : BinaryTree PlacedNode = fork l r n in
+      let top : BinaryTree TreeNode = fork l r n in
       let at_left : IsBalancedNode i (occurrence (top ∷ up) l) (label l') = alike_label (IsBalancedNode i) (top ∷ up) l l' (a.0) in
       let at_right : IsBalancedNode i (occurrence (top ∷ up) r) (label r') = alike_label (IsBalancedNode i) (top ∷ up) r r' (a.1) in
       pair_agrees n m (a.2).kind l' r' (label l).route.length (label r).route.length (h.0) (h.1) p (h.4)
@@ -137,14 +136,14 @@ module _ (i : Parts) where
       (wire_one i (top ∷ up) r (label r').wire p.right_wire at_right.wire (p, h, inr (refl, refl)))
 
   -- so the whole tree is within the limits, those of its root among them
-  module _ (placed : List PlacedNode) (ok : IsPostOrder (map placed_children placed)) (tree : List TreeNode)
+  module _ (placed : List TreeNode) (ok : IsPostOrder (map tree_children placed)) (tree : List TreeNode)
       (balanced : IsBalancedTree i placed tree) where
-    lists : AlikeLists (IsBalancedNode i) placed_children tree_children
+    lists : AlikeLists (IsBalancedNode i) tree_children tree_children
         (λ o m is. ap children_of is.kind) placed tree
     lists =
-        alike_lists (IsBalancedNode i) placed_children tree_children (λ o m is. ap children_of is.kind) placed ok tree balanced.nodes
+        alike_lists (IsBalancedNode i) tree_children tree_children (λ o m is. ap children_of is.kind) placed ok tree balanced.nodes
 
-    root_agrees : (first : BinaryTree PlacedNode) (root : BinaryTree TreeNode) → root_of placed_children placed ≡ Some first
+    root_agrees : (first : BinaryTree TreeNode) (root : BinaryTree TreeNode) → root_of tree_children placed ≡ Some first
         → IsAlike (IsBalancedNode i) [] first root
         → Agrees balanced.within.balance root × ((label root).wire ≡ (label balanced.within.root).route.length)
     unfolding IsWireLength
@@ -187,7 +186,7 @@ module _ (i : Parts) where
 
     pub within_limits : IsWithinLimits i tree
     within_limits =
-        let l : AlikeLists (IsBalancedNode i) placed_children tree_children (λ o m is. ap children_of is.kind) placed tree = lists in
+        let l : AlikeLists (IsBalancedNode i) tree_children tree_children (λ o m is. ap children_of is.kind) placed tree = lists in
         let at : Agrees balanced.within.balance l.second × ((label l.second).wire ≡ (label balanced.within.root).route.length) =
         root_agrees l.first l.second l.first_is l.alike in
         subst (All (λ t. ¬ IsOver i tree t)) (sym l.second_trees)

@@ -4,7 +4,6 @@ use Rattle.std.specs.Prelude.{ℕ, ◌⊎◌, List, All}
 use Rattle.cts_geom.specs.declared.bounds.Die.{Die}
 use Rattle.cts_geom.specs.Points.{point_of}
 use Rattle.cts_block.specs.FreePoints.{IsInDie}
-use Rattle.cts_tree.specs.declared.nodes.PlacedNode.{PlacedNode}
 use Rattle.cts_tree.specs.declared.nodes.TreeNode.{TreeNode}
 use Rattle.cts_instance.specs.declared.parts.Parts.{Parts}
 use Rattle.cts_topo.specs.declared.shape.ShapeNode.{ShapeNode}
@@ -24,7 +23,7 @@ pub data Synthesis : Type 0 where
 
 module _ (i : Parts) (shape : List ShapeNode) where
   -- a placed tree, by the plan of the shape
-  pub record IsPlacedBy (placed : List PlacedNode) : Type 0 where
+  pub record IsPlacedBy (placed : List TreeNode) : Type 0 where
     pub plan : List Finished
     pub is_plan : IsPlan i.params i.sinks shape plan
     pub is_placed : IsPlacedTree i shape placed
@@ -33,7 +32,7 @@ module _ (i : Parts) (shape : List ShapeNode) where
   pub record IsTreeOf (tree : List TreeNode) : Type 0 where
     pub plan : List Finished
     pub is_plan : IsPlan i.params i.sinks shape plan
-    pub placed : List PlacedNode
+    pub placed : List TreeNode
     pub is_placed : IsPlacedTree i shape placed
     pub is_balanced : IsBalancedTree i placed tree
 
@@ -47,7 +46,7 @@ module _ (i : Parts) (shape : List ShapeNode) where
   pub record IsBeyondOf (k : ℕ) : Type 0 where
     pub plan : List Finished
     pub is_plan : IsPlan i.params i.sinks shape plan
-    pub placed : List PlacedNode
+    pub placed : List TreeNode
     pub is_placed : IsPlacedTree i shape placed
     pub is_beyond : IsBeyondInBalance i placed k
 

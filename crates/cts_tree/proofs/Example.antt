@@ -1,7 +1,6 @@
 -- The definitions, computed on a worked route: from (0, 5) nm round a block to (10, 5), over (4, 5), (4, 2) and (10, 2).
 use Rattle.std.proofs.Common.{◌≡◌, ℕ, List, [], ◌∷◌, refl, pos}
 use Rattle.cts_geom.specs.declared.points.Half.{Half}
-use Rattle.cts_geom.specs.Points.{manhattan_of}
 use Rattle.cts_tree.specs.Path.{points_along, path_length, keeps_on, goes_on, turns_of}
 
 -- a point by its whole nm, doubled

@@ -2,16 +2,12 @@
 use Rattle.std.specs.Prelude.{ℕ, Option, Some, None}
 use Rattle.cts_tree.specs.declared.nodes.NodeKind.{NodeKind}
 use Rattle.cts_tree.specs.declared.nodes.NodeKind.TheVariants.{Leaf, Pair}
-use Rattle.cts_tree.specs.declared.nodes.PlacedNode.{PlacedNode}
 use Rattle.cts_tree.specs.declared.nodes.TreeNode.{TreeNode}
 
 -- the numbers of the left and right child, and nothing at a leaf
 abbrev pub children_of : NodeKind → Option (ℕ × ℕ)
 children_of (Leaf id sink) = None
 children_of (Pair left right buffer) = Some (left, right)
-
-abbrev pub placed_children : PlacedNode → Option (ℕ × ℕ)
-placed_children node = children_of node.kind
 
 abbrev pub tree_children : TreeNode → Option (ℕ × ℕ)
 tree_children node = children_of node.kind

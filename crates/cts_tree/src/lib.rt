@@ -2,8 +2,8 @@
 //!
 //! A tree is kept as its nodes in post-order, the model of `cts_postorder`: a pair names its
 //! children by their numbers, the right child is the node before it, and the root is the last node.
-//! [`Placed`] is a tree whose nodes have places and routes, [`Tree`] one whose wires have lengths
-//! too; both keep the post-order as an invariant of their type, so that a layer above may use what
+//! [`Placed`] is a tree whose nodes have places and routes, and wires of length 0 so far, [`Tree`] one
+//! whose wires have their lengths too; both keep the post-order as an invariant of their type, so that a layer above may use what
 //! `cts_postorder` says of such lists: each node but the last has one pair above it, children stand
 //! before their pair, and n leaves make 2n - 1 nodes.
 //!
@@ -16,6 +16,6 @@ mod nodes;
 mod route;
 mod tree;
 
-pub use nodes::{NodeKind, PlacedNode, TreeNode};
+pub use nodes::{NodeKind, TreeNode};
 pub use route::{Corners, Route};
 pub use tree::{Placed, Tree};

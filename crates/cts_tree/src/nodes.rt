@@ -20,20 +20,13 @@ pub enum NodeKind {
     },
 }
 
-/// A node with its place, and the route to it from the pair above it, or from the source.
-#[derive(Drop)]
-pub struct PlacedNode {
-    pub kind: NodeKind,
-    pub place: Spot,
-    pub route: Route,
-}
-
-/// A node of a tree: a placed node whose wire has a length.
+/// A node with its place, and the route and the wire to it from the pair above it, or from the source.
 #[derive(Drop)]
 pub struct TreeNode {
     pub kind: NodeKind,
     pub place: Spot,
-    /// The length in nm of the wire along the route, which may snake and then is longer.
+    /// The length in nm of the wire along the route, which may snake and then is longer; 0 in a tree whose
+    /// wires have no lengths yet.
     pub wire: u64,
     pub route: Route,
 }

@@ -1,11 +1,11 @@
 use Rattle.std.proofs.Common.{inr, refl, arith}
 use Rattle.cts_postorder.proofs.Lists.{length_pos}
-use Rattle.cts_tree.specs.Nodes.{placed_children}
+use Rattle.cts_tree.specs.Nodes.{tree_children}
 use Rattle.cts_embed.proofs.Root.{last_within, root_in_range, all_within, root_beyond}
 use Rattle.cts_embed.proofs.upward.balances_of.Goals as goal
 
 pub overflow_sub-last : goal.overflow_sub-last
-overflow_sub-last c = omega (arith, length_pos placed_children c.args.nodes.now c.requires.post_order)
+overflow_sub-last c = omega (arith, length_pos tree_children c.args.nodes.now c.requires.post_order)
 
 pub index-requires : goal.index-requires
 index-requires c =
@@ -17,10 +17,10 @@ index-requires c =
     )
 
 pub bounds-nodes-last : goal.bounds-nodes-last
-bounds-nodes-last c = omega (arith, length_pos placed_children c.args.nodes.now c.requires.post_order)
+bounds-nodes-last c = omega (arith, length_pos tree_children c.args.nodes.now c.requires.post_order)
 
 pub bounds-nodes-last-in_ok-balances : goal.bounds-nodes-last-in_ok-balances
-bounds-nodes-last-in_ok-balances c = omega (arith, length_pos placed_children c.args.nodes.now c.requires.post_order)
+bounds-nodes-last-in_ok-balances c = omega (arith, length_pos tree_children c.args.nodes.now c.requires.post_order)
 
 pub is_root_within-requires : goal.is_root_within-requires
 is_root_within-requires c = record {
