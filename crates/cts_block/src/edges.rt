@@ -8,7 +8,7 @@ ghost use Rattle.cts_block.specs.NearestFree.{IsDieInRange, LiesIn};
 ghost use Rattle.cts_block.specs.FreePoints.{IsInDie};
 ghost use Rattle.cts_block.specs.Search.{IsPlaceInRange, IsFreeAmong, IsAhead, IsOn, IsOnSide, IsOffset, IsSegmentIn};
 ghost use Rattle.cts_block.specs.Search.{half_of as spec_half_of, edge_of as spec_edge_of};
-ghost use Rattle.cts_block.specs.Index.{IsEdge, HasEdge};
+ghost use Rattle.cts_block.specs.Index.{IsEdge, IsExposed, IsExposedIn, HasEdge};
 
 use crate::blocks::Block;
 use crate::distance::{left_edge, reach, right_edge};
@@ -111,6 +111,7 @@ fn exposed_edge<O: Obstacles>(obstacles: &O, die: &Die, side: Side, block: &Bloc
     requires lie { (block : Block) → O.counts obstacles.now block → LiesIn die.now block }
     requires block { LiesIn die.now block.now }
     ensures edge { IfSome result (IsEdge side die.now) }
+    ensures exposed { IfSome result (IsExposed (O.counts obstacles.now) side die.now block.now) }
     ensures whole { (q : Whole) → IsFreeAmong (O.counts obstacles.now) die.now q
         → q.x ≡ spec_edge_of side block.now → block.now.y1 ≤ℤ q.y → q.y ≤ℤ block.now.y2
         → IsSomeAnd result (λ edge. IsOn edge.segment q) }
@@ -136,6 +137,8 @@ pub fn edges_on<O: Obstacles>(
     requires all { (block : Block) → Contains blocks.now block → O.counts obstacles.now block }
     ensures ordered { IfOk result (λ edges. IsNonDecreasingBy (λ edge. edge.offset) edges.items) }
     ensures edges { IfOk result (λ edges. All (IsEdge side die.now) edges.items) }
+    ensures exposed { IfOk result (λ edges.
+        All (IsExposedIn (O.counts obstacles.now) side die.now blocks.now) edges.items) }
     ensures complete { IfOk result (λ edges. (q : Whole) → IsFreeAmong (O.counts obstacles.now) die.now q
         → IsOnSide (Contains blocks.now) side q → HasEdge edges.items q) }
 {
