@@ -39,7 +39,7 @@ use Rattle.cts_elmore.specs.Figures.{IsNodeFigure, IsFigureInRange}
 use Rattle.cts_elmore.specs.Outputs.{IsOutput, IsPartFigure, LoadIsMet, SlewIsMet, IsDescent}
 use Rattle.cts_elmore.specs.Subtrees.{IsKnownBelow, IsDrive}
 use Rattle.cts_elmore.proofs.Rising.{not_above, load_seen_le}
-use Rattle.cts_elmore.proofs.Waiting.{all_zip-set}
+use Rattle.cts_postorder.proofs.Waiting.{all_zip-set}
 use Rattle.cts_elmore.proofs.Down.{IsRight, root_right, left_right, right_right, figure_in_range, is_leaf, load_told, slew_told}
 
 -- one more answer, for one more item at the front

@@ -2,7 +2,6 @@ pub mod Numbers
 pub mod Paths
 pub mod Below
 pub mod Rising
-pub mod Waiting
 pub mod Node
 pub mod Root
 pub mod Ends

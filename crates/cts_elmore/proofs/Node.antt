@@ -25,10 +25,10 @@ use Rattle.cts_elmore.specs.Fits.{FitsInstance}
 use Rattle.cts_elmore.specs.Loads.{sink_load}
 use Rattle.cts_elmore.specs.Limits.{IsOverAtPair, long_left, long_right, IsPairOver}
 use Rattle.cts_elmore.specs.declared.figures.NodeFigure.{NodeFigure}
-use Rattle.cts_elmore.specs.Waiting.{StandsAt, AreWaiting}
+use Rattle.cts_postorder.specs.Waiting.{StandsAt, AreWaiting}
 use Rattle.cts_elmore.specs.Subtrees.{IsSubtree, IsSubtreeInRange, IsKnownBelow, IsBranch, PairOrOver}
 use Rattle.cts_elmore.proofs.Rising.{subtree_in_range, leaf_is, pair_is, pair_over}
-use Rattle.cts_elmore.proofs.Waiting.{AtPair, waiting_at_leaf, waiting_at_pair, two_wait}
+use Rattle.cts_postorder.proofs.Waiting.{AtPair, waiting_at_leaf, waiting_at_pair, two_wait}
 
 pub slice_get_none : {X : Type 0} (xs : List X) (k : ℕ) → k < length xs → ¬ (slice_get xs k ≡ None)
 slice_get_none [] k h none = omega arith

@@ -3,7 +3,6 @@ pub mod Loads
 pub mod Delays
 pub mod Skew
 pub mod Limits
-pub mod Waiting
 pub mod Subtrees
 pub mod Outputs
 pub mod Figures

@@ -9,7 +9,7 @@ ghost use Rattle.cts_elmore.specs.Fits.{FitsInstance, NamesSink};
 ghost use Rattle.cts_elmore.specs.Loads.{sink_load};
 ghost use Rattle.cts_elmore.specs.Limits.{IsPairOver};
 ghost use Rattle.cts_elmore.specs.Subtrees.{IsBranch, IsBranchInRange, IsSubtree, IsSubtreeInRange, IsGathered, PairOrOver};
-ghost use Rattle.cts_elmore.specs.Waiting.{AreWaiting, StandsAt};
+ghost use Rattle.cts_postorder.specs.Waiting.{AreWaiting, StandsAt};
 
 use crate::figures::NodeFigure;
 use cts_instance::Instance;

@@ -15,3 +15,4 @@ pub mod Statements
 mod Example
 pub mod Alike
 pub mod Stacks
+pub mod Waiting

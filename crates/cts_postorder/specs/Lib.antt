@@ -4,3 +4,4 @@ pub mod Occurrence
 pub mod Pass
 pub mod Laws
 pub mod Stack
+pub mod Waiting

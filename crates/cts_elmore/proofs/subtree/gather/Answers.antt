@@ -4,8 +4,8 @@ use Rattle.cts_postorder.specs.PostOrder.{trees_of}
 use Rattle.cts_postorder.proofs.Upward.{up_all}
 use Rattle.cts_tree.specs.Nodes.{tree_children}
 use Rattle.cts_elmore.specs.Subtrees.{IsSubtree, IsKnownBelow}
-use Rattle.cts_elmore.specs.Waiting.{AreWaiting}
-use Rattle.cts_elmore.proofs.Waiting.{one_waits, root_waits}
+use Rattle.cts_postorder.specs.Waiting.{AreWaiting}
+use Rattle.cts_postorder.proofs.Waiting.{one_waits, root_waits}
 use Rattle.cts_elmore.proofs.Node.{known_next, first_failure}
 use Rattle.cts_elmore.proofs.subtree.gather.Goals as goal
 

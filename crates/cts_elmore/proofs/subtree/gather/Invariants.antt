@@ -3,7 +3,7 @@ use Rattle.std.specs.List.{AllZip}
 use Rattle.cts_postorder.specs.PostOrder.{trees_of}
 use Rattle.cts_tree.specs.Nodes.{tree_children}
 use Rattle.cts_elmore.specs.Subtrees.{IsSubtree, IsKnownBelow}
-use Rattle.cts_elmore.specs.Waiting.{AreWaiting}
+use Rattle.cts_postorder.specs.Waiting.{AreWaiting}
 use Rattle.cts_elmore.proofs.subtree.gather.Given as goal
 
 abbrev pub invariant-loop-number : goal.invariant-loop-number

@@ -8,7 +8,7 @@ use Rattle.cts_postorder.specs.BinaryTree.{BinaryTree}
 use Rattle.cts_postorder.specs.PostOrder.{IsPostOrderFrom, IsPostOrder, root_of}
 use Rattle.cts_postorder.specs.Stack.{IsJoin, stack_after}
 use Rattle.cts_postorder.proofs.Stacks.{post_splits}
-use Rattle.cts_elmore.specs.Waiting.{StandsAt, AreWaiting}
+use Rattle.cts_postorder.specs.Waiting.{StandsAt, AreWaiting}
 
 -- the two latest trees of a stack that a pair joins
 joined : (stack : List ℕ) (p : ℕ × ℕ) → IsJoin (Some p) stack → (below : List ℕ) × (stack ≡ p.1 ∷ p.0 ∷ below)
