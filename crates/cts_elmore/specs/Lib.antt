@@ -6,6 +6,7 @@ pub mod Limits
 pub mod Subtrees
 pub mod Outputs
 pub mod Figures
+pub mod Measurement
 pub mod Sound
 pub mod Laws
 pub use Rattle.cts_tree.specs.Nodes

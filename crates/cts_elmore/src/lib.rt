@@ -1,9 +1,9 @@
 //! The figures of a clock tree: loads, Elmore delays, slews, skew and bound.
 //!
-//! A layer above asks by [`within`] whether a tree is within the limits of wires, loads and delays,
-//! whoever made it, and takes the [`Figures`] of a tree that is by [`measure`]. Both ask for a tree
-//! that names the instance's sinks and buffers, `specs/Fits.antt`. A layer above cites
-//! `specs/Figures.antt` for what figures are: `Loads` has the sums over what a point drives, `Delays`
+//! A layer above takes the [`Figures`] of a tree that is within the limits of wires, loads and delays by
+//! [`measure`], and asks by [`try_measure`] of a tree that anybody made whether it is, and for its figures.
+//! Both ask for a tree that names the instance's sinks and buffers, `specs/Fits.antt`. A layer above
+//! cites `specs/Figures.antt` for what figures are: `Loads` has the sums over what a point drives, `Delays`
 //! the sums over a node's path from the source, `Skew` residues, skew and bound over the leaves, and
 //! `Limits` what is over the limits of a tree and what meets those of an instance.
 //!
@@ -15,13 +15,11 @@ mod descent;
 mod drive;
 mod figures;
 pub mod laws;
-mod limits;
 mod measurement;
 mod subtree;
 
 pub use figures::{Figures, NodeFigure, NodeFigures};
-pub use limits::within;
-pub use measurement::measure;
+pub use measurement::{Measured, measure, try_measure};
 
 #[cfg(test)]
 mod tests;

@@ -1,18 +1,32 @@
 //! The figures of a tree.
 
-ghost use Rattle.std.specs.Prelude.{◌≡◌, length, IfOk};
+ghost use Rattle.std.specs.Prelude.{◌≡◌, length, map, Some, IfOk, IfSome};
+ghost use Rattle.std.specs.List.{AllZip};
+ghost use Rattle.cts_postorder.specs.PostOrder.{IsPostOrder, root_of, trees_of};
+ghost use Rattle.cts_tree.specs.Nodes.{tree_children};
 ghost use Rattle.cts_elmore.specs.Figures.{AreFigures, AreFiguresInRange};
 ghost use Rattle.cts_elmore.specs.Fits.{FitsInstance};
 ghost use Rattle.cts_elmore.specs.Limits.{IsWithinLimits};
+ghost use Rattle.cts_elmore.specs.Measurement.{IsMeasured};
+ghost use Rattle.cts_elmore.specs.Subtrees.{DriveOrOver, IsKnownBelow, IsSubtree};
 
 use crate::descent::descend;
-use crate::drive::drive_root;
-use crate::figures::{Figures, NodeFigures};
-use crate::subtree::{Gathered, gather};
+use crate::drive::{Drive, drive_root};
+use crate::figures::{Figures, NodeFigure, NodeFigures};
+use crate::subtree::{Gathered, Subtree, gather};
 use cts_instance::Instance;
 use cts_num::NoMemory;
-use cts_tree::Tree;
+use cts_tree::{Tree, TreeNode};
 use std::alloc::Global;
+
+/// What the measurement of a tree comes to.
+#[derive(Drop)]
+pub enum Measured {
+    /// The tree is within the limits, and has these figures.
+    Within { figures: Figures },
+    /// The least number of a node that is over the limits.
+    Over { node: u32 },
+}
 
 /// The figures of a tree that is within the limits.
 ///
@@ -29,16 +43,58 @@ pub fn measure(alloc: Global, instance: &Instance, tree: &Tree) -> Result<Figure
     ensures one_each { IfOk result (λ figures. length figures.nodes ≡ length tree.now) }
     ensures in_range { IfOk result AreFiguresInRange }
 {
+    match try_measure(alloc, instance, tree)? {
+        Measured::Within { figures } => Ok(figures),
+        Measured::Over { .. } => unreachable!(),
+    }
+}
+
+/// The figures of a tree, whoever made it, or the least number of a node that is over the limits.
+///
+/// A pair is over the limits where the wire of one of its children is longer than 2^31 - 1 nm, where
+/// its load below its buffer is above 2^56 zF, or where its greatest doubled delay down to a leaf,
+/// its buffer included, is above 2^104. The root is also over where its own wire is too long, where
+/// the source's load is above 2^56, or where the greatest doubled delay from the source to a leaf is
+/// above 2^104. The tree may come from anywhere: its wires may have any length. Answers `NoMemory`
+/// where an allocation fails.
+pub fn try_measure(alloc: Global, instance: &Instance, tree: &Tree) -> Result<Measured, NoMemory>
+    requires { FitsInstance instance.now tree.now }
+    ensures { IfOk result (IsMeasured instance.now tree.now) }
+{
     let nodes = tree.nodes();
-    let (root, figures) = match gather(alloc, instance, nodes)? {
+    let (root, known) = match gather(alloc, instance, nodes)? {
         Gathered::Within { root, figures } => (root, figures),
-        Gathered::Over { .. } => unreachable!(),
+        Gathered::Over { node } => return Ok(Measured::Over { node }),
     };
-    let Some(drive) = drive_root(instance, nodes, &root) else {
-        unreachable!()
-    };
-    let descent = descend(instance, nodes, figures, drive);
-    Ok(Figures {
+    match drive_root(instance, nodes, &root) {
+        Some(drive) => Ok(Measured::Within {
+            figures: driven(instance, nodes, &root, known, drive),
+        }),
+        None => Ok(Measured::Over {
+            node: (nodes.len() - 1) as u32,
+        }),
+    }
+}
+
+/// The figures of a tree whose root the source drives so, from what is known of its nodes from below.
+fn driven(
+    instance: &Instance,
+    nodes: &[TreeNode],
+    root: &Subtree,
+    known: Vec<NodeFigure>,
+    drive: Drive,
+) -> Figures
+    requires post_order { IsPostOrder (map tree_children nodes.now) }
+    requires fits { FitsInstance instance.now nodes.now }
+    requires root { IfSome (root_of tree_children nodes.now) (λ t. IsSubtree instance.now t root.now) }
+    requires known { AllZip (IsKnownBelow instance.now) (trees_of tree_children nodes.now) known.items }
+    requires drive { IfSome (root_of tree_children nodes.now) (λ t. DriveOrOver instance.now t (Some drive)) }
+    ensures figures { AreFigures instance.now nodes.now result }
+    ensures one_each { length result.nodes ≡ length nodes.now }
+    ensures in_range { AreFiguresInRange result }
+{
+    let descent = descend(instance, nodes, known, drive);
+    Figures {
         nodes: NodeFigures::of(descent.figures),
         source_load: drive.load,
         wire_total: root.wires + nodes[nodes.len() - 1].wire,
@@ -48,5 +104,5 @@ pub fn measure(alloc: Global, instance: &Instance, tree: &Tree) -> Result<Figure
         bound: root.bound,
         load_met: descent.load_met,
         slew_met: descent.slew_met,
-    })
+    }
 }

@@ -113,9 +113,9 @@ fn figures_of(
         ),
     ]?;
     let tree = Tree::of(nodes);
-    match within(alloc, instance, &tree)? {
-        Some(_) => Ok(None),
-        None => Ok(Some(measure(alloc, instance, &tree)?)),
+    match try_measure(alloc, instance, &tree)? {
+        Measured::Within { figures } => Ok(Some(figures)),
+        Measured::Over { .. } => Ok(None),
     }
 }
 

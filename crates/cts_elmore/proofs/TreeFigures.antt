@@ -1,14 +1,12 @@
 -- The figures of the whole tree, from the root's and from what the passes come to.
-use Rattle.std.proofs.Common.{◌≡◌, ℕ, ◌+◌, ◌-◌, ◌^◌, ◌<◌, ◌≤◌, inl, List, [], map, length, get_or, Some, None, sym, ap, subst, ◌∙◌, arith}
+use Rattle.std.proofs.Common.{◌≡◌, ℕ, ◌+◌, ◌-◌, ◌^◌, ◌<◌, ◌≤◌, List, [], map, length, get_or, Some, sym, ap, subst, ◌∙◌, arith}
 use Rattle.std.specs.Prelude.{IfSome}
 use Rattle.std.specs.List.{All, AllZip}
 use Rattle.std.proofs.lemmas.Slice.Zip.{AllZip-long}
-use Rattle.std.proofs.lemmas.Option.{get_or_from_slice_get, slice_get_within}
 use Rattle.cts_units.specs.Limits.{max_length, max_delay}
-use Rattle.cts_postorder.specs.BinaryTree.{BinaryTree, label}
-use Rattle.cts_postorder.specs.PostOrder.{IsPostOrder, trees_of, root_of}
+use Rattle.cts_postorder.specs.BinaryTree.{label}
+use Rattle.cts_postorder.specs.PostOrder.{IsPostOrder, root_of}
 use Rattle.cts_postorder.specs.Occurrence.{occurrences}
-use Rattle.cts_postorder.specs.Pass.{IsLeastFailure}
 use Rattle.cts_postorder.proofs.Sizes.{length-occurrences}
 use Rattle.cts_tree.specs.declared.nodes.TreeNode.{TreeNode}
 use Rattle.cts_tree.specs.Nodes.{tree_children}
@@ -19,22 +17,13 @@ use Rattle.cts_elmore.specs.declared.drive.Drive.{Drive}
 use Rattle.cts_elmore.specs.declared.descent.Descent.{Descent}
 use Rattle.cts_elmore.specs.Skew.{skew}
 use Rattle.cts_elmore.specs.Fits.{FitsInstance}
-use Rattle.cts_elmore.specs.Limits.{IsPairOver, IsWithinLimits, long_root, great_leaf_delay}
+use Rattle.cts_elmore.specs.Limits.{long_root, great_leaf_delay}
 use Rattle.cts_elmore.specs.Figures.{IsNodeFigure, AreFigures, IsFigureInRange, AreFiguresInRange}
 use Rattle.cts_elmore.specs.Subtrees.{IsSubtree, IsDrive, DriveOrOver}
 use Rattle.cts_elmore.specs.Outputs.{IsDescent}
 use Rattle.cts_elmore.proofs.Below.{greatest_delay, least_delay}
 use Rattle.cts_elmore.proofs.Rising.{not_above, least_le_greatest}
-use Rattle.cts_elmore.proofs.Limited.{root_within}
 use Rattle.cts_elmore.proofs.Root.{AtRoot, at_root}
-
--- within the limits no pair is over them
-pub no_pair_over : (i : Parts) (nodes : List TreeNode) → IsWithinLimits i nodes → (k : ℕ)
-    → ¬ IsLeastFailure tree_children nodes (IsPairOver i) k
-no_pair_over i nodes sound k = λ f.
-    let trees : List (BinaryTree TreeNode) = trees_of tree_children nodes in
-    let is : get_or trees k f.tree ≡ f.tree = get_or_from_slice_get trees k f.tree f.tree f.found in
-    sound k f.tree (slice_get_within trees k f.tree f.found) (inl (subst (IsPairOver i) (sym is) f.fails))
 
 module _ (i : Parts) (nodes : List TreeNode) (ok : IsPostOrder (map tree_children nodes)) where
   at : AtRoot nodes
@@ -42,11 +31,6 @@ module _ (i : Parts) (nodes : List TreeNode) (ok : IsPostOrder (map tree_childre
 
   pub some_node : 0 < length nodes
   some_node = at.some
-
-  -- and the root isn't either
-  pub driven : IsWithinLimits i nodes → ¬ IfSome (root_of tree_children nodes) (λ root. DriveOrOver i root None)
-  driven sound = λ over.
-      root_within i nodes at.root sound at.root_is (subst (λ o. IfSome o (λ root. DriveOrOver i root None)) at.root_is over)
 
   module _ (s : Subtree) (root_known : IfSome (root_of tree_children nodes) (λ t. IsSubtree i t s)) (drive : Drive)
       (told : IfSome (root_of tree_children nodes) (λ root. DriveOrOver i root (Some drive))) (e : TreeNode) where
