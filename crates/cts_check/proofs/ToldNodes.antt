@@ -1,5 +1,7 @@
 -- The told tree, node by node: what a report prints is what the types of the code hold.
-use Rattle.std.proofs.Common.{◌≡◌, ℕ, ◌*◌, ◌/◌, ℤ, List, [], ◌∷◌, map, refl, sym, ap, ap₂, ◌∙◌, arith}
+use Rattle.std.proofs.Common.{◌≡◌, ℕ, ◌+◌, ◌*◌, ◌/◌, ◌<◌, ℤ, List, [], ◌∷◌, ◌++◌, map, take, set, get_or, length, refl, sym, ap, ap₂, ◌∙◌, arith}
+use Rattle.std.proofs.Math.Seq.{map-set_same}
+use Rattle.std.proofs.lemmas.List.{map-append, take_more}
 use Rattle.std.specs.Prelude.{pos, ◌≤ℤ◌, unsigned_abs}
 use Rattle.std.specs.List.{All}
 use Rattle.std.proofs.lemmas.List.Elements.{All-head, All-tail}
@@ -12,6 +14,7 @@ use Rattle.cts_tree.specs.declared.nodes.TreeNode.{TreeNode}
 use Rattle.cts_report_reader.specs.declared.node.ReportNode.{ReportNode}
 use Rattle.cts_report_reader.specs.Nodes.{seen_kind, seen_node}
 use Rattle.cts_report_reader.specs.Seen.{IsSeen, seen_point}
+use Rattle.cts_check.specs.Claims.{claim_seen, claims_seen}
 use Rattle.cts_check.specs.Told.{told_point, told_place, told_kind, told_node}
 
 pub half_same : (p q : Half) → p.x ≡ q.x → p.y ≡ q.y → p ≡ q
@@ -46,6 +49,25 @@ node_again sinks node kind place wire seen kind_is place_is wire_is =
     ∙ ap (λ cs. made (told_kind sinks (seen_kind node.kind)) (told_place (seen_point node.place)) node.wire cs)
     (sym (corners_again node.corners seen))
 
-pub unchanged : {A : Type 0} (xs : List A) → map (λ x. x) xs ≡ xs
-unchanged [] = refl
-unchanged (x ∷ xs) = ap (λ ys. x ∷ ys) (unchanged xs)
+-- the same of one that took over the corners
+pub node_told : (sinks : List Sink) (node : ReportNode) (kind : NodeKind) (place : Spot) (wire : ℕ) (corners : List Half) → All IsSeen node.corners
+    → kind ≡ told_kind sinks (seen_kind node.kind) → place ≡ told_place (seen_point node.place) → wire ≡ node.wire → corners ≡ node.corners
+    → ◌≡◌ {A = TreeNode} (record { kind = kind; place = place; wire = wire; route = record { corners = corners; length = 0 } })
+    (told_node sinks (seen_node node))
+node_told sinks node kind place wire corners seen kind_is place_is wire_is corners_are =
+    ap (λ (cs : List Half). let n : TreeNode = record { kind = kind; place = place; wire = wire; route = record { corners = cs; length = 0 } } in n) corners_are
+    ∙ node_again sinks node kind place wire seen kind_is place_is wire_is
+
+-- a node that was told keeps the figures of all
+pub claims_kept : (now nodes : List ReportNode) (i : ℕ) (after d : ReportNode) → claim_seen after ≡ claim_seen (get_or now i d)
+    → claims_seen now ≡ claims_seen nodes → claims_seen (set now i after) ≡ claims_seen nodes
+claims_kept now nodes i after d same before = map-set_same claim_seen now i after d same ∙ before
+
+-- one node more is told
+pub told_more : (sinks : List Sink) (nodes : List ReportNode) (i : ℕ) (d : ReportNode) (told : TreeNode) → i < length nodes
+    → told ≡ told_node sinks (seen_node (get_or nodes i d))
+    → map (λ node. told_node sinks (seen_node node)) (take i nodes) ++ told ∷ [] ≡ map (λ node. told_node sinks (seen_node node)) (take (i + 1) nodes)
+told_more sinks nodes i d told within is =
+    let tell : ReportNode → TreeNode = λ node. told_node sinks (seen_node node) in
+    ap (λ t. map tell (take i nodes) ++ t ∷ []) is ∙ sym (map-append tell (take i nodes) (get_or nodes i d ∷ []))
+    ∙ sym (ap (map tell) (take_more nodes i d within))

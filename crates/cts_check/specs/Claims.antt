@@ -1,5 +1,5 @@
 -- The figures that a report prints of its nodes, as the types of the code hold them.
-use Rattle.std.specs.Prelude.{◌≡◌, ℕ, ◌<◌, List, length, slice_get, slice_index_or, Option, Some, None, IfSome, MatchOption}
+use Rattle.std.specs.Prelude.{◌≡◌, ℕ, ◌<◌, List, length, map, slice_get, slice_index_or, Option, Some, None, IfSome, MatchOption}
 use Rattle.cts_units.specs.Delay.{slew_of}
 use Rattle.cts_elmore.specs.declared.figures.NodeFigure.{NodeFigure}
 use Rattle.cts_elmore.specs.declared.figures.Figures.{Figures}
@@ -7,7 +7,7 @@ use Rattle.cts_elmore.specs.Figures.{IsFigureInRange}
 use Rattle.cts_report.specs.Printed.{PrintedKind, sink_leaf, pair_node, PrintedNode}
 use Rattle.cts_report_reader.specs.declared.node.ReportNode.{ReportNode}
 use Rattle.cts_report_reader.specs.Bounds.{IsPrintedPlace}
-use Rattle.cts_report_reader.specs.Nodes.{IsSeenNode}
+use Rattle.cts_report_reader.specs.Nodes.{IsSeenNode, seen_node}
 use Rattle.cts_report_reader.specs.Seen.{seen_point}
 use Rattle.cts_report_reader.specs.Totals.{seen_totals}
 use Rattle.cts_report_reader.specs.declared.totals.ReportTotals.{ReportTotals}
@@ -21,6 +21,13 @@ claimed_residue (pair_node left right buffer residue) = Some residue
 
 abbrev pub claim_of : PrintedNode → Claim
 claim_of p = record { load = p.load; residue = claimed_residue p.kind; delay = p.delay; slew = p.slew }
+
+-- the figures in a node of a report
+abbrev pub claim_seen : ReportNode → Claim
+claim_seen node = claim_of (seen_node node)
+
+abbrev pub claims_seen : List ReportNode → List Claim
+claims_seen nodes = map claim_seen nodes
 
 -- a node with coordinates as a die can have, whose place is a spot
 pub record IsTellable (node : ReportNode) : Type 0 where

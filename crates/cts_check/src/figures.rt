@@ -5,12 +5,12 @@ ghost use Rattle.cts_elmore.specs.Figures.{AreFiguresInRange, IsFigureInRange};
 ghost use Rattle.cts_report.specs.Report.{printed_totals};
 ghost use Rattle.cts_report_reader.specs.Totals.{seen_totals};
 ghost use Rattle.std.specs.Bool.{OnFalse, OnTrue};
-ghost use Rattle.cts_check.specs.Claims.{Agrees, CanBeCompared, IsClaimOf, IsClaimedAt};
+ghost use Rattle.cts_check.specs.Claims.{Agrees, CanBeCompared, IsClaimOf, IsClaimedAt, claims_seen};
 ghost use Rattle.cts_check.specs.Rules.{IsFirstFailing};
 
-use crate::told::Claim;
+use crate::told::{Claim, claim_of};
 use cts_elmore::{Figures, NodeFigure};
-use cts_report_reader::ReportTotals;
+use cts_report_reader::{ReportNode, ReportTotals};
 use cts_units::slew_tenths;
 use rayon::prelude::*;
 use std::thread::Threads;
@@ -55,21 +55,21 @@ fn are_totals_of(totals: &ReportTotals, figures: &Figures) -> bool
 /// threads where there are processors for them.
 fn first_wrong_node(
     rt: &(impl Threads + Sync),
-    claims: &[Claim],
+    nodes: &[ReportNode],
     figures: &[NodeFigure],
 ) -> Option<usize>
-    requires few { length claims.now ≤ 131071 }
-    requires one_each { length figures.now ≡ length claims.now }
+    requires few { length nodes.now ≤ 131071 }
+    requires one_each { length figures.now ≡ length nodes.now }
     requires in_range { All IsFigureInRange figures.now }
-    ensures { IsFirstFailing (IsClaimedAt claims.now figures.now) result }
+    ensures { IsFirstFailing (IsClaimedAt (claims_seen nodes.now) figures.now) result }
 {
-    (0..claims.len()).into_par_iter().position_first(
+    (0..nodes.len()).into_par_iter().position_first(
         rt,
         |k: usize| -> bool
-            requires { CanBeCompared claims.now figures.now k }
-            ensures { OnTrue result (¬ IsClaimedAt claims.entry.now figures.entry.now k)
-                × OnFalse result (IsClaimedAt claims.entry.now figures.entry.now k) }
-        { !is_claim_of(&claims[k], &figures[k]) },
+            requires { CanBeCompared (claims_seen nodes.now) figures.now k }
+            ensures { OnTrue result (¬ IsClaimedAt (claims_seen nodes.entry.now) figures.entry.now k)
+                × OnFalse result (IsClaimedAt (claims_seen nodes.entry.now) figures.entry.now k) }
+        { !is_claim_of(&claim_of(&nodes[k]), &figures[k]) },
     )
 }
 
@@ -77,18 +77,18 @@ fn first_wrong_node(
 /// a figure of the whole tree is.
 pub fn first_wrong_figure(
     rt: &(impl Threads + Sync),
-    claims: &[Claim],
+    nodes: &[ReportNode],
     totals: &ReportTotals,
     figures: &Figures,
 ) -> Option<u32>
-    requires few { length claims.now ≤ 131071 }
-    requires one_each { length figures.now.nodes ≡ length claims.now }
+    requires few { length nodes.now ≤ 131071 }
+    requires one_each { length figures.now.nodes ≡ length nodes.now }
     requires in_range { AreFiguresInRange figures.now }
-    ensures { IsFirstFailing (Agrees claims.now totals.now figures.now) result }
+    ensures { IsFirstFailing (Agrees (claims_seen nodes.now) totals.now figures.now) result }
 {
-    match first_wrong_node(rt, claims, figures.nodes.items()) {
+    match first_wrong_node(rt, nodes, figures.nodes.items()) {
         Some(number) => Some(number as u32),
         None if are_totals_of(totals, figures) => None,
-        None => Some(claims.len() as u32),
+        None => Some(nodes.len() as u32),
     }
 }

@@ -20,7 +20,7 @@ use crate::sinks::first_unmet_sink;
 use crate::told::told_nodes_of;
 use crate::verdict::{Rule, Verdict};
 use crate::wires::first_short_wire;
-use cts_elmore::{measure, within};
+use cts_elmore::{Measured, try_measure};
 use cts_instance::Instance;
 use cts_num::NoMemory;
 use cts_report_reader::Report;
@@ -40,17 +40,17 @@ pub fn judge(
     requires seen { All IsSeenNode report.nodes.items }
     ensures { IfOk result (Judges instance.now (seen_report report)) }
 {
-    let Report { nodes, totals } = report;
-    let (nodes, claims) = told_nodes_of(alloc, instance.sinks(), nodes)?;
-    if let Some((rule, node)) = first_broken(alloc, instance, nodes.as_slice())? {
+    let Report { mut nodes, totals } = report;
+    let told = told_nodes_of(alloc, instance.sinks(), nodes.as_mut_slice())?;
+    if let Some((rule, node)) = first_broken(alloc, instance, told.as_slice())? {
         return Ok(broken(rule, node));
     }
-    let tree = Tree::of(nodes);
-    if let Some(node) = within(alloc, instance, &tree)? {
-        return Ok(broken(Rule::Limit, node));
-    }
-    let figures = measure(alloc, instance, &tree)?;
-    match first_wrong_figure(rt, claims.as_slice(), &totals, &figures) {
+    let tree = Tree::of(told);
+    let figures = match try_measure(alloc, instance, &tree)? {
+        Measured::Within { figures } => figures,
+        Measured::Over { node } => return Ok(broken(Rule::Limit, node)),
+    };
+    match first_wrong_figure(rt, nodes.as_slice(), &totals, &figures) {
         Some(node) => Ok(broken(Rule::Figure, node)),
         None => Ok(Verdict::Yes),
     }

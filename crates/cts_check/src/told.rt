@@ -1,12 +1,12 @@
 //! The tree that a report tells, and what the report says of its nodes beside it.
 
-ghost use Rattle.std.specs.Prelude.{◌≡◌, ◌+◌, ◌/◌, ◌%◌, ◌≤◌, List, length, map, All, IfOk};
+ghost use Rattle.std.specs.Prelude.{◌≡◌, ◌+◌, ◌/◌, ◌%◌, ◌≤◌, List, length, All, IfOk};
 ghost use Rattle.cts_units.specs.Ids.{HasDistinctIds};
 ghost use Rattle.cts_units.specs.declared.params.Sink.{Sink};
 ghost use Rattle.cts_report_reader.specs.Nodes.{seen_kind, seen_node, seen_nodes};
 ghost use Rattle.cts_report_reader.specs.Seen.{IsSeen, seen_point};
 ghost use Rattle.cts_report_reader.specs.Bounds.{IsPrintedPlace};
-ghost use Rattle.cts_check.specs.Claims.{IsTellable, claim_of as spec_claim_of};
+ghost use Rattle.cts_check.specs.Claims.{IsTellable, claim_seen, claims_seen};
 ghost use Rattle.cts_check.specs.Places.{FindsSinks};
 ghost use Rattle.cts_check.specs.Told.{told_kind as spec_told_kind, told_node as spec_told_node, told_nodes, told_place};
 
@@ -14,9 +14,10 @@ use crate::places::{NamedSink, ids_of, place_of};
 use cts_geom::{Half, Spot, spot_of_half};
 use cts_num::NoMemory;
 use cts_report_reader::{ReportKind, ReportNode};
-use cts_tree::{NodeKind, Route, TreeNode};
+use cts_tree::{Corners, NodeKind, Route, TreeNode};
 use cts_units::Sink;
 use std::alloc::Global;
+use std::mem;
 
 /// The figures that a report prints of a node.
 #[derive(Clone, Copy, Debug, PartialEq, Eq)]
@@ -32,8 +33,9 @@ pub struct Claim {
 }
 
 /// The figures that a report prints of this node.
-fn claim_of(node: &ReportNode) -> Claim
-    ensures { result ≡ spec_claim_of (seen_node node.now) }
+#[inline(always)]
+pub fn claim_of(node: &ReportNode) -> Claim
+    ensures { result ≡ claim_seen node.now }
 {
     Claim {
         load: node.load,
@@ -82,43 +84,42 @@ fn place_at(point: Half) -> Spot
     }
 }
 
-/// A node of a tree. A report does not print how long its route is.
-fn told_node(ids: &[NamedSink], node: ReportNode) -> TreeNode
+/// A node of a tree, which takes over the corners of what the report tells. A report does not print how long a route is.
+fn told_node(ids: &[NamedSink], node: &mut ReportNode) -> TreeNode
     requires few { length ids.now ≤ 65536 }
-    requires node { IsTellable node }
-    ensures { (sinks : List Sink) → FindsSinks sinks ids.now
-        → result ≡ spec_told_node sinks (seen_node node) }
+    requires node { IsTellable node.old }
+    ensures told { (sinks : List Sink) → FindsSinks sinks ids.now
+        → result ≡ spec_told_node sinks (seen_node node.old) }
+    ensures claim { claim_seen node.new ≡ claim_seen node.old }
 {
     TreeNode {
         kind: told_kind(ids, node.kind),
         place: place_at(node.place),
         wire: u64::from(node.wire),
         route: Route {
-            corners: node.corners,
+            corners: mem::replace(&mut node.corners, Corners::none()),
             length: 0,
         },
     }
 }
 
-/// The nodes of the tree that a report tells, by number, and beside them the figures that it prints of
-/// each.
+/// The nodes of the tree that a report tells, by number. They take over the corners, and the figures that it prints of
+/// each node stay where they are.
 pub fn told_nodes_of(
     alloc: Global,
     sinks: &[Sink],
-    nodes: Vec<ReportNode>,
-) -> Result<(Vec<TreeNode>, Vec<Claim>), NoMemory>
+    nodes: &mut [ReportNode],
+) -> Result<Vec<TreeNode>, NoMemory>
     requires ids { HasDistinctIds (λ s. s.id) sinks.now }
     requires few { length sinks.now ≤ 65536 }
-    requires nodes { All IsTellable nodes.items }
-    ensures tree { IfOk result (λ r. r.0.items ≡ told_nodes sinks.now (seen_nodes nodes.items)) }
-    ensures claims { IfOk result (λ r. r.1.items ≡ map spec_claim_of (seen_nodes nodes.items)) }
+    requires nodes { All IsTellable nodes.old }
+    ensures tree { IfOk result (λ tree. tree.items ≡ told_nodes sinks.now (seen_nodes nodes.old)) }
+    ensures claims { claims_seen nodes.new ≡ claims_seen nodes.old }
 {
     let ids = ids_of(alloc, sinks)?;
     let mut tree = Vec::with_capacity(alloc, nodes.len())?;
-    let mut claims = Vec::with_capacity(alloc, nodes.len())?;
-    for node in nodes {
-        claims.push(claim_of(&node))?;
+    for node in nodes.iter_mut() {
         tree.push(told_node(ids.as_slice(), node))?;
     }
-    Ok((tree, claims))
+    Ok(tree)
 }
