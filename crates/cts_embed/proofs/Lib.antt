@@ -5,7 +5,9 @@ pub mod Beyond
 pub mod Capacitances
 pub mod Steps
 pub mod Root
+pub mod PartsOfPairs
 pub mod HandedDown
+pub mod Ascent
 pub mod Assembled
 pub mod FreePlaces
 pub mod NodeKinds

@@ -1,16 +1,17 @@
 -- One step of the balance: what is known of the node at the next number.
-use Rattle.std.proofs.Common.{◌≡◌, ℕ, ◌+◌, ◌^◌, ◌<◌, ◌≤◌, ◌++◌, ◌∷◌, [], List, map, take, length, get_or, slice_get, Option, Some, None, MatchOption, Result, Ok, Err, IfOk, IfErr, sym, ap, subst, ◌∙◌, arith}
-use Rattle.std.specs.List.{All, AllZip}
+use Rattle.std.proofs.Common.{◌≡◌, ℕ, ◌+◌, ◌^◌, ◌<◌, ◌≤◌, ◌++◌, ◌∷◌, [], List, map, length, get_or, slice_get, Option, Some, None, IfSome, MatchOption, Result, Ok, Err, IfOk, IfErr, sym, ap, subst, ◌∙◌, arith}
+use Rattle.std.specs.List.{All}
 use Rattle.std.proofs.lemmas.Option.{slice_get-get_or}
 use Rattle.cts_units.specs.declared.params.Sink.{Sink}
 use Rattle.cts_units.specs.declared.params.Params.{Params}
 use Rattle.cts_units.specs.Limits.{IsParams}
 use Rattle.cts_postorder.specs.BinaryTree.{BinaryTree, tip, fork, label}
 use Rattle.cts_postorder.specs.PostOrder.{IsPostOrder, trees_of}
-use Rattle.cts_postorder.specs.Pass.{IsLeastFailure}
+use Rattle.cts_postorder.specs.Waiting.{AreWaiting, StandsAt}
 use Rattle.cts_postorder.proofs.Growth.{length-trees_of, label-tree}
 use Rattle.cts_postorder.proofs.Lists.{IsPair, is_pair}
-use Rattle.cts_postorder.proofs.Upward.{UpAtPair, up_at_leaf, up_at_pair, up_long, least_failure}
+use Rattle.cts_postorder.proofs.Upward.{leaf_here}
+use Rattle.cts_postorder.proofs.Waiting.{AtPair, waiting_at_leaf, waiting_at_pair, two_wait}
 use Rattle.cts_tree.specs.declared.nodes.NodeKind.{NodeKind}
 use Rattle.cts_tree.specs.declared.nodes.NodeKind.TheVariants.{Leaf, Pair}
 use Rattle.cts_tree.specs.declared.nodes.TreeNode.{TreeNode}
@@ -21,7 +22,6 @@ use Rattle.cts_embed.specs.Balance.{IsBalance, IsBeyondBalance, IsLeafBalance, I
 use Rattle.cts_embed.specs.Fitting.{NamesWithin}
 use Rattle.cts_embed.specs.Range.{IsInRange}
 use Rattle.cts_embed.proofs.Range.{in_range}
-use Rattle.cts_embed.proofs.Unique.{balanced_not_beyond}
 
 -- what a leaf or a pair names, where its kind is known
 pub leaf_names : (sinks buffers id s : ℕ) (kind : NodeKind) → kind ≡ Leaf id s → NamesWithin sinks buffers kind → s < sinks
@@ -37,118 +37,151 @@ pair_names sinks buffers l r buffer kind is names = by_buffer buffer (subst (Nam
     by_buffer None h = tt
     by_buffer (Some index) h = h
 
--- The nodes of a placed tree, and the balance of those before number k.
+-- the tree at a number, and a value of it
+pub tree_found : {N : Type 0} (kids : N → Option (ℕ × ℕ)) (nodes : List N) (number : ℕ) (t d : BinaryTree N) → number < length nodes
+    → get_or (trees_of kids nodes) number d ≡ t → slice_get (trees_of kids nodes) number ≡ Some t
+tree_found kids nodes number t d within is =
+    slice_get-get_or (trees_of kids nodes) number d (omega (arith, length-trees_of kids nodes)) ∙ ap Some is
+
+module _ {N V : Type 0} (kids : N → Option (ℕ × ℕ)) (R : BinaryTree N → V → Type 0) (nodes : List N) (number : ℕ)
+    (t d : BinaryTree N) (v : V) (within : number < length nodes) (is : get_or (trees_of kids nodes) number d ≡ t) where
+  pub stands : R t v → StandsAt kids nodes R number v
+  stands has = subst (λ o. IfSome o (λ u. R u v)) (sym (tree_found kids nodes number t d within is)) has
+
+  pub stood : StandsAt kids nodes R number v → R t v
+  stood has = subst (λ o. IfSome o (λ u. R u v)) (tree_found kids nodes number t d within is) has
+
+-- The nodes of a placed tree, and the balances that wait at number k.
 module _ (params : Params) (sinks : List Sink) (nodes : List TreeNode) (ok : IsPostOrder (map tree_children nodes))
-    (k : ℕ) (h : k < length nodes) (out : List NodeBalance)
-    (before : AllZip (IsBalance params sinks) (take k (trees_of tree_children nodes)) out) where
-  pub leaf_next : (id s : ℕ) (e : TreeNode) → (get_or nodes k e).kind ≡ Leaf id s → s < length sinks → (d : Sink)
-      (node : NodeBalance) → IsLeafBalance (get_or sinks s d) node
-      → AllZip (IsBalance params sinks) (take (k + 1) (trees_of tree_children nodes)) (out ++ node ∷ [])
-  unfolding IsBalance
-  leaf_next id s e here within d node leaf =
-      let n : TreeNode = get_or nodes k e in
-      let found : sink_of sinks n.kind ≡ Some (get_or sinks s d) = ap (sink_of sinks) here ∙ slice_get-get_or sinks s d within in
-      let is : IsBalance params sinks (tip n) node =
-      subst (λ (o : Option Sink). MatchOption o ⊥ (λ x. IsLeafBalance x node)) (sym found) leaf in
-      up_at_leaf tree_children (IsBalance params sinks) nodes k e out node h (ap children_of here) before is
+    (k : ℕ) (h : k < length nodes) (waiting : List NodeBalance)
+    (before : AreWaiting tree_children nodes (IsBalance params sinks) k waiting) where
+  abbrev pub Here : NodeBalance → Type 0
+  Here node = StandsAt tree_children nodes (IsBalance params sinks) k node
+
+  abbrev pub BeyondHere : Type 0
+  BeyondHere = IfSome (slice_get (trees_of tree_children nodes) k) (IsBeyondBalance params sinks)
+
+  module _ (id s : ℕ) (e : TreeNode) (here : (get_or nodes k e).kind ≡ Leaf id s) (within : s < length sinks) (d : Sink)
+      (node : NodeBalance) (leaf : IsLeafBalance (get_or sinks s d) node) where
+    pub leaf_stands : Here node
+    unfolding IsBalance
+    leaf_stands =
+        let n : TreeNode = get_or nodes k e in
+        let named : sink_of sinks n.kind ≡ Some (get_or sinks s d) = ap (sink_of sinks) here ∙ slice_get-get_or sinks s d within in
+        let is : IsBalance params sinks (tip n) node =
+        subst (λ (o : Option Sink). MatchOption o ⊥ (λ x. IsLeafBalance x node)) (sym named) leaf in
+        stands tree_children (IsBalance params sinks) nodes k (tip n) (tip e) node h
+        (leaf_here tree_children (IsBalance params sinks) nodes k e (tip e) h (ap children_of here)) is
+
+    pub leaf_next : AreWaiting tree_children nodes (IsBalance params sinks) (k + 1) (waiting ++ node ∷ [])
+    leaf_next = waiting_at_leaf tree_children nodes (IsBalance params sinks) k e h waiting before (ap children_of here) node leaf_stands
 
   module _ (left right : ℕ) (buffer : Option ℕ) (e : TreeNode) (here : (get_or nodes k e).kind ≡ Pair left right buffer) where
-    pub pair : UpAtPair tree_children nodes (IsBalance params sinks) k (left, right) (get_or nodes k e) out
-    pair = up_at_pair tree_children (IsBalance params sinks) nodes ok k e (left, right) out h (ap children_of here) before
-
     at_pair : IsPair tree_children nodes k (left, right) (get_or nodes k e)
     at_pair = is_pair tree_children nodes ok k e (left, right) h (ap children_of here)
 
-    long : length out ≡ k
-    long = up_long tree_children (IsBalance params sinks) nodes k out (omega arith) before
+    pub left_within : left < length nodes
+    left_within = omega (arith, at_pair.left_below)
 
-    pub left_within : left < length out
-    left_within = omega (arith, long, pair.left_below)
+    pub right_within : right < length nodes
+    right_within = omega (arith, at_pair.right_below)
 
-    pub right_within : right < length out
-    right_within = omega (arith, long, pair.right_below)
+    pub two_ready : 2 ≤ length waiting
+    two_ready = two_wait tree_children nodes (IsBalance params sinks) k e h waiting before (left, right) (ap children_of here)
 
-    pub left_node_within : left < length nodes
-    left_node_within = omega (arith, pair.left_below)
-
-    pub right_node_within : right < length nodes
-    right_node_within = omega (arith, pair.right_below)
-
-    same_fork : fork pair.left pair.right (get_or nodes k e) ≡ fork at_pair.left at_pair.right (get_or nodes k e)
-    same_fork =
-        let d : BinaryTree TreeNode = tip e in
-        let found : slice_get (trees_of tree_children nodes) k ≡ Some (get_or (trees_of tree_children nodes) k d) =
-        slice_get-get_or (trees_of tree_children nodes) k d (omega (arith, length-trees_of tree_children nodes)) in
-        let names : Some (fork pair.left pair.right (get_or nodes k e)) ≡ Some (get_or (trees_of tree_children nodes) k d) =
-        sym pair.here ∙ found in
-        let tree = at_pair.tree d in
-        cc
-
-    left_label : (f : TreeNode) → label pair.left ≡ get_or nodes left f
+    left_label : (f : TreeNode) → label at_pair.left ≡ get_or nodes left f
     left_label f =
-        let same : pair.left ≡ at_pair.left = let fork_is = same_fork in cc in
-        ap label (same ∙ sym (at_pair.left_tree (tip e))) ∙ label-tree tree_children nodes left (tip e) f left_node_within
+        ap label (sym (at_pair.left_tree (tip e))) ∙ label-tree tree_children nodes left (tip e) f left_within
 
-    right_label : (f : TreeNode) → label pair.right ≡ get_or nodes right f
+    right_label : (f : TreeNode) → label at_pair.right ≡ get_or nodes right f
     right_label f =
-        let same : pair.right ≡ at_pair.right = let fork_is = same_fork in cc in
-        ap label (same ∙ sym (at_pair.right_tree (tip e))) ∙ label-tree tree_children nodes right (tip e) f right_node_within
+        ap label (sym (at_pair.right_tree (tip e))) ∙ label-tree tree_children nodes right (tip e) f right_within
 
-    -- the two children and the lengths of their routes
-    module _ (a b d d' : NodeBalance) (left_read : a ≡ get_or out left d) (right_read : b ≡ get_or out right d')
-        (p q f f' : TreeNode) (left_node : p ≡ get_or nodes left f) (right_node : q ≡ get_or nodes right f') where
-      left_is : IsBalance params sinks pair.left a
-      left_is = subst (IsBalance params sinks pair.left) (sym left_read) (pair.left_value d)
+    -- the balances of the two children
+    module _ (rest : List NodeBalance) (a b : NodeBalance) (taken : waiting ≡ rest ++ a ∷ b ∷ []) where
+      values : AtPair tree_children nodes (IsBalance params sinks) k (left, right) rest a b
+      values =
+          waiting_at_pair tree_children nodes (IsBalance params sinks) k e h waiting before (left, right) (ap children_of here) rest a b taken
 
-      right_is : IsBalance params sinks pair.right b
-      right_is = subst (IsBalance params sinks pair.right) (sym right_read) (pair.right_value d')
+      left_is : IsBalance params sinks at_pair.left a
+      left_is =
+          stood tree_children (IsBalance params sinks) nodes left at_pair.left (tip e) a left_within (at_pair.left_tree (tip e)) values.left_value
+
+      right_is : IsBalance params sinks at_pair.right b
+      right_is =
+          stood tree_children (IsBalance params sinks) nodes right at_pair.right (tip e) b right_within (at_pair.right_tree (tip e))
+          values.right_value
 
       pub left_ready : IsParams params → All (λ sink. sink.cap ≤ 10 ^ 12) sinks → IsInRange a
-      left_ready ranged caps = in_range params sinks pair.left a left_is ranged caps
+      left_ready ranged caps = in_range params sinks at_pair.left a left_is ranged caps
 
       pub right_ready : IsParams params → All (λ sink. sink.cap ≤ 10 ^ 12) sinks → IsInRange b
-      right_ready ranged caps = in_range params sinks pair.right b right_is ranged caps
+      right_ready ranged caps = in_range params sinks at_pair.right b right_is ranged caps
 
-      routes : (P : ℕ → ℕ → Option ℕ → Type 0) → P p.route.length q.route.length buffer
-          → P (label pair.left).route.length (label pair.right).route.length (buffer_of (get_or nodes k e).kind)
-      routes P has =
-          let first : p.route.length ≡ (label pair.left).route.length =
-          ap (λ (n : TreeNode). n.route.length) (left_node ∙ sym (left_label f)) in
-          let second : q.route.length ≡ (label pair.right).route.length =
-          ap (λ (n : TreeNode). n.route.length) (right_node ∙ sym (right_label f')) in
-          let third : buffer ≡ buffer_of (get_or nodes k e).kind = sym (ap buffer_of here) in
-          subst (λ x. P x (label pair.right).route.length (buffer_of (get_or nodes k e).kind)) first
-          (subst (λ x. P p.route.length x (buffer_of (get_or nodes k e).kind)) second
-          (subst (λ x. P p.route.length q.route.length x) third has))
+      -- the lengths of the routes to them
+      module _ (f g : TreeNode) where
+        routes : (P : ℕ → ℕ → Option ℕ → Type 0) → P (get_or nodes left f).route.length (get_or nodes right g).route.length buffer
+            → P (label at_pair.left).route.length (label at_pair.right).route.length (buffer_of (get_or nodes k e).kind)
+        routes P has =
+            let first : (get_or nodes left f).route.length ≡ (label at_pair.left).route.length =
+            ap (λ (n : TreeNode). n.route.length) (sym (left_label f)) in
+            let second : (get_or nodes right g).route.length ≡ (label at_pair.right).route.length =
+            ap (λ (n : TreeNode). n.route.length) (sym (right_label g)) in
+            let third : buffer ≡ buffer_of (get_or nodes k e).kind = sym (ap buffer_of here) in
+            subst (λ x. P x (label at_pair.right).route.length (buffer_of (get_or nodes k e).kind)) first
+            (subst (λ x. P (get_or nodes left f).route.length x (buffer_of (get_or nodes k e).kind)) second
+            (subst (λ x. P (get_or nodes left f).route.length (get_or nodes right g).route.length x) third has))
 
-      -- a pair is balanced by parameters that are these
-      pub pair_next : (lent : Params) → lent ≡ params → (result : Result NodeBalance Beyond)
-          → IfOk result (IsPairBalance lent buffer a p.route.length b q.route.length)
-          → IfOk result (λ node. AllZip (IsBalance params sinks) (take (k + 1) (trees_of tree_children nodes)) (out ++ node ∷ []))
-      unfolding IsBalance
-      pair_next lent same (Ok node) is =
-          pair.next node (
-            a,
-            b,
-            left_is,
-            right_is,
-            routes (λ x y u. IsPairBalance params u a x b y node)
-                (subst (λ ps. IsPairBalance ps buffer a p.route.length b q.route.length node) same is),
-          )
-      pair_next lent same (Err x) is = tt
+        -- a pair is balanced by parameters that are these
+        module _ (lent : Params) (same : lent ≡ params) (result : Result NodeBalance Beyond) where
+          pub pair_stands : IfOk result (IsPairBalance lent buffer a (get_or nodes left f).route.length b (get_or nodes right g).route.length)
+              → IfOk result Here
+          unfolding IsBalance
+          pair_stands is = by_result result is
+            where
+              by_result : (r : Result NodeBalance Beyond)
+                  → IfOk r (IsPairBalance lent buffer a (get_or nodes left f).route.length b (get_or nodes right g).route.length)
+                  → IfOk r Here
+              by_result (Ok node) is =
+                  stands tree_children (IsBalance params sinks) nodes k (fork at_pair.left at_pair.right (get_or nodes k e)) (tip e) node h
+                  (at_pair.tree (tip e)) (
+                    a,
+                    b,
+                    left_is,
+                    right_is,
+                    routes (λ x y u. IsPairBalance params u a x b y node)
+                        (subst (λ ps. IsPairBalance ps buffer a (get_or nodes left f).route.length b (get_or nodes right g).route.length node)
+                        same is),
+                  )
+              by_result (Err x) is = tt
 
-      pub pair_beyond : (lent : Params) → lent ≡ params → (result : Result NodeBalance Beyond)
-          → IfErr result (λ _. IsPairBeyond lent buffer a p.route.length b q.route.length)
-          → IfErr result (λ _. IsLeastFailure tree_children nodes (IsBeyondBalance params sinks) k)
-      unfolding IsBeyondBalance
-      pair_beyond lent same (Ok node) over = tt
-      pair_beyond lent same (Err x) over =
-          least_failure tree_children (IsBalance params sinks) (IsBeyondBalance params sinks)
-          (λ t node. balanced_not_beyond params sinks t node) nodes out k (fork pair.left pair.right (get_or nodes k e)) before pair.here (
-            a,
-            b,
-            left_is,
-            right_is,
-            routes (λ x y u. IsPairBeyond params u a x b y)
-                (subst (λ ps. IsPairBeyond ps buffer a p.route.length b q.route.length) same over),
-          )
+          pub pair_next : IfOk result (IsPairBalance lent buffer a (get_or nodes left f).route.length b (get_or nodes right g).route.length)
+              → IfOk result (λ node. AreWaiting tree_children nodes (IsBalance params sinks) (k + 1) (rest ++ node ∷ []))
+          pair_next is = by_result result (pair_stands is)
+            where
+              by_result : (r : Result NodeBalance Beyond) → IfOk r Here
+                  → IfOk r (λ node. AreWaiting tree_children nodes (IsBalance params sinks) (k + 1) (rest ++ node ∷ []))
+              by_result (Ok node) has = values.next node has
+              by_result (Err x) has = tt
+
+          pub pair_beyond : IfErr result (λ _. IsPairBeyond lent buffer a (get_or nodes left f).route.length b (get_or nodes right g).route.length)
+              → IfErr result (λ _. BeyondHere)
+          unfolding IsBeyondBalance
+          pair_beyond over = by_result result over
+            where
+              by_result : (r : Result NodeBalance Beyond)
+                  → IfErr r (λ _. IsPairBeyond lent buffer a (get_or nodes left f).route.length b (get_or nodes right g).route.length)
+                  → IfErr r (λ _. BeyondHere)
+              by_result (Ok node) over = tt
+              by_result (Err x) over =
+                  let t : BinaryTree TreeNode = fork at_pair.left at_pair.right (get_or nodes k e) in
+                  subst (λ o. IfSome o (IsBeyondBalance params sinks))
+                  (sym (tree_found tree_children nodes k t (tip e) h (at_pair.tree (tip e)))) (
+                    a,
+                    b,
+                    left_is,
+                    right_is,
+                    routes (λ x y u. IsPairBeyond params u a x b y)
+                        (subst (λ ps. IsPairBeyond ps buffer a (get_or nodes left f).route.length b (get_or nodes right g).route.length)
+                        same over),
+                  )

@@ -1,22 +1,17 @@
 //! The upward pass of the balance: what it makes of each node.
 
-ghost use Rattle.std.specs.Prelude.{◌≡◌, ℕ, ◌+◌, ◌-◌, ◌^◌, ◌<◌, ◌≤◌, ◌++◌, ◌∷◌, ◌↔◌, [], IsTrue, map, take, length, IfOk, IfErr, MatchOption, All};
-ghost use Rattle.std.specs.List.{AllZip};
+ghost use Rattle.std.specs.Prelude.{◌≡◌, ℕ, ◌+◌, ◌^◌, ◌<◌, ◌≤◌, ◌++◌, ◌∷◌, ◌↔◌, [], IsTrue, map, length, vec_len, slice_get, IfSome, IfOk, IfErr, MatchOption, All};
 ghost use Rattle.cts_units.specs.Choice.{added_delay_of, seen_load_of};
 ghost use Rattle.cts_units.specs.Limits.{IsParams, max_length, max_load};
-ghost use Rattle.cts_instance.specs.Validity.{IsValid};
 ghost use Rattle.cts_merge.specs.LeastPair.{IsTooLong, Covers};
 ghost use Rattle.cts_postorder.specs.PostOrder.{IsPostOrder, trees_of};
-ghost use Rattle.cts_postorder.specs.Pass.{IsLeastFailure};
+ghost use Rattle.cts_postorder.specs.Waiting.{AreWaiting, StandsAt};
 ghost use Rattle.cts_tree.specs.Nodes.{tree_children};
 ghost use Rattle.cts_embed.specs.Balance.{IsBalance, IsBeyondBalance, IsLeafBalance, IsPairBalance, IsPairBeyond, IsRootWithin, IsWirePair, delay_through};
-ghost use Rattle.cts_embed.specs.BalancedTree.{IsBalancedWithin};
 ghost use Rattle.cts_embed.specs.Capacitances.{caps_of};
-ghost use Rattle.cts_embed.specs.Ends.{BalanceEnds, NodeEnds};
 ghost use Rattle.cts_embed.specs.Fitting.{Fits, NamesWithin};
 ghost use Rattle.cts_embed.specs.Range.{IsInRange};
 
-use crate::end::BalanceEnd;
 use crate::node::NodeBalance;
 use cts_geom::Region;
 use cts_instance::Instance;
@@ -131,7 +126,11 @@ fn pair_balance(
 
 /// The capacitance in zF of each leaf's sink, by number of node, and 0 at a pair. They are looked up before the
 /// pass, whose branches would wait for each of them.
-fn capacitances(alloc: Global, sinks: &[Sink], nodes: &[TreeNode]) -> Result<Vec<u64>, NoMemory>
+pub(crate) fn capacitances(
+    alloc: Global,
+    sinks: &[Sink],
+    nodes: &[TreeNode],
+) -> Result<Vec<u64>, NoMemory>
     requires names { (buffers : ℕ) × All (λ node. NamesWithin (length sinks.now) buffers node.kind) nodes.now }
     ensures { IfOk result (λ caps. caps.items ≡ caps_of sinks.now nodes.now) }
 {
@@ -158,25 +157,38 @@ fn leaf_balance(cap: u64) -> NodeBalance
     }
 }
 
+/// The two latest of the balances that wait, the earlier one first. They leave the list.
+fn take_pair(waiting: &mut Vec<NodeBalance>) -> (NodeBalance, NodeBalance)
+    requires two { 2 ≤ vec_len waiting.old }
+    ensures { waiting.old.items ≡ waiting.new.items ++ result.0 ∷ result.1 ∷ [] }
+{
+    let (Some(second), Some(first)) = (waiting.pop(), waiting.pop()) else {
+        unreachable!()
+    };
+    (first, second)
+}
+
 /// What the balance makes of the node of this number, by the capacitances of the leaves' sinks and by what it
-/// made of the nodes before it.
-fn balance_node(
+/// made of the nodes that wait for the pair above them. A pair's children no longer wait.
+pub(crate) fn balance_node(
     instance: &Instance,
     caps: &[u64],
     nodes: &[TreeNode],
     number: usize,
-    balances: &[NodeBalance],
+    waiting: &mut Vec<NodeBalance>,
 ) -> Result<NodeBalance, Beyond>
     requires caps { caps.now ≡ caps_of instance.now.sinks nodes.now }
     requires post_order { IsPostOrder (map tree_children nodes.now) }
     requires fits { Fits instance.now nodes.now }
     requires number { number < length nodes.now }
-    requires before { AllZip (IsBalance instance.now.params instance.now.sinks)
-        (take number (trees_of tree_children nodes.now)) balances.now }
-    ensures next { IfOk result (λ node. AllZip (IsBalance instance.now.params instance.now.sinks)
-        (take (number + 1) (trees_of tree_children nodes.now)) (balances.now ++ node ∷ [])) }
-    ensures beyond { IfErr result (λ _. IsLeastFailure tree_children nodes.now
-        (IsBeyondBalance instance.now.params instance.now.sinks) number) }
+    requires before { AreWaiting tree_children nodes.now (IsBalance instance.now.params instance.now.sinks)
+        number waiting.old.items }
+    ensures here { IfOk result (StandsAt tree_children nodes.now (IsBalance instance.now.params instance.now.sinks)
+        number) }
+    ensures next { IfOk result (λ node. AreWaiting tree_children nodes.now
+        (IsBalance instance.now.params instance.now.sinks) (number + 1) (waiting.new.items ++ node ∷ [])) }
+    ensures beyond { IfErr result (λ _. IfSome (slice_get (trees_of tree_children nodes.now) number)
+        (IsBeyondBalance instance.now.params instance.now.sinks)) }
 {
     match nodes[number].kind {
         NodeKind::Leaf { .. } => Ok(leaf_balance(caps[number])),
@@ -188,47 +200,14 @@ fn balance_node(
             let params = instance.params();
             let (left, right) = (left as usize, right as usize);
             let (la, lb) = (nodes[left].route.length, nodes[right].route.length);
-            pair_balance(params, buffer, &balances[left], la, &balances[right], lb)
+            let (first, second) = take_pair(waiting);
+            pair_balance(params, buffer, &first, la, &second, lb)
         }
     }
-}
-
-/// What the balance makes of each node, by number.
-fn balance_nodes(
-    alloc: Global,
-    instance: &Instance,
-    nodes: &[TreeNode],
-) -> Result<Vec<NodeBalance>, BalanceEnd>
-    requires post_order { IsPostOrder (map tree_children nodes.now) }
-    requires fits { Fits instance.now nodes.now }
-    ensures valid { IsValid instance.now }
-    ensures balances { IfOk result (λ balances. AllZip (IsBalance instance.now.params instance.now.sinks)
-        (trees_of tree_children nodes.now) balances.items) }
-    ensures ends { IfErr result (NodeEnds instance.now.params instance.now.sinks nodes.now) }
-{
-    let caps = capacitances(alloc, instance.sinks(), nodes)?;
-    let mut balances = Vec::with_capacity(alloc, nodes.len())?;
-    for number in 0..nodes.len() {
-        match balance_node(
-            instance,
-            caps.as_slice(),
-            nodes,
-            number,
-            balances.as_slice(),
-        ) {
-            Ok(node) => balances.push(node)?,
-            Err(Beyond) => {
-                return Err(BalanceEnd::Beyond {
-                    node: number as u32,
-                });
-            }
-        }
-    }
-    Ok(balances)
 }
 
 /// Whether the limits that are asked of the root alone are met, with a wire of this length above it.
-fn is_root_within(instance: &Instance, length: u64, root: &NodeBalance) -> bool
+pub(crate) fn is_root_within(instance: &Instance, length: u64, root: &NodeBalance) -> bool
     requires root { IsInRange root.now }
     ensures { IsTrue result ↔ IsRootWithin instance.now length root.now }
 {
@@ -242,26 +221,4 @@ fn is_root_within(instance: &Instance, length: u64, root: &NodeBalance) -> bool
     }
     let source_delay = 2 * instance.source_r() as u128 * load as u128;
     source_delay + delay_through(params, root, length) <= MAX_DELAY
-}
-
-/// What the balance makes of each node, by number, where all of the tree is within the limits.
-pub(crate) fn balances_of(
-    alloc: Global,
-    instance: &Instance,
-    nodes: &[TreeNode],
-) -> Result<Vec<NodeBalance>, BalanceEnd>
-    requires post_order { IsPostOrder (map tree_children nodes.now) }
-    requires fits { Fits instance.now nodes.now }
-    ensures within { IfOk result (λ _. IsBalancedWithin instance.now nodes.now) }
-    ensures balances { IfOk result (λ balances. AllZip (IsBalance instance.now.params instance.now.sinks)
-        (trees_of tree_children nodes.now) balances.items) }
-    ensures ends { IfErr result (BalanceEnds instance.now nodes.now) }
-{
-    let balances = balance_nodes(alloc, instance, nodes)?;
-    let last = nodes.len() - 1;
-    let root = balances[last];
-    if !is_root_within(instance, nodes[last].route.length, &root) {
-        return Err(BalanceEnd::Beyond { node: last as u32 });
-    }
-    Ok(balances)
 }
