@@ -1,10 +1,6 @@
 -- Why there is no tree.
 use Rattle.std.specs.Prelude.{List}
 use Rattle.cts_topo.specs.declared.shape.ShapeNode.{ShapeNode}
-use Rattle.cts_units.specs.declared.params.Sink.{Sink}
-use Rattle.cts_units.specs.declared.params.Params.{Params}
-use Rattle.cts_postorder.specs.Pass.{IsLeastFailure}
-use Rattle.cts_tree.specs.Nodes.{tree_children}
 use Rattle.cts_tree.specs.declared.nodes.TreeNode.{TreeNode}
 use Rattle.cts_instance.specs.declared.parts.Parts.{Parts}
 use Rattle.cts_embed.specs.declared.end.BalanceEnd.{BalanceEnd}
@@ -12,18 +8,12 @@ use Rattle.cts_embed.specs.declared.end.BalanceEnd.TheVariants.{Beyond, NoMemory
 use Rattle.cts_embed.specs.declared.end.EmbedEnd.{EmbedEnd}
 use Rattle.cts_embed.specs.declared.end.EmbedEnd.TheVariants as embed_end
 use Rattle.cts_embed.specs.PlacedTree.{IsGreatestCut}
-use Rattle.cts_embed.specs.Balance.{IsBeyondBalance}
 use Rattle.cts_embed.specs.BalancedTree.{IsLeastBeyond}
 
 -- the balance may end so: at the least node that is beyond, or for want of memory
 abbrev pub BalanceEnds : Parts → List TreeNode → BalanceEnd → Type 0
 BalanceEnds parts placed (Beyond node) = IsLeastBeyond parts placed node
 BalanceEnds parts placed NoMemory = Unit {0}
-
--- the same without what is asked of the root alone
-abbrev pub NodeEnds : Params → List Sink → List TreeNode → BalanceEnd → Type 0
-NodeEnds params sinks placed (Beyond node) = IsLeastFailure tree_children placed (IsBeyondBalance params sinks) node
-NodeEnds params sinks placed NoMemory = Unit {0}
 
 -- the embedding may end so: at the greatest node that is cut, or for want of memory
 abbrev pub EmbedEnds : Parts → List ShapeNode → EmbedEnd → Type 0
