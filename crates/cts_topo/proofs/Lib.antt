@@ -12,3 +12,4 @@ pub mod Divided
 pub mod Whole
 pub mod Counts
 mod Example
+pub mod RoughOrder

@@ -1,7 +1,8 @@
 //! The division of sinks in halves, along the axis in which they run further. They are sorted once along
 //! each axis, and each division splits both lists and keeps their orders.
 
-ghost use Rattle.std.specs.Prelude.{◌≡◌, ℕ, ◌+◌, ◌*◌, ◌^◌, ◌<◌, ◌≤◌, ◌++◌, true, false, not, length, filter, vec_len, OnOk, IfOk};
+ghost use Rattle.std.specs.Prelude.{◌≡◌, ℕ, ◌+◌, ◌*◌, ◌%◌, ◌^◌, ◌<◌, ◌≤◌, ◌++◌, true, false, not, length, map, filter, vec_len, OnOk, IfOk};
+ghost use Rattle.std.specs.List.{range_with_len};
 ghost use Rattle.std.specs.List.Sorted.{IsPermutation, IsSortedBy};
 ghost use Rattle.cts_units.specs.Ids.{HasDistinctIds};
 ghost use Rattle.cts_postorder.specs.BinaryTree.{labels};
@@ -31,11 +32,9 @@ pub fn topology(alloc: Global, sinks: &[Sink]) -> Result<Shape, NoMemory>
     ensures each_sink_once { IfOk result (IsShapeOver (length sinks.now)) }
     ensures count { IfOk result (λ shape. length shape + 1 ≡ 2 * length sinks.now) }
 {
-    let mut by_x = pins_of(alloc, sinks)?;
-    sort_along(&mut by_x, true);
-    let mut by_y = Vec::from_slice(alloc, by_x.as_slice())?;
-    sort_along(&mut by_y, false);
-    let mut spare = Vec::from_slice(alloc, by_x.as_slice())?;
+    let mut spare = pins_of(alloc, sinks)?;
+    let mut by_x = sorted_along(alloc, spare.as_slice(), true)?;
+    let mut by_y = sorted_along(alloc, by_x.as_slice(), false)?;
     let mut nodes = Vec::with_capacity(alloc, 2 * sinks.len() - 1)?;
     divide(
         true,
@@ -160,7 +159,66 @@ fn split(pins: &[Pin], wide: bool, pivot: Pin, half: usize, target: &mut [Pin])
     }
 }
 
-/// Sorts the pins along x or along y; ties go by the other coordinate, then by id.
+/// The pins sorted along x or along y; ties go by the other coordinate, then by id.
+fn sorted_along(alloc: Global, pins: &[Pin], wide: bool) -> Result<Vec<Pin>, NoMemory>
+    requires { length pins.now ≤ 65536 }
+    ensures permutation { IfOk result (λ sorted. IsPermutation pins.now sorted.items) }
+    ensures sorted { IfOk result (λ sorted. IsSortedBy (is_before wide) sorted.items) }
+{
+    let mut sorted = in_rough_order(alloc, pins, wide)?;
+    sort_along(&mut sorted, wide);
+    Ok(sorted)
+}
+
+/// The pins in the order of their rough keys. It is mostly the order along the axis, which the sort then sees in one
+/// pass; words are sorted in less than half of the time that pins take.
+fn in_rough_order(alloc: Global, pins: &[Pin], wide: bool) -> Result<Vec<Pin>, NoMemory>
+    requires { length pins.now ≤ 65536 }
+    ensures { IfOk result (λ ordered. IsPermutation pins.now ordered.items) }
+{
+    let mut keys = rough_keys(alloc, pins, wide)?;
+    keys.sort_unstable();
+    let mut ordered = Vec::with_capacity(alloc, pins.len())?;
+    for key in &keys {
+        ordered.push(pins[place_in(*key)])?;
+    }
+    Ok(ordered)
+}
+
+/// The rough keys of the pins, in their order.
+fn rough_keys(alloc: Global, pins: &[Pin], wide: bool) -> Result<Vec<u64>, NoMemory>
+    requires { length pins.now ≤ 65536 }
+    ensures { IfOk result (λ keys. map (λ key. key % 2 ^ 17) keys.items ≡ range_with_len 0 (length pins.now)) }
+{
+    let mut keys = Vec::with_capacity(alloc, pins.len())?;
+    for (place, pin) in pins.iter().enumerate() {
+        let (first, second) = if wide { (pin.x, pin.y) } else { (pin.y, pin.x) };
+        keys.push(rough_key(first, second, place))?;
+    }
+    Ok(keys)
+}
+
+/// A word that orders pins by the first coordinate, by the other one without its last seven bits, and by their place
+/// in the list. A coordinate has at most 27 bits, and a place at most 17.
+#[inline(always)]
+fn rough_key(first: u32, second: u32, place: usize) -> u64
+    requires { place ≤ 65536 }
+    ensures { result % 2 ^ 17 ≡ place }
+{
+    (u64::from(first) << 37)
+        .wrapping_add(u64::from(second >> 7) << 17)
+        .wrapping_add(place as u64)
+}
+
+/// The place in a rough key.
+#[inline(always)]
+fn place_in(key: u64) -> usize
+    ensures { result ≡ key % 2 ^ 17 }
+{
+    (key % (1 << 17)) as usize
+}
+
+/// Sorts the pins along x or along y.
 fn sort_along(pins: &mut Vec<Pin>, wide: bool)
     ensures permutation { IsPermutation pins.old.items pins.new.items }
     ensures sorted { IsSortedBy (is_before wide) pins.new.items }
