@@ -1,12 +1,12 @@
--- One step of the pass downward: the figures of a pair's two parts, from those of the pair.
-use Rattle.std.proofs.Common.{◌≡◌, ℕ, ◌+◌, ◌*◌, ◌<◌, ◌≤◌, ◌↔◌, Bool, true, false, ◌||◌, List, [], ◌∷◌, length, get_or, slice_get, Option, Some, None, IsTrue, refl, sym, ap, ap₂, ◌∙◌, arith}
+-- One step of the pass downward: what a pair hands down to its two parts, from its figures.
+use Rattle.std.proofs.Common.{◌≡◌, ℕ, ◌+◌, ◌*◌, ◌^◌, ◌<◌, ◌≤◌, ◌↔◌, Bool, true, false, ◌||◌, List, [], ◌∷◌, length, get_or, slice_get, Option, Some, None, IsTrue, refl, sym, ap, ap₂, ◌∙◌, arith}
 use Rattle.std.specs.Prelude.{if◌then◌else◌, is_some}
 use Rattle.std.specs.Option.{option_map_or, option_and_then}
 use Rattle.std.proofs.lemmas.Option.{slice_get-get_or}
 use Rattle.cts_units.specs.declared.params.Buffer.{Buffer}
 use Rattle.cts_units.specs.Delay.{wire_delay_of, buffer_delay_of, slew_of}
 use Rattle.cts_units.specs.Choice.{added_delay_of, seen_load_of}
-use Rattle.cts_units.specs.Limits.{max_delay}
+use Rattle.cts_units.specs.Limits.{max_length, max_delay}
 use Rattle.cts_postorder.specs.BinaryTree.{BinaryTree, tip, fork, label, is_tip}
 use Rattle.cts_postorder.specs.Occurrence.{Occurrence, occurrence}
 use Rattle.cts_tree.specs.declared.nodes.NodeKind.{NodeKind}
@@ -17,21 +17,30 @@ use Rattle.cts_instance.specs.declared.parts.Parts.{Parts}
 use Rattle.cts_elmore.specs.declared.figures.NodeFigure.{NodeFigure}
 use Rattle.cts_elmore.specs.declared.descent.Output.{Output}
 use Rattle.cts_elmore.specs.Fits.{NamesBuffer}
-use Rattle.cts_elmore.specs.Loads.{buffer_at, is_buffered, load_below, load_seen}
+use Rattle.cts_elmore.specs.Loads.{buffer_at, is_buffered, load_below, source_load}
 use Rattle.cts_elmore.specs.Delays.{wire_delay, buffer_delay, output_delay, source_delay, stage_at}
 use Rattle.cts_elmore.specs.Skew.{greatest_below, residue}
+use Rattle.cts_elmore.specs.Limits.{IsPairOver, IsRootOver, long_left, long_right, long_root, great_leaf_delay}
 use Rattle.cts_elmore.specs.Figures.{IsNodeFigure, IsFigureInRange}
-use Rattle.cts_elmore.specs.Outputs.{stage_after, IsOutput, IsPartFigure, LoadIsMet, SlewIsMet}
+use Rattle.cts_elmore.specs.Outputs.{stage_after, IsOutput, IsPartFigure, IsSourceOutput, LoadIsMet, SlewIsMet}
 use Rattle.cts_elmore.specs.Subtrees.{IsKnownBelow}
 use Rattle.cts_elmore.proofs.Paths.{delay_at_root, delay_at_part, stage_at_root, stage_at_part}
 use Rattle.cts_elmore.proofs.Below.{greatest_at_pair}
-use Rattle.cts_elmore.proofs.Rising.{added_at_pair, through_is}
+use Rattle.cts_elmore.proofs.Rising.{not_above, added_at_pair, through_is}
 
 -- A node's figures, and what bounds its delays: those down to the leaves are within the limits.
 pub record IsRight (i : Parts) (root : BinaryTree TreeNode) (o : Occurrence TreeNode) (f : NodeFigure) : Type 0 where
   pub figure : IsNodeFigure i root o f
   pub soon : f.delay + greatest_below i o.here ≤ max_delay
   pub stage_le : f.stage ≤ f.delay
+
+-- What is handed down to a node gives it right figures, through its wire.
+pub record IsHandedTo (i : Parts) (root : BinaryTree TreeNode) (o : Occurrence TreeNode) (output : Output) : Type 0 where
+  pub delay_within : output.delay ≤ 2 ^ 119
+  pub stage_within : output.stage ≤ 2 ^ 119
+  pub short : (label o.here).wire ≤ max_length
+  pub right : (g : NodeFigure) (kind : NodeKind) (len : ℕ) (f : NodeFigure) → IsKnownBelow i o.here g
+      → (label o.here).kind ≡ kind → (label o.here).wire ≡ len → IsPartFigure i.params kind len g output f → IsRight i root o f
 
 -- so the figures are in range
 residue_le : (i : Parts) (t : BinaryTree TreeNode) → residue i t ≤ greatest_below i t
@@ -78,20 +87,42 @@ stage_after_le library (Some index) load stage delay h = by_library (slice_get l
     by_library (Some b) = omega arith
 
 module _ (i : Parts) (root : BinaryTree TreeNode) where
-  -- the root
-  pub root_right : (g : NodeFigure) (delay : ℕ) → IsKnownBelow i root g → delay ≡ source_delay i root + wire_delay i root
-      → delay + greatest_below i root ≤ max_delay
-      → IsRight i root (occurrence [] root) (record { below = g.below; residue = g.residue; delay = delay; stage = delay })
-  root_right g delay is delay_is soon = record {
-    figure = record {
-      below = is.below;
-      residue_is = is.residue_is;
-      delay = delay_is ∙ sym (delay_at_root i root);
-      stage = delay_is ∙ sym (stage_at_root i root);
-    };
-    soon = soon;
-    stage_le = omega arith;
-  }
+  -- the delay of a wire, told by the kind and the load below
+  through_wire : (t : BinaryTree TreeNode) (g : NodeFigure) (kind : NodeKind) (len : ℕ) → IsKnownBelow i t g
+      → (label t).kind ≡ kind → (label t).wire ≡ len
+      → wire_delay_of i.params.wire.r i.params.wire.c len (seen_load_of i.params.library (buffer_of kind) g.below) ≡ wire_delay i t
+  through_wire t g kind len is kind_is len_is =
+      through_is i t len (seen_load_of i.params.library (buffer_of kind) g.below) len_is
+      (ap (λ k. seen_load_of i.params.library (buffer_of k) g.below) (sym kind_is) ∙ is.seen)
+
+  -- the source's output, to the root
+  pub root_handed : (resistance load : ℕ) (output : Output) → IsSourceOutput resistance load output → resistance ≡ i.source_r
+      → load ≡ source_load i root → ¬ IsRootOver i root → IsHandedTo i root (occurrence [] root) output
+  root_handed resistance load output is resistance_is load_is not_over =
+      let source : 2 * resistance * load ≡ source_delay i root = ap₂ (λ x y. 2 * x * y) resistance_is load_is in
+      record {
+        delay_within = is.delay_within;
+        stage_within = is.stage_within;
+        short = not_above _ max_length (λ above. not_over (long_root above));
+        right = λ g kind len f known kind_is len_is part.
+            let through : wire_delay_of i.params.wire.r i.params.wire.c len (seen_load_of i.params.library (buffer_of kind) g.below)
+            ≡ wire_delay i root =
+            through_wire root g kind len known kind_is len_is in
+            let delay : f.delay ≡ source_delay i root + wire_delay i root =
+            part.delay ∙ ap₂ (λ x y. x + y) (is.delay ∙ source) through in
+            let stage : f.stage ≡ source_delay i root + wire_delay i root =
+            part.stage ∙ ap₂ (λ x y. x + y) (is.stage ∙ source) through in
+            record {
+              figure = record {
+                below = part.below ∙ known.below;
+                residue_is = part.residue ∙ known.residue_is;
+                delay = delay ∙ sym (delay_at_root i root);
+                stage = stage ∙ sym (stage_at_root i root);
+              };
+              soon = not_above _ max_delay (λ above. not_over (great_leaf_delay (omega (arith, above, delay))));
+              stage_le = omega (arith, stage, delay);
+            };
+      }
 
   -- a part, at either side
   module _ (l r : BinaryTree TreeNode) (n : TreeNode) (above : List (BinaryTree TreeNode)) (here : NodeFigure) (output : Output)
@@ -103,11 +134,9 @@ module _ (i : Parts) (root : BinaryTree TreeNode) where
         → IsRight i root (occurrence (fork l r n ∷ above) t) f
     part_right t g kind len f is kind_is len_is part deepest =
         let top : BinaryTree TreeNode = fork l r n in
-        let seen : seen_load_of i.params.library (buffer_of kind) g.below ≡ load_seen i t =
-        ap (λ k. seen_load_of i.params.library (buffer_of k) g.below) (sym kind_is) ∙ is.seen in
         let through : wire_delay_of i.params.wire.r i.params.wire.c len (seen_load_of i.params.library (buffer_of kind) g.below)
         ≡ wire_delay i t =
-        through_is i t len (seen_load_of i.params.library (buffer_of kind) g.below) len_is seen in
+        through_wire t g kind len is kind_is len_is in
         let added : added_delay_of i.params.library (buffer_of n.kind) here.below ≡ buffer_delay i top =
         added_at_pair i l r n here.below right.figure.below in
         let delay : f.delay ≡ here.delay + buffer_delay i top + wire_delay i t =
@@ -133,17 +162,25 @@ module _ (i : Parts) (root : BinaryTree TreeNode) where
           );
         }
 
-    pub left_right : (g : NodeFigure) (kind : NodeKind) (len : ℕ) (f : NodeFigure) → IsKnownBelow i l g
-        → (label l).kind ≡ kind → (label l).wire ≡ len → IsPartFigure i.params kind len g output f
-        → IsRight i root (occurrence (fork l r n ∷ above) l) f
-    left_right g kind len f is kind_is len_is part =
-        part_right l g kind len f is kind_is len_is part (omega (arith, greatest_at_pair i l r n))
+    -- the pair's output, to both of its parts
+    module _ (delay : output.delay ≤ 2 ^ 119) (stage : output.stage ≤ 2 ^ 119) (not_over : ¬ IsPairOver i (fork l r n)) where
+      pub left_handed : IsHandedTo i root (occurrence (fork l r n ∷ above) l) output
+      left_handed = record {
+        delay_within = delay;
+        stage_within = stage;
+        short = not_above _ max_length (λ long. not_over (long_left long));
+        right = λ g kind len f is kind_is len_is part.
+            part_right l g kind len f is kind_is len_is part (omega (arith, greatest_at_pair i l r n));
+      }
 
-    pub right_right : (g : NodeFigure) (kind : NodeKind) (len : ℕ) (f : NodeFigure) → IsKnownBelow i r g
-        → (label r).kind ≡ kind → (label r).wire ≡ len → IsPartFigure i.params kind len g output f
-        → IsRight i root (occurrence (fork l r n ∷ above) r) f
-    right_right g kind len f is kind_is len_is part =
-        part_right r g kind len f is kind_is len_is part (omega (arith, greatest_at_pair i l r n))
+      pub right_handed : IsHandedTo i root (occurrence (fork l r n ∷ above) r) output
+      right_handed = record {
+        delay_within = delay;
+        stage_within = stage;
+        short = not_above _ max_length (λ long. not_over (long_right long));
+        right = λ g kind len f is kind_is len_is part.
+            part_right r g kind len f is kind_is len_is part (omega (arith, greatest_at_pair i l r n));
+      }
 
 -- whether a kind is a leaf's
 abbrev pub is_leaf : NodeKind → Bool

@@ -1,5 +1,5 @@
 -- What a node hands down, and whether it meets the limits of an instance.
-use Rattle.std.specs.Prelude.{◌≡◌, ℕ, ◌+◌, ◌*◌, ◌≤◌, ◌↔◌, List, [], slice_get, All, Option, Some, None, IsTrue}
+use Rattle.std.specs.Prelude.{◌≡◌, ℕ, ◌+◌, ◌*◌, ◌^◌, ◌≤◌, ◌↔◌, List, [], slice_get, All, Option, Some, None, IsTrue}
 use Rattle.std.specs.List.{AllZip}
 use Rattle.std.specs.Option.{option_map_or}
 use Rattle.cts_units.specs.declared.params.Params.{Params}
@@ -28,6 +28,13 @@ stage_after library (Some index) load stage =
 pub record IsOutput (library : List Buffer) (buffer : Option ℕ) (here : NodeFigure) (output : Output) : Type 0 where
   pub delay : output.delay ≡ here.delay + added_delay_of library buffer here.below
   pub stage : output.stage ≡ stage_after library buffer here.below here.stage
+
+-- the source's output: a stage begins there
+pub record IsSourceOutput (resistance load : ℕ) (output : Output) : Type 0 where
+  pub delay : output.delay ≡ 2 * resistance * load
+  pub stage : output.stage ≡ 2 * resistance * load
+  pub delay_within : output.delay ≤ 2 ^ 119
+  pub stage_within : output.stage ≤ 2 ^ 119
 
 -- the figures of a part of a pair: what was known of it, and the pair's delays with that of the part's wire
 pub record IsPartFigure (params : Params) (kind : NodeKind) (length : ℕ) (part : NodeFigure) (output : Output)

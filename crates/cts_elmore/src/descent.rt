@@ -1,26 +1,41 @@
 //! A pass downward: the figures of each node, from those of the pair above it.
 
-ghost use Rattle.std.specs.Prelude.{◌≡◌, ◌+◌, ◌^◌, ◌<◌, ◌≤◌, ◌↔◌, length, map, All, IfSome, IsTrue};
+ghost use Rattle.std.specs.Prelude.{◌≡◌, ◌+◌, ◌^◌, ◌<◌, ◌≤◌, ◌↔◌, length, map, All, IfOk, IfSome, IsTrue};
 ghost use Rattle.std.specs.List.{AllZip};
 ghost use Rattle.cts_units.specs.Choice.{seen_load_of};
 ghost use Rattle.cts_units.specs.Limits.{IsBuffer, IsParams, max_delay, max_length, max_load};
 ghost use Rattle.cts_postorder.specs.PostOrder.{IsPostOrder, root_of, trees_of};
 ghost use Rattle.cts_tree.specs.Nodes.{buffer_of, tree_children};
 ghost use Rattle.cts_elmore.specs.Fits.{FitsInstance, NamesBuffer};
-ghost use Rattle.cts_elmore.specs.Outputs.{IsDescent, IsOutput, IsPartFigure, LoadIsMet, SlewIsMet};
+ghost use Rattle.cts_elmore.specs.Outputs.{IsDescent, IsOutput, IsPartFigure, IsSourceOutput, LoadIsMet, SlewIsMet};
 ghost use Rattle.cts_elmore.specs.Subtrees.{IsDrive, IsKnownBelow};
 
 use crate::drive::{Drive, resistance_delay};
 use crate::figures::NodeFigure;
 use cts_instance::Instance;
+use cts_num::NoMemory;
 use cts_tree::{NodeKind, TreeNode};
 use cts_units::{Buffer, Params, buffer_delay, slew_tenths, wire_delay};
+use std::alloc::Global;
 
-/// What a node hands down to its parts: doubled delays in 10^-27 s, below its buffer if it has one.
+/// What the source or a pair hands down: doubled delays in 10^-27 s, below the pair's buffer if it has one.
 #[derive(Clone, Copy)]
 struct Output {
     delay: u128,
     stage: u128,
+}
+
+/// The output of a source of this resistance in µΩ that drives a load in zF.
+fn source_output(resistance: u64, load: u64) -> Output
+    requires resistance { resistance < 10 ^ 18 }
+    requires load { load ≤ max_load }
+    ensures { IsSourceOutput resistance load result }
+{
+    let delay = resistance_delay(resistance, load);
+    Output {
+        delay,
+        stage: delay,
+    }
 }
 
 /// The output of a pair with these figures. A buffer begins a stage.
@@ -63,7 +78,7 @@ fn seen_load(library: &[Buffer], kind: NodeKind, below: u64) -> u64
     }
 }
 
-/// The figures of a part of a pair with this output, below a wire of `length` nm, of which the pass upward
+/// The figures of a node that takes this output from above, below a wire of `length` nm, of which the pass upward
 /// has known the load and the residue.
 fn part_figure(
     params: &Params,
@@ -126,62 +141,48 @@ pub struct Descent {
     pub slew_met: bool,
 }
 
-/// The figures of the nodes of a tree that the source drives so, from what is known of them from below.
+/// The figures of the nodes of a tree that the source drives so, from what is known of them from below, or
+/// `NoMemory` where an allocation fails.
+///
+/// The nodes are passed from the last to the first, and no other is looked at on the way: what the source
+/// or a pair hands down waits on a stack until the node below is reached.
 pub fn descend(
+    alloc: Global,
     instance: &Instance,
     nodes: &[TreeNode],
     mut figures: Vec<NodeFigure>,
     drive: Drive,
-) -> Descent
+) -> Result<Descent, NoMemory>
     requires post_order { IsPostOrder (map tree_children nodes.now) }
     requires fits { FitsInstance instance.now nodes.now }
     requires known { AllZip (IsKnownBelow instance.now) (trees_of tree_children nodes.now) figures.items }
     requires drive { IfSome (root_of tree_children nodes.now) (λ root. IsDrive instance.now root drive) }
-    ensures { IfSome (root_of tree_children nodes.now) (λ root. IsDescent instance.now root result) }
+    ensures { IfOk result (λ descent.
+        IfSome (root_of tree_children nodes.now) (λ root. IsDescent instance.now root descent)) }
 {
     let params = instance.params();
-    let last = nodes.len() - 1;
-    let root = figures[last];
-    figures[last] = NodeFigure {
-        below: root.below,
-        residue: root.residue,
-        delay: drive.delay,
-        stage: drive.delay,
-    };
+    let mut outputs = Vec::new(alloc);
+    outputs.push(source_output(instance.source_r(), drive.load))?;
     let mut load_met = drive.load <= instance.load_limit();
     let mut slew_met = true;
     for number in (0..nodes.len()).rev() {
         let kind = nodes[number].kind;
-        let here = figures[number];
+        let Some(above) = outputs.pop() else {
+            unreachable!()
+        };
+        let here = part_figure(params, kind, nodes[number].wire, &figures[number], &above);
+        figures[number] = here;
         load_met &= is_load_met(instance.load_limit(), kind, here.below);
         slew_met &= is_slew_met(instance.slew_limit(), kind, here.stage);
-        if let NodeKind::Pair {
-            left,
-            right,
-            buffer,
-        } = kind
-        {
-            let (left, right) = (left as usize, right as usize);
+        if let NodeKind::Pair { buffer, .. } = kind {
             let output = output_of(params.library.items(), buffer, &here);
-            figures[left] = part_figure(
-                params,
-                nodes[left].kind,
-                nodes[left].wire,
-                &figures[left],
-                &output,
-            );
-            figures[right] = part_figure(
-                params,
-                nodes[right].kind,
-                nodes[right].wire,
-                &figures[right],
-                &output,
-            );
+            outputs.push(output)?;
+            outputs.push(output)?;
         }
     }
-    Descent {
+    Ok(Descent {
         figures,
         load_met,
         slew_met,
-    }
+    })
 }

@@ -67,9 +67,10 @@ pub fn try_measure(alloc: Global, instance: &Instance, tree: &Tree) -> Result<Me
         Gathered::Over { node } => return Ok(Measured::Over { node }),
     };
     match drive_root(instance, nodes, &root) {
-        Some(drive) => Ok(Measured::Within {
-            figures: driven(instance, nodes, &root, known, drive),
-        }),
+        Some(drive) => {
+            let figures = driven(alloc, instance, nodes, &root, known, drive)?;
+            Ok(Measured::Within { figures })
+        }
         None => Ok(Measured::Over {
             node: (nodes.len() - 1) as u32,
         }),
@@ -78,23 +79,24 @@ pub fn try_measure(alloc: Global, instance: &Instance, tree: &Tree) -> Result<Me
 
 /// The figures of a tree whose root the source drives so, from what is known of its nodes from below.
 fn driven(
+    alloc: Global,
     instance: &Instance,
     nodes: &[TreeNode],
     root: &Subtree,
     known: Vec<NodeFigure>,
     drive: Drive,
-) -> Figures
+) -> Result<Figures, NoMemory>
     requires post_order { IsPostOrder (map tree_children nodes.now) }
     requires fits { FitsInstance instance.now nodes.now }
     requires root { IfSome (root_of tree_children nodes.now) (λ t. IsSubtree instance.now t root.now) }
     requires known { AllZip (IsKnownBelow instance.now) (trees_of tree_children nodes.now) known.items }
     requires drive { IfSome (root_of tree_children nodes.now) (λ t. DriveOrOver instance.now t (Some drive)) }
-    ensures figures { AreFigures instance.now nodes.now result }
-    ensures one_each { length result.nodes ≡ length nodes.now }
-    ensures in_range { AreFiguresInRange result }
+    ensures figures { IfOk result (AreFigures instance.now nodes.now) }
+    ensures one_each { IfOk result (λ figures. length figures.nodes ≡ length nodes.now) }
+    ensures in_range { IfOk result AreFiguresInRange }
 {
-    let descent = descend(instance, nodes, known, drive);
-    Figures {
+    let descent = descend(alloc, instance, nodes, known, drive)?;
+    Ok(Figures {
         nodes: NodeFigures::of(descent.figures),
         source_load: drive.load,
         wire_total: root.wires + nodes[nodes.len() - 1].wire,
@@ -104,5 +106,5 @@ fn driven(
         bound: root.bound,
         load_met: descent.load_met,
         slew_met: descent.slew_met,
-    }
+    })
 }

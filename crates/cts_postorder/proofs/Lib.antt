@@ -16,3 +16,4 @@ mod Example
 pub mod Alike
 pub mod Stacks
 pub mod Waiting
+pub mod Handed

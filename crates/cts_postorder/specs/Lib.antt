@@ -5,3 +5,4 @@ pub mod Pass
 pub mod Laws
 pub mod Stack
 pub mod Waiting
+pub mod Handed

@@ -7,5 +7,5 @@ use Rattle.cts_elmore.proofs.descent.descend.Given as goal
 
 abbrev pub invariant-loop-number : goal.invariant-loop-number
 invariant-loop-number l =
-    IsDown l.instance l.nodes l.number l.figures.items l.load_met l.slew_met
+    IsDown l.instance l.nodes l.number l.figures.items l.outputs.items l.load_met l.slew_met
     × AllZip (IsKnownBelow l.instance) (trees_of tree_children l.nodes) l.figures.items

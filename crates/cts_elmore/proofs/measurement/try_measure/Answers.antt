@@ -26,8 +26,8 @@ overflow_sub-result c =
     subst (λ (nodes : List TreeNode). IsPostOrder (map tree_children nodes)) (sym c.nodes-nodes.ensures.nodes) c.nodes-nodes.ensures.post_order in
     omega (arith, length_pos tree_children c.nodes-nodes.result.now ok)
 
-pub returns-in-Some : goal.returns-in-Some
-returns-in-Some c =
+pub returns-in_ok-figures-in-Some : goal.returns-in_ok-figures-in-Some
+returns-in_ok-figures-in-Some c =
     let ok : IsPostOrder (map tree_children c.nodes-nodes.result.now) =
     subst (λ (nodes : List TreeNode). IsPostOrder (map tree_children nodes)) (sym c.nodes-nodes.ensures.nodes) c.nodes-nodes.ensures.post_order in
     let all : IsGathered c.args.instance.now c.nodes-nodes.result.now (Within c.in-Within.root c.in-Within.figures) =
@@ -35,9 +35,9 @@ returns-in-Some c =
     record {
       within = subst (IsWithinLimits c.args.instance.now) c.nodes-nodes.ensures.nodes
           (none_over c.args.instance.now c.nodes-nodes.result.now ok c.in-Within.figures.items (all.1) c.in-Some.drive c.in-Some.ensures);
-      are_figures = subst (λ nodes. AreFigures c.args.instance.now nodes c.driven.result) c.nodes-nodes.ensures.nodes c.driven.ensures.figures;
-      one_each = c.driven.ensures.one_each ∙ ap length c.nodes-nodes.ensures.nodes;
-      in_range = c.driven.ensures.in_range;
+      are_figures = subst (λ nodes. AreFigures c.args.instance.now nodes c.in_ok-figures-in-Some.figures) c.nodes-nodes.ensures.nodes c.in_ok-figures-in-Some.ensures.figures;
+      one_each = c.in_ok-figures-in-Some.ensures.one_each ∙ ap length c.nodes-nodes.ensures.nodes;
+      in_range = c.in_ok-figures-in-Some.ensures.in_range;
     }
 
 pub returns-in-None : goal.returns-in-None
