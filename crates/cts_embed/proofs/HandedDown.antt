@@ -1,10 +1,8 @@
 -- The lengths of the wires, handed down from each pair to its two parts.
-use Rattle.std.proofs.Common.{◌≡◌, ℕ, ◌+◌, ◌-◌, ◌^◌, ◌<◌, ◌≤◌, inl, inr, List, map, set, length, get_or, Option, refl, ap, subst, ◌∙◌, arith}
+use Rattle.std.proofs.Common.{◌≡◌, ℕ, ◌+◌, ◌-◌, ◌<◌, ◌≤◌, inl, inr, List, map, set, length, get_or, Option, refl, ap, subst, ◌∙◌}
 use Rattle.std.specs.Prelude.{IfSome}
 use Rattle.std.specs.List.{AllZip}
 use Rattle.std.proofs.lemmas.List.{get_or_default}
-use Rattle.cts_units.specs.declared.params.Sink.{Sink}
-use Rattle.cts_units.specs.declared.params.Params.{Params}
 use Rattle.cts_postorder.specs.BinaryTree.{BinaryTree, tip, fork, label}
 use Rattle.cts_postorder.specs.PostOrder.{IsPostOrder, root_of}
 use Rattle.cts_postorder.specs.Occurrence.{occurrences_of}
@@ -20,13 +18,7 @@ use Rattle.cts_embed.specs.BalancedTree.{IsWireLength, IsWireOf}
 use Rattle.cts_embed.proofs.PartsOfPairs.{ArePartsRight, parts_at_start, parts_at_leaf, parts_at_pair, parts_all}
 use Rattle.cts_embed.proofs.Steps.{stood}
 
--- both wires of a pair are within the limit
-pair_small : (params : Params) (sinks : List Sink) (l r : BinaryTree TreeNode) (n : TreeNode) (b : NodeBalance)
-    → IsBalance params sinks (fork l r n) b → (b.left_wire ≤ 2 ^ 31 - 1) × (b.right_wire ≤ 2 ^ 31 - 1)
-unfolding IsBalance
-pair_small params sinks l r n b is = (is.4.left_within, is.4.right_within)
-
--- there is a place for each node, and the lengths of the wires below the pairs before number k are written
+-- there is a place for each node, and the lengths of the wires below the pairs before number k are set
 abbrev pub AreWired : Parts → List TreeNode → ℕ → List ℕ → Type 0
 AreWired parts nodes k wires = (e : TreeNode) → ArePartsRight tree_children nodes e (IsWireOf parts) k wires
 
@@ -47,22 +39,12 @@ module _ (parts : Parts) (nodes : List TreeNode) (ok : IsPostOrder (map tree_chi
         pair : (e : TreeNode) → IsPair tree_children nodes k (l, r) (get_or nodes k e)
         pair e = is_pair tree_children nodes ok k e (l, r) h (ap children_of (same_kind e ∙ here))
 
-        pub left_within : l < length wires
-        left_within = omega (arith, (pair e0).left_below, (wired e0).long)
-
-        pub right_within : r < length wires
-        right_within = omega (arith, (pair e0).right_below, (wired e0).long)
-
-        -- at a pair its two lengths are written
+        -- at a pair its two lengths are set
         module _ (b : NodeBalance) (stands : StandsAt tree_children nodes (IsBalance parts.params parts.sinks) k b) where
           balance : (e : TreeNode) → IsBalance parts.params parts.sinks (fork (pair e).left (pair e).right (get_or nodes k e)) b
           balance e =
               stood tree_children (IsBalance parts.params parts.sinks) nodes k (fork (pair e).left (pair e).right (get_or nodes k e)) (tip e) b h
               ((pair e).tree (tip e)) stands
-
-          pub wires_small : (b.left_wire ≤ 2 ^ 31 - 1) × (b.right_wire ≤ 2 ^ 31 - 1)
-          wires_small =
-              pair_small parts.params parts.sinks (pair e0).left (pair e0).right (get_or nodes k e0) b (balance e0)
 
           pub wired_at_pair : AreWired parts nodes (k + 1) (set (set wires l b.left_wire) r b.right_wire)
           unfolding IsWireLength
@@ -74,10 +56,7 @@ module _ (parts : Parts) (nodes : List TreeNode) (ok : IsPostOrder (map tree_chi
     w : Whole tree_children nodes
     w = whole_of tree_children nodes ok
 
-    pub wired_long : length wires ≡ length nodes
-    wired_long = (wired (label w.tree)).long
-
-    -- at the end the root's is written
+    -- at the end the root's is set
     pub wired_all : length nodes ≤ k → (len : ℕ) → IfSome (root_of tree_children nodes) (λ t. len ≡ (label t).route.length)
         → AllZip (IsWireOf parts) (occurrences_of tree_children nodes) (set wires (length nodes - 1) len)
     unfolding IsWireLength

@@ -1,5 +1,5 @@
 -- What the balance makes of the whole placed tree.
-use Rattle.std.proofs.Common.{◌≡◌, ◌-◌, ◌<◌, List, map, length, get_or, Some, sym, ap, subst, ◌∙◌, arith}
+use Rattle.std.proofs.Common.{◌≡◌, ℕ, ◌-◌, ◌<◌, List, map, length, get_or, Some, sym, ap, subst, ◌∙◌, arith}
 use Rattle.std.specs.Prelude.{IfSome}
 use Rattle.std.proofs.lemmas.Option.{get_or_from_slice_get}
 use Rattle.cts_postorder.specs.BinaryTree.{BinaryTree, label}
@@ -15,6 +15,7 @@ use Rattle.cts_embed.specs.Balance.{IsBalance, IsRootWithin}
 use Rattle.cts_embed.specs.BalancedTree.{IsBalancedWhole, IsBalancedWithin, IsBeyondRoot}
 use Rattle.cts_embed.specs.Range.{IsInRange}
 use Rattle.cts_embed.proofs.Range.{in_range}
+use Rattle.cts_embed.proofs.Wired.{AreSameButWires, same_long, same_route}
 
 -- the last node carries the root
 root_label : (nodes : List TreeNode) → IsPostOrder (map tree_children nodes) → (e : TreeNode) (t : BinaryTree TreeNode)
@@ -26,8 +27,9 @@ root_label nodes ok e t is =
     ap label (sym (get_or_from_slice_get trees (length nodes - 1) t t is))
     ∙ label-tree tree_children nodes (length nodes - 1) t e (omega arith)
 
--- the balance of the root
-module _ (parts : Parts) (nodes : List TreeNode) (ok : IsPostOrder (map tree_children nodes)) (e : TreeNode) (b : NodeBalance)
+-- the balance of the root, whose route is read of nodes with other wires
+module _ (parts : Parts) (nodes : List TreeNode) (ok : IsPostOrder (map tree_children nodes)) (now : List TreeNode)
+    (same : AreSameButWires nodes now) (e : TreeNode) (b : NodeBalance)
     (is : IfSome (root_of tree_children nodes) (λ t. IsBalance parts.params parts.sinks t b)) where
   w : Whole tree_children nodes
   w = whole_of tree_children nodes ok
@@ -38,33 +40,37 @@ module _ (parts : Parts) (nodes : List TreeNode) (ok : IsPostOrder (map tree_chi
   whole : IsBalancedWhole parts nodes w.tree b
   whole = record { whole = w.root_is; balanced = root_balance }
 
-  root_node : get_or nodes (length nodes - 1) e ≡ label w.tree
-  root_node = sym (root_label nodes ok e w.tree w.root_is)
+  abbrev len : ℕ
+  len = (get_or now (length now - 1) e).route.length
+
+  len_is : len ≡ (label w.tree).route.length
+  len_is =
+      let long : length now ≡ length nodes = same_long nodes now same in
+      ap (λ n. (get_or now (n - 1) e).route.length) long
+      ∙ same_route nodes now same (length nodes - 1) e (omega (arith, length_pos tree_children nodes ok))
+      ∙ ap (λ (n : TreeNode). n.route.length) (sym (root_label nodes ok e w.tree w.root_is))
 
   pub root_in_range : IsValid parts → IsInRange b
   root_in_range valid =
       in_range parts.params parts.sinks w.tree b root_balance valid.params (λ k x h. let s : IsSink parts.die _ = valid.sinks k x h in s.cap)
 
-  pub all_within : IsRootWithin parts (get_or nodes (length nodes - 1) e).route.length b → IsBalancedWithin parts nodes
+  pub all_within : IsRootWithin parts len b → IsBalancedWithin parts nodes
   all_within within = record {
     root = w.tree;
     balance = b;
     whole = whole;
-    within = subst (λ (n : TreeNode). IsRootWithin parts n.route.length b) root_node within;
+    within = subst (λ x. IsRootWithin parts x b) len_is within;
   }
 
-  pub root_beyond : ¬ IsRootWithin parts (get_or nodes (length nodes - 1) e).route.length b
-      → IsBeyondRoot parts nodes (length nodes - 1)
+  pub root_beyond : ¬ IsRootWithin parts len b → IsBeyondRoot parts nodes (length now - 1)
   root_beyond over = record {
-    last = omega (arith, length_pos tree_children nodes ok);
+    last = omega (arith, same_long nodes now same, length_pos tree_children nodes ok);
     root = w.tree;
     balance = b;
     whole = whole;
-    over = subst (λ (n : TreeNode). ¬ IsRootWithin parts n.route.length b) root_node over;
+    over = subst (λ x. ¬ IsRootWithin parts x b) len_is over;
   }
 
   -- the length of the route to it
-  pub root_route : IfSome (root_of tree_children nodes) (λ t. (get_or nodes (length nodes - 1) e).route.length ≡ (label t).route.length)
-  root_route =
-      subst (λ o. IfSome o (λ (t : BinaryTree TreeNode). (get_or nodes (length nodes - 1) e).route.length ≡ (label t).route.length))
-      (sym w.root_is) (ap (λ (n : TreeNode). n.route.length) root_node)
+  pub root_route : IfSome (root_of tree_children nodes) (λ t. len ≡ (label t).route.length)
+  root_route = subst (λ o. IfSome o (λ (t : BinaryTree TreeNode). len ≡ (label t).route.length)) (sym w.root_is) len_is

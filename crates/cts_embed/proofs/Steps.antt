@@ -1,5 +1,5 @@
 -- One step of the balance: what is known of the node at the next number.
-use Rattle.std.proofs.Common.{◌≡◌, ℕ, ◌+◌, ◌^◌, ◌<◌, ◌≤◌, ◌++◌, ◌∷◌, [], List, map, length, get_or, slice_get, Option, Some, None, IfSome, MatchOption, Result, Ok, Err, IfOk, IfErr, sym, ap, subst, ◌∙◌, arith}
+use Rattle.std.proofs.Common.{◌≡◌, ℕ, ◌+◌, ◌^◌, ◌<◌, ◌≤◌, ◌++◌, ◌∷◌, [], List, map, length, get_or, slice_get, Option, Some, None, IfSome, MatchOption, sym, ap, subst, ◌∙◌, arith}
 use Rattle.std.specs.List.{All}
 use Rattle.std.proofs.lemmas.Option.{slice_get-get_or}
 use Rattle.cts_units.specs.declared.params.Sink.{Sink}
@@ -16,7 +16,6 @@ use Rattle.cts_tree.specs.declared.nodes.NodeKind.{NodeKind}
 use Rattle.cts_tree.specs.declared.nodes.NodeKind.TheVariants.{Leaf, Pair}
 use Rattle.cts_tree.specs.declared.nodes.TreeNode.{TreeNode}
 use Rattle.cts_tree.specs.Nodes.{children_of, tree_children, buffer_of}
-use Rattle.cts_merge.specs.declared.side.Beyond.{Beyond}
 use Rattle.cts_embed.specs.declared.node.NodeBalance.{NodeBalance}
 use Rattle.cts_embed.specs.Balance.{IsBalance, IsBeyondBalance, IsLeafBalance, IsPairBalance, IsPairBeyond, sink_of}
 use Rattle.cts_embed.specs.Fitting.{NamesWithin}
@@ -119,69 +118,47 @@ module _ (params : Params) (sinks : List Sink) (nodes : List TreeNode) (ok : IsP
       right_ready ranged caps = in_range params sinks at_pair.right b right_is ranged caps
 
       -- the lengths of the routes to them
-      module _ (f g : TreeNode) where
-        routes : (P : ℕ → ℕ → Option ℕ → Type 0) → P (get_or nodes left f).route.length (get_or nodes right g).route.length buffer
+      module _ (f g : TreeNode) (la lb : ℕ) (first_route : la ≡ (get_or nodes left f).route.length)
+          (second_route : lb ≡ (get_or nodes right g).route.length) where
+        routes : (P : ℕ → ℕ → Option ℕ → Type 0) → P la lb buffer
             → P (label at_pair.left).route.length (label at_pair.right).route.length (buffer_of (get_or nodes k e).kind)
         routes P has =
-            let first : (get_or nodes left f).route.length ≡ (label at_pair.left).route.length =
-            ap (λ (n : TreeNode). n.route.length) (sym (left_label f)) in
-            let second : (get_or nodes right g).route.length ≡ (label at_pair.right).route.length =
-            ap (λ (n : TreeNode). n.route.length) (sym (right_label g)) in
+            let first : la ≡ (label at_pair.left).route.length =
+            first_route ∙ ap (λ (n : TreeNode). n.route.length) (sym (left_label f)) in
+            let second : lb ≡ (label at_pair.right).route.length =
+            second_route ∙ ap (λ (n : TreeNode). n.route.length) (sym (right_label g)) in
             let third : buffer ≡ buffer_of (get_or nodes k e).kind = sym (ap buffer_of here) in
             subst (λ x. P x (label at_pair.right).route.length (buffer_of (get_or nodes k e).kind)) first
-            (subst (λ x. P (get_or nodes left f).route.length x (buffer_of (get_or nodes k e).kind)) second
-            (subst (λ x. P (get_or nodes left f).route.length (get_or nodes right g).route.length x) third has))
+            (subst (λ x. P la x (buffer_of (get_or nodes k e).kind)) second (subst (λ x. P la lb x) third has))
 
         -- a pair is balanced by parameters that are these
-        module _ (lent : Params) (same : lent ≡ params) (result : Result NodeBalance Beyond) where
-          pub pair_stands : IfOk result (IsPairBalance lent buffer a (get_or nodes left f).route.length b (get_or nodes right g).route.length)
-              → IfOk result Here
-          unfolding IsBalance
-          pair_stands is = by_result result is
-            where
-              by_result : (r : Result NodeBalance Beyond)
-                  → IfOk r (IsPairBalance lent buffer a (get_or nodes left f).route.length b (get_or nodes right g).route.length)
-                  → IfOk r Here
-              by_result (Ok node) is =
-                  stands tree_children (IsBalance params sinks) nodes k (fork at_pair.left at_pair.right (get_or nodes k e)) (tip e) node h
-                  (at_pair.tree (tip e)) (
-                    a,
-                    b,
-                    left_is,
-                    right_is,
-                    routes (λ x y u. IsPairBalance params u a x b y node)
-                        (subst (λ ps. IsPairBalance ps buffer a (get_or nodes left f).route.length b (get_or nodes right g).route.length node)
-                        same is),
-                  )
-              by_result (Err x) is = tt
+        module _ (lent : Params) (same : lent ≡ params) where
+          module _ (node : NodeBalance) (is : IsPairBalance lent buffer a la b lb node) where
+            pub pair_stands : Here node
+            unfolding IsBalance
+            pair_stands =
+                stands tree_children (IsBalance params sinks) nodes k (fork at_pair.left at_pair.right (get_or nodes k e)) (tip e) node h
+                (at_pair.tree (tip e)) (
+                  a,
+                  b,
+                  left_is,
+                  right_is,
+                  routes (λ x y u. IsPairBalance params u a x b y node)
+                      (subst (λ ps. IsPairBalance ps buffer a la b lb node) same is),
+                )
 
-          pub pair_next : IfOk result (IsPairBalance lent buffer a (get_or nodes left f).route.length b (get_or nodes right g).route.length)
-              → IfOk result (λ node. AreWaiting tree_children nodes (IsBalance params sinks) (k + 1) (rest ++ node ∷ []))
-          pair_next is = by_result result (pair_stands is)
-            where
-              by_result : (r : Result NodeBalance Beyond) → IfOk r Here
-                  → IfOk r (λ node. AreWaiting tree_children nodes (IsBalance params sinks) (k + 1) (rest ++ node ∷ []))
-              by_result (Ok node) has = values.next node has
-              by_result (Err x) has = tt
+            pub pair_next : AreWaiting tree_children nodes (IsBalance params sinks) (k + 1) (rest ++ node ∷ [])
+            pair_next = values.next node pair_stands
 
-          pub pair_beyond : IfErr result (λ _. IsPairBeyond lent buffer a (get_or nodes left f).route.length b (get_or nodes right g).route.length)
-              → IfErr result (λ _. BeyondHere)
+          pub pair_beyond : IsPairBeyond lent buffer a la b lb → BeyondHere
           unfolding IsBeyondBalance
-          pair_beyond over = by_result result over
-            where
-              by_result : (r : Result NodeBalance Beyond)
-                  → IfErr r (λ _. IsPairBeyond lent buffer a (get_or nodes left f).route.length b (get_or nodes right g).route.length)
-                  → IfErr r (λ _. BeyondHere)
-              by_result (Ok node) over = tt
-              by_result (Err x) over =
-                  let t : BinaryTree TreeNode = fork at_pair.left at_pair.right (get_or nodes k e) in
-                  subst (λ o. IfSome o (IsBeyondBalance params sinks))
-                  (sym (tree_found tree_children nodes k t (tip e) h (at_pair.tree (tip e)))) (
-                    a,
-                    b,
-                    left_is,
-                    right_is,
-                    routes (λ x y u. IsPairBeyond params u a x b y)
-                        (subst (λ ps. IsPairBeyond ps buffer a (get_or nodes left f).route.length b (get_or nodes right g).route.length)
-                        same over),
-                  )
+          pair_beyond over =
+              let t : BinaryTree TreeNode = fork at_pair.left at_pair.right (get_or nodes k e) in
+              subst (λ o. IfSome o (IsBeyondBalance params sinks))
+              (sym (tree_found tree_children nodes k t (tip e) h (at_pair.tree (tip e)))) (
+                a,
+                b,
+                left_is,
+                right_is,
+                routes (λ x y u. IsPairBeyond params u a x b y) (subst (λ ps. IsPairBeyond ps buffer a la b lb) same over),
+              )

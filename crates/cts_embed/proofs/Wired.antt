@@ -1,24 +1,49 @@
--- Placed nodes that get the lengths of their wires, one after the other.
-use Rattle.std.proofs.Common.{◌≡◌, ℕ, zero, suc, ◌<◌, List, [], ◌∷◌, set, length, get_or, refl, ap, arith}
+-- Placed nodes that get the lengths of their wires, and are as they were otherwise.
+use Rattle.std.proofs.Common.{◌≡◌, ℕ, ◌<◌, List, map, set, length, get_or, refl, sym, ap, ◌∙◌, arith}
+use Rattle.std.proofs.lemmas.List.{get_or-map, length-map, map-set}
+use Rattle.std.proofs.Math.Seq.{map-set_same}
+use Rattle.cts_tree.specs.declared.nodes.NodeKind.{NodeKind}
 use Rattle.cts_tree.specs.declared.nodes.TreeNode.{TreeNode}
-use Rattle.cts_embed.specs.WithWires.{with_wire, with_wires}
 
--- the nodes, where the first so many have the lengths of their wires
-abbrev pub partly : ℕ → List TreeNode → List ℕ → List TreeNode
-partly zero nodes wires = nodes
-partly (suc k) [] wires = []
-partly (suc k) (n ∷ nodes) [] = n ∷ nodes
-partly (suc k) (n ∷ nodes) (w ∷ wires) = with_wire n w ∷ partly k nodes wires
+-- a node with a wire of this length
+abbrev pub with_wire : TreeNode → ℕ → TreeNode
+with_wire node len = record node { wire = len }
 
-pub partly_more : (k : ℕ) (nodes : List TreeNode) (wires : List ℕ) (d : TreeNode) (w : ℕ) → k < length nodes → k < length wires
-    → set (partly k nodes wires) k (with_wire (get_or (partly k nodes wires) k d) (get_or wires k w)) ≡ partly (suc k) nodes wires
-partly_more k [] wires d w h v = absurd (omega arith)
-partly_more k (n ∷ nodes) [] d w h v = absurd (omega arith)
-partly_more zero (n ∷ nodes) (x ∷ wires) d w h v = refl
-partly_more (suc k) (n ∷ nodes) (x ∷ wires) d w h v = ap (λ ns. with_wire n x ∷ ns) (partly_more k nodes wires d w (omega arith) (omega arith))
+abbrev pub without_wire : TreeNode → TreeNode
+without_wire node = with_wire node 0
 
-pub partly_all : (nodes : List TreeNode) (wires : List ℕ) → length nodes ≡ length wires → partly (length wires) nodes wires ≡ with_wires nodes wires
-partly_all [] [] long = refl
-partly_all [] (x ∷ wires) long = absurd (omega arith)
-partly_all (n ∷ nodes) [] long = absurd (omega arith)
-partly_all (n ∷ nodes) (x ∷ wires) long = ap (λ ns. with_wire n x ∷ ns) (partly_all nodes wires (omega arith))
+-- the lengths of the wires of the nodes
+abbrev pub wires_of : List TreeNode → List ℕ
+wires_of nodes = map (λ (node : TreeNode). node.wire) nodes
+
+-- the nodes are the placed ones, but for the lengths of their wires
+abbrev pub AreSameButWires : List TreeNode → List TreeNode → Type 0
+AreSameButWires placed nodes = map without_wire nodes ≡ map without_wire placed
+
+-- a wire that is set
+pub wires_of-set : (nodes : List TreeNode) (k : ℕ) (node : TreeNode) (len : ℕ)
+    → wires_of (set nodes k (with_wire node len)) ≡ set (wires_of nodes) k len
+wires_of-set nodes k node len = map-set (λ (n : TreeNode). n.wire) nodes k (with_wire node len)
+
+module _ (placed nodes : List TreeNode) (same : AreSameButWires placed nodes) where
+  pub same_set : (k : ℕ) (d : TreeNode) (len : ℕ) → AreSameButWires placed (set nodes k (with_wire (get_or nodes k d) len))
+  same_set k d len = map-set_same without_wire nodes k (with_wire (get_or nodes k d) len) d refl ∙ same
+
+  pub same_long : length nodes ≡ length placed
+  same_long = sym (length-map nodes without_wire) ∙ ap length same ∙ length-map placed without_wire
+
+  module _ (k : ℕ) (d : TreeNode) (h : k < length placed) where
+    same_node : without_wire (get_or nodes k d) ≡ without_wire (get_or placed k d)
+    same_node =
+        let within : k < length nodes = omega (arith, same_long) in
+        sym (get_or-map without_wire nodes k d d within) ∙ ap (λ ns. get_or ns k d) same
+        ∙ get_or-map without_wire placed k d d h
+
+    pub same_kind : (get_or nodes k d).kind ≡ (get_or placed k d).kind
+    same_kind = ap (λ (n : TreeNode). n.kind) same_node
+
+    pub kind_read : (kind : NodeKind) → (get_or nodes k d).kind ≡ kind → (get_or placed k d).kind ≡ kind
+    kind_read kind is = sym same_kind ∙ is
+
+    pub same_route : (get_or nodes k d).route.length ≡ (get_or placed k d).route.length
+    same_route = ap (λ (n : TreeNode). n.route.length) same_node

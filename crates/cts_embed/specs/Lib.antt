@@ -6,7 +6,6 @@ pub mod Fitting
 pub mod Balance
 pub mod Capacitances
 pub mod BalancedTree
-pub mod WithWires
 pub mod Ends
 pub mod Laws
 pub mod Range

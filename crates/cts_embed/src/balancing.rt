@@ -1,15 +1,14 @@
 //! The balance of a placed tree.
 
-ghost use Rattle.std.specs.Prelude.{◌≡◌, length, IfOk, IfErr};
+ghost use Rattle.std.specs.Prelude.{IfOk, IfErr};
 ghost use Rattle.cts_embed.specs.BalancedTree.{IsBalancedTree};
 ghost use Rattle.cts_embed.specs.Ends.{BalanceEnds};
 ghost use Rattle.cts_embed.specs.Fitting.{Fits};
-ghost use Rattle.cts_embed.specs.WithWires.{with_wires};
 
 use crate::end::BalanceEnd;
-use crate::wires::wires_of;
+use crate::wires::set_wires;
 use cts_instance::Instance;
-use cts_tree::{Placed, Tree, TreeNode};
+use cts_tree::{Placed, Tree};
 use std::alloc::Global;
 
 /// The tree of a placed tree, with the wires balanced over its routes.
@@ -25,17 +24,6 @@ pub fn balance(alloc: Global, instance: &Instance, placed: Placed) -> Result<Tre
     ensures ends { IfErr result (BalanceEnds instance.now placed) }
 {
     let mut nodes = placed.into_nodes();
-    let wires = wires_of(alloc, instance, nodes.as_slice())?;
-    set_wires(nodes.as_mut_slice(), wires.as_slice());
+    set_wires(alloc, instance, nodes.as_mut_slice())?;
     Ok(Tree::of(nodes))
-}
-
-/// Gives each placed node the length of its wire.
-fn set_wires(nodes: &mut [TreeNode], wires: &[u32])
-    requires { length nodes.old ≡ length wires.now }
-    ensures { nodes.new ≡ with_wires nodes.old wires.now }
-{
-    for number in 0..wires.len() {
-        nodes[number].wire = u64::from(wires[number]);
-    }
 }

@@ -1,15 +1,12 @@
-//! The upward pass of the balance: what it makes of each node.
+//! The steps of the balance upward: what it makes of a leaf, of a pair and of the root.
 
-ghost use Rattle.std.specs.Prelude.{◌≡◌, ℕ, ◌+◌, ◌^◌, ◌<◌, ◌≤◌, ◌++◌, ◌∷◌, ◌↔◌, [], IsTrue, map, length, vec_len, slice_get, IfSome, IfOk, IfErr, MatchOption, All};
+ghost use Rattle.std.specs.Prelude.{◌≡◌, ℕ, ◌^◌, ◌<◌, ◌≤◌, ◌++◌, ◌∷◌, ◌↔◌, [], IsTrue, length, vec_len, IfOk, IfErr, MatchOption, All};
 ghost use Rattle.cts_units.specs.Choice.{added_delay_of, seen_load_of};
 ghost use Rattle.cts_units.specs.Limits.{IsParams, max_length, max_load};
 ghost use Rattle.cts_merge.specs.LeastPair.{IsTooLong, Covers};
-ghost use Rattle.cts_postorder.specs.PostOrder.{IsPostOrder, trees_of};
-ghost use Rattle.cts_postorder.specs.Waiting.{AreWaiting, StandsAt};
-ghost use Rattle.cts_tree.specs.Nodes.{tree_children};
-ghost use Rattle.cts_embed.specs.Balance.{IsBalance, IsBeyondBalance, IsLeafBalance, IsPairBalance, IsPairBeyond, IsRootWithin, IsWirePair, delay_through};
+ghost use Rattle.cts_embed.specs.Balance.{IsLeafBalance, IsPairBalance, IsPairBeyond, IsRootWithin, IsWirePair, delay_through};
 ghost use Rattle.cts_embed.specs.Capacitances.{caps_of};
-ghost use Rattle.cts_embed.specs.Fitting.{Fits, NamesWithin};
+ghost use Rattle.cts_embed.specs.Fitting.{NamesWithin};
 ghost use Rattle.cts_embed.specs.Range.{IsInRange};
 
 use crate::node::NodeBalance;
@@ -89,7 +86,7 @@ fn buffered(params: &Params, buffer: Option<u16>, load: u64) -> (u128, u64)
 }
 
 /// A pair with this buffer over two children and the routes to them.
-fn pair_balance(
+pub(crate) fn pair_balance(
     params: &Params,
     buffer: Option<u16>,
     a: &NodeBalance,
@@ -146,7 +143,7 @@ pub(crate) fn capacitances(
 }
 
 /// A leaf over a sink of this capacitance in zF.
-fn leaf_balance(cap: u64) -> NodeBalance
+pub(crate) fn leaf_balance(cap: u64) -> NodeBalance
     ensures { (sink : Sink) → sink.cap ≡ cap → IsLeafBalance sink result }
 {
     NodeBalance {
@@ -158,7 +155,7 @@ fn leaf_balance(cap: u64) -> NodeBalance
 }
 
 /// The two latest of the balances that wait, the earlier one first. They leave the list.
-fn take_pair(waiting: &mut Vec<NodeBalance>) -> (NodeBalance, NodeBalance)
+pub(crate) fn take_pair(waiting: &mut Vec<NodeBalance>) -> (NodeBalance, NodeBalance)
     requires two { 2 ≤ vec_len waiting.old }
     ensures { waiting.old.items ≡ waiting.new.items ++ result.0 ∷ result.1 ∷ [] }
 {
@@ -166,44 +163,6 @@ fn take_pair(waiting: &mut Vec<NodeBalance>) -> (NodeBalance, NodeBalance)
         unreachable!()
     };
     (first, second)
-}
-
-/// What the balance makes of the node of this number, by the capacitances of the leaves' sinks and by what it
-/// made of the nodes that wait for the pair above them. A pair's children no longer wait.
-pub(crate) fn balance_node(
-    instance: &Instance,
-    caps: &[u64],
-    nodes: &[TreeNode],
-    number: usize,
-    waiting: &mut Vec<NodeBalance>,
-) -> Result<NodeBalance, Beyond>
-    requires caps { caps.now ≡ caps_of instance.now.sinks nodes.now }
-    requires post_order { IsPostOrder (map tree_children nodes.now) }
-    requires fits { Fits instance.now nodes.now }
-    requires number { number < length nodes.now }
-    requires before { AreWaiting tree_children nodes.now (IsBalance instance.now.params instance.now.sinks)
-        number waiting.old.items }
-    ensures here { IfOk result (StandsAt tree_children nodes.now (IsBalance instance.now.params instance.now.sinks)
-        number) }
-    ensures next { IfOk result (λ node. AreWaiting tree_children nodes.now
-        (IsBalance instance.now.params instance.now.sinks) (number + 1) (waiting.new.items ++ node ∷ [])) }
-    ensures beyond { IfErr result (λ _. IfSome (slice_get (trees_of tree_children nodes.now) number)
-        (IsBeyondBalance instance.now.params instance.now.sinks)) }
-{
-    match nodes[number].kind {
-        NodeKind::Leaf { .. } => Ok(leaf_balance(caps[number])),
-        NodeKind::Pair {
-            left,
-            right,
-            buffer,
-        } => {
-            let params = instance.params();
-            let (left, right) = (left as usize, right as usize);
-            let (la, lb) = (nodes[left].route.length, nodes[right].route.length);
-            let (first, second) = take_pair(waiting);
-            pair_balance(params, buffer, &first, la, &second, lb)
-        }
-    }
 }
 
 /// Whether the limits that are asked of the root alone are met, with a wire of this length above it.

@@ -1,5 +1,0 @@
-use Rattle.cts_embed.proofs.Ascent.{IsAscent}
-use Rattle.cts_embed.proofs.wires.wires_of.Given as goal
-
-abbrev pub invariant-loop-number : goal.invariant-loop-number
-invariant-loop-number l = IsAscent l.instance l.nodes l.number l.waiting.items l.wires.items
