@@ -92,16 +92,12 @@ module _ (i : Parts) (valid : IsValid i) (nodes : List TreeNode) (ok : IsPostOrd
   top : Whole tree_children nodes
   top = whole_of tree_children nodes ok
 
-  at_root : slice_get (trees_of tree_children nodes) (length nodes - 1) ≡ Some top.tree
-  unfolding root_of
-  at_root = top.root_is
-
   is_root : (root : BinaryTree TreeNode) → root_of tree_children nodes ≡ Some root → top.tree ≡ root
   is_root root is =
       let names : Some top.tree ≡ Some root = sym top.root_is ∙ is in cc
 
   -- there are figures of each node
-  pub known_long : (figures : List NodeFigure) → AllZip (IsKnownBelow i) (trees_of tree_children nodes) figures
+  known_long : (figures : List NodeFigure) → AllZip (IsKnownBelow i) (trees_of tree_children nodes) figures
       → length figures ≡ length nodes
   known_long figures known =
       AllZip-long (IsKnownBelow i) (trees_of tree_children nodes) figures known ∙ length-trees_of tree_children nodes
