@@ -18,8 +18,7 @@ use Rattle.cts_postorder.proofs.Growth.{length-trees_of, label-tree}
 use Rattle.cts_postorder.proofs.Sizes.{root_number-next}
 use Rattle.cts_postorder.proofs.Upward.{leaf_here}
 use Rattle.cts_postorder.proofs.Lists.{Whole, whole_of, length-occurrences_of, trees_of-here, IsPair, is_pair}
-use Rattle.cts_postorder.specs.Handed.{AreHanded}
-use Rattle.cts_postorder.proofs.Handed.{handed_at_start, some_handed, handed_here, handed_at_leaf, handed_at_pair}
+use Rattle.cts_postorder.proofs.Handed.{AreHanded, handed_at_start, some_handed, handed_here, handed_at_leaf, handed_at_pair}
 use Rattle.cts_postorder.proofs.Places.{get_or-occurrences-root}
 use Rattle.cts_postorder.proofs.Zips.{all_zip-at, all_zip-all, all_zip-weaker}
 use Rattle.cts_tree.specs.declared.nodes.NodeKind.{NodeKind}

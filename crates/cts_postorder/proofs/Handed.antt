@@ -1,13 +1,22 @@
--- A pass downward with a stack: its start, one step at a leaf, one at a pair.
+-- A pass downward with a stack of what it hands to the nodes that are still to come: its start, one step at a leaf, one at a pair.
 use Rattle.std.proofs.Common.{◌≡◌, ℕ, ◌+◌, ◌-◌, ◌<◌, ◌≤◌, List, [], ◌∷◌, ◌++◌, map, take, drop, length, get_or, reverse, Option, Some, None, refl, sym, ap, subst, ◌∙◌, arith}
 use Rattle.std.specs.List.{AllZip}
 use Rattle.std.proofs.lemmas.List.{drop_more, drop_all, take_more, take-append-drop, length-take-le, map-append, length-map, reverse-append, length-reverse}
 use Rattle.std.proofs.lemmas.Slice.Zip.{AllZip-long}
 use Rattle.cts_postorder.specs.PostOrder.{IsPostOrderFrom, IsPostOrder}
 use Rattle.cts_postorder.specs.Stack.{IsJoin, stack_after}
-use Rattle.cts_postorder.specs.Handed.{stack_from, AreHanded}
 use Rattle.cts_postorder.proofs.Stacks.{post_splits}
 use Rattle.cts_postorder.proofs.Lists.{length_pos}
+
+-- the stack once these nodes are read, of which the first has the number k
+unfoldable pub stack_from : List (Option (ℕ × ℕ)) → List ℕ → ℕ → List ℕ
+stack_from [] stack k = stack
+stack_from (children ∷ nodes) stack k = stack_from nodes (stack_after children stack k) (k + 1)
+
+-- In a pass downward that has come to the number k: the values for the nodes before k whose pair is k or a later one, the
+-- value for the nearest node last. These nodes are the ones that wait once those before k are read in post-order.
+abbrev pub AreHanded : {N V : Type 0} → (N → Option (ℕ × ℕ)) → List N → (ℕ → V → Type 0) → ℕ → List V → Type 0
+AreHanded kids nodes R k values = AllZip R (stack_from (map kids (take k nodes)) [] 0) (reverse values)
 
 -- what a node leaves on the stack below its own number
 abbrev left_of : Option (ℕ × ℕ) → List ℕ → List ℕ

@@ -5,4 +5,3 @@ pub mod Pass
 pub mod Laws
 pub mod Stack
 pub mod Waiting
-pub mod Handed
