@@ -12,9 +12,9 @@
 //! `Tips` for the tips of a tree, `Upward` and `Downward` for the steps of passes, `Failures` for
 //! those that stop, `Decorated` for trees of the same form with other nodes, `Zips` for lists that
 //! are related place by place, `Stacks` for reading nodes with a stack, whose step
-//! `specs/Stack.antt` has, and `Waiting` for passes that keep such a stack. Passes are stated over
-//! a relation between trees or occurrences and their values, so that a layer need not compute what
-//! it defines.
+//! `specs/Stack.antt` has, and `Waiting` and `Handed` for passes upward and downward that keep such a
+//! stack. Passes are stated over a relation between trees or occurrences and their values, so that a
+//! layer need not compute what it defines.
 #![tactic(auto)]
 
 pub mod laws;
