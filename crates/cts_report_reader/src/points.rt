@@ -87,7 +87,7 @@ pub fn corners(alloc: Global, bytes: &[u8]) -> Result<Option<(Corners, &[u8])>, 
     let Some((items, rest)) = points(alloc, count, rest)? else {
         return Ok(None);
     };
-    Ok(Some((Corners::of(items), rest)))
+    Ok(Some((Corners::of(alloc, items)?, rest)))
 }
 
 // One corner, as most routes have, takes no memory.

@@ -113,7 +113,7 @@ impl View {
         let (xs, ys) = (self.window.xs.as_slice(), self.window.ys.as_slice());
         let corners = corners_down(alloc, xs, ys, &self.window.graph, &self.table, self.start)?;
         Ok(Route {
-            corners: Corners::of(corners),
+            corners: Corners::of(alloc, corners)?,
             length: label / 2,
         })
     }

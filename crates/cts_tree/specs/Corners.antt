@@ -7,4 +7,4 @@ use Rattle.cts_tree.specs.declared.route.Kept.TheVariants.{None, One, Many}
 abbrev pub corners_kept : Kept → List Half
 corners_kept None = []
 corners_kept (One corner) = corner ∷ []
-corners_kept (Many corners) = corners.items
+corners_kept (Many corners) = corners.value.items

@@ -1,15 +1,17 @@
 //! Routes of wires.
 
 use cts_geom::Half;
+use std::alloc::{AllocError, Global};
 use std::marker::Model;
 use std::slice;
 
-/// How corners are kept: most routes have one or none, and those own no memory.
+/// How corners are kept: most routes have one or none, and those own no memory. A list is boxed, so that it doesn't
+/// make every node longer.
 #[derive(Drop)]
 enum Kept {
     None,
     One(Half),
-    Many(Vec<Half>),
+    Many(Box<Vec<Half>>),
 }
 
 /// The corners of a route in order, from its start to its end, in half nm.
@@ -29,7 +31,7 @@ impl Model for Corners {
 }
 
 impl Corners {
-    ghost use Rattle.std.specs.Prelude.{◌≡◌, [], ◌∷◌};
+    ghost use Rattle.std.specs.Prelude.{◌≡◌, [], ◌∷◌, IfOk};
 
     /// No corner: the route is straight, or has no length.
     pub fn none() -> Corners
@@ -47,12 +49,17 @@ impl Corners {
         }
     }
 
-    /// These corners, in this order.
-    pub fn of(items: Vec<Half>) -> Corners
-        ensures { result ≡ items.items }
+    /// These corners, in this order. Answers with an error where an allocation fails.
+    pub fn of(alloc: Global, items: Vec<Half>) -> Result<Corners, AllocError>
+        ensures { IfOk result (λ corners. corners ≡ items.items) }
     {
-        Corners {
-            kept: Kept::Many(items),
+        match items.as_slice() {
+            [] => Ok(Corners::none()),
+            [corner] => Ok(Corners::one(*corner)),
+            _ => {
+                let kept = Kept::Many(Box::new(alloc, items)?);
+                Ok(Corners { kept })
+            }
         }
     }
 
@@ -63,7 +70,7 @@ impl Corners {
         match &self.kept {
             Kept::None => &[],
             Kept::One(corner) => slice::from_ref(corner),
-            Kept::Many(corners) => corners.as_slice(),
+            Kept::Many(corners) => corners.as_ref().as_slice(),
         }
     }
 }

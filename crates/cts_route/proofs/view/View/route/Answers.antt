@@ -17,8 +17,8 @@ returns-clause-route c = λ grid from to frame done.
     let view = c.args.self.now in
     let at : c.index-label.result.now ≡ slice_index c.args.self.now.table.labels.items c.args.self.now.start =
     label_read c.args.self.now.table.labels.items c.args.self.now.start c.index-label.result.now c.requires.start_inside c.index-label.ensures in
-    done_route grid from to frame view (record { corners = c.of.result; length = c.index-label.result.now / 2 }) c.in_ok-corners.corners.items done
+    done_route grid from to frame view (record { corners = c.in_ok-of.field-0; length = c.index-label.result.now / 2 }) c.in_ok-corners.corners.items done
     (let apart = c.if-label.false in omega (arith, at, apart))
     (same_way view.window.xs.items view.window.ys.items c.as_slice-xs.result.now c.as_slice-ys.result.now view.window view.table view.start c.in_ok-corners.corners.items
     c.in_ok-corners.ensures c.as_slice-xs.ensures.value c.as_slice-ys.ensures.value)
-    c.of.ensures (ap (λ (l : ℕ). l / 2) at)
+    c.in_ok-of.ensures (ap (λ (l : ℕ). l / 2) at)
