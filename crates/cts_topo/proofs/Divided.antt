@@ -3,6 +3,7 @@
 use Rattle.std.proofs.Common.{◌≡◌, ℕ, zero, suc, ◌+◌, ◌-◌, ◌<◌, ◌≤◌, List, [], ◌∷◌, ◌++◌, take, drop, length, get_or, IsPermutation, IsSortedBy, refl, sym, ap, ap₂, subst, ◌∙◌, arith, append_assoc, length-append, length-drop}
 use Rattle.std.specs.Int.{div_ceil}
 use Rattle.std.proofs.lemmas.List.{length-take-le}
+use Rattle.std.proofs.lemmas.List.Sorted.{IsPermutation-refl}
 use Rattle.cts_postorder.specs.BinaryTree.{BinaryTree, size, labels, root_number}
 use Rattle.cts_postorder.proofs.Sizes.{length-labels, root_number-next}
 use Rattle.cts_topo.specs.declared.shape.ShapeNode.{ShapeNode}
@@ -94,3 +95,23 @@ divided_pair ps qs ls rs half h distinct order sorted is front back nodes left b
     (both_tree ∙ ap (λ ns. ns ++ labels r) left_tree)
     ∙ regroup
     ∙ ap (λ t. nodes ++ labels t) (sym (division-pair limit first ps h))
+
+-- two pins in their order
+pub divided_two : (ps : List Pin) (nodes : List ShapeNode) (limit : ℕ) (d e : Pin) → length ps ≡ 2 → AreApart ps
+    → IsSortedBy (is_before (is_wide ps)) ps → length ps ≤ limit
+    → nodes ++ Leaf (get_or ps 0 d).sink ∷ Leaf (get_or ps 1 e).sink ∷ Pair (length nodes) (length nodes + 1) ∷ []
+    ≡ nodes ++ labels (division limit (length nodes) ps)
+divided_two [] nodes limit d e h distinct sorted fits = absurd (omega arith)
+divided_two (p ∷ []) nodes limit d e h distinct sorted fits = absurd (omega arith)
+divided_two (p ∷ q ∷ r ∷ ps) nodes limit d e h distinct sorted fits = absurd (omega arith)
+divided_two (p ∷ q ∷ []) nodes limit d e h distinct sorted fits =
+    let left : List ShapeNode = nodes ++ Leaf p.sink ∷ [] in
+    let both : List ShapeNode = left ++ Leaf q.sink ∷ [] in
+    let left_long : length left ≡ length nodes + 1 = length-append nodes (Leaf p.sink ∷ []) in
+    let both_long : length both ≡ length nodes + 1 + 1 = length-append left (Leaf q.sink ∷ []) ∙ ap (λ n. n + 1) left_long in
+    let regroup : both ++ Pair (length nodes) (length nodes + 1) ∷ []
+    ≡ nodes ++ Leaf p.sink ∷ Leaf q.sink ∷ Pair (length nodes) (length nodes + 1) ∷ [] = simp append_assoc in
+    sym regroup
+    ∙ ap₂ (λ i j. both ++ Pair i j ∷ []) (omega (arith, left_long)) (omega (arith, both_long))
+    ∙ divided_pair (p ∷ q ∷ []) (p ∷ q ∷ []) (p ∷ []) (q ∷ []) 1 (omega arith) distinct (IsPermutation-refl (p ∷ q ∷ [])) sorted refl refl refl
+    nodes left both (λ more fits. divided_one (p ∷ []) nodes more p refl) (λ more fits. divided_one (q ∷ []) left more q refl) limit fits

@@ -1,11 +1,12 @@
 //! The division of sinks in halves, along the axis in which they run further. They are sorted once along
 //! each axis, and each division splits both lists and keeps their orders.
 
-ghost use Rattle.std.specs.Prelude.{◌≡◌, ℕ, ◌+◌, ◌*◌, ◌%◌, ◌^◌, ◌<◌, ◌≤◌, ◌++◌, true, false, not, length, map, filter, vec_len, OnOk, IfOk};
+ghost use Rattle.std.specs.Prelude.{◌≡◌, ℕ, ◌+◌, ◌*◌, ◌%◌, ◌^◌, ◌<◌, ◌≤◌, ◌++◌, ◌∷◌, [], true, false, not, length, map, filter, vec_len, OnOk, IfOk};
 ghost use Rattle.std.specs.List.{range_with_len};
 ghost use Rattle.std.specs.List.Sorted.{IsPermutation, IsSortedBy};
 ghost use Rattle.cts_units.specs.Ids.{HasDistinctIds};
 ghost use Rattle.cts_postorder.specs.BinaryTree.{labels};
+ghost use Rattle.cts_topo.specs.declared.shape.ShapeNode.TheVariants.{Leaf, Pair};
 ghost use Rattle.cts_topo.specs.Shape.{IsShapeOver};
 ghost use Rattle.cts_topo.specs.Sinks.{AreSinks, IsPlaced};
 ghost use Rattle.cts_topo.specs.Topology.{is_before, compare_along, division, pins_from, shape_of, turned};
@@ -32,10 +33,11 @@ pub fn topology(alloc: Global, sinks: &[Sink]) -> Result<Shape, NoMemory>
     ensures each_sink_once { IfOk result (IsShapeOver (length sinks.now)) }
     ensures count { IfOk result (λ shape. length shape + 1 ≡ 2 * length sinks.now) }
 {
+    // What stays is made first, so that what goes leaves one room behind it.
+    let mut nodes = Vec::with_capacity(alloc, 2 * sinks.len() - 1)?;
     let mut spare = pins_of(alloc, sinks)?;
     let mut by_x = sorted_along(alloc, spare.as_slice(), true)?;
     let mut by_y = sorted_along(alloc, by_x.as_slice(), false)?;
-    let mut nodes = Vec::with_capacity(alloc, 2 * sinks.len() - 1)?;
     divide(
         true,
         by_x.as_mut_slice(),
@@ -101,6 +103,9 @@ fn divide(
     if is_turned(wide, along, across) {
         return divide(!wide, across, along, spare, nodes);
     }
+    if along.len() == 2 {
+        return push_two(along[0].sink, along[1].sink, nodes);
+    }
     let half = along.len().div_ceil(2);
     split(across, wide, along[half], half, spare);
     let (left_along, right_along) = along.split_at_mut(half);
@@ -111,6 +116,23 @@ fn divide(
     divide(wide, right_along, right_across, right_spare, nodes)?;
     let right = (nodes.len() - 1) as u32;
     nodes.push(ShapeNode::Pair { left, right })?;
+    Ok(())
+}
+
+/// Appends the nodes of the tree over two sinks, which stand at these places of the list of sinks. At least every other
+/// pair of a large tree is such, and a division would take far longer.
+fn push_two(left: u32, right: u32, nodes: &mut Vec<ShapeNode>) -> Result<(), NoMemory>
+    requires { vec_len nodes.old + 3 ≤ 2 ^ 32 }
+    ensures { OnOk result (nodes.new.items ≡ nodes.old.items ++ Leaf left ∷ Leaf right
+        ∷ Pair (length nodes.old.items) (length nodes.old.items + 1) ∷ []) }
+{
+    let first = nodes.len() as u32;
+    nodes.push(ShapeNode::Leaf { sink: left })?;
+    nodes.push(ShapeNode::Leaf { sink: right })?;
+    nodes.push(ShapeNode::Pair {
+        left: first,
+        right: first + 1,
+    })?;
     Ok(())
 }
 

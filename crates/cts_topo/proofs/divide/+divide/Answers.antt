@@ -7,7 +7,7 @@ use Rattle.cts_topo.specs.Topology.{is_before, is_wide, turned}
 use Rattle.cts_topo.proofs.Apart.{apart-Shuffled}
 use Rattle.cts_topo.proofs.Shuffles.{turned_round, length-Shuffled}
 use Rattle.cts_topo.proofs.Divisions.{division-Shuffled}
-use Rattle.cts_topo.proofs.Divided.{HalvesReady, halves_ready, divided_one, divided_pair}
+use Rattle.cts_topo.proofs.Divided.{HalvesReady, halves_ready, divided_one, divided_two, divided_pair}
 use Rattle.cts_topo.proofs.Pivots.{halves_sorted, parts_ready, not_turned, back_again, fewer_turned, fewer_halved, turns_left, map_ok}
 use Rattle.cts_topo.proofs.divide.+divide.Goals as goal
 
@@ -49,6 +49,17 @@ returns-then-is_turned-clause-nodes t c =
     ∙ ap (λ t. c.args.nodes.now.items ++ labels t)
     (sym (division-Shuffled limit (length c.args.nodes.now.items) c.args.along.now c.args.across.now c.requires.same)))
     c.divide.ensures.nodes
+
+pub returns-then-along-eq2-clause-nodes : goal.returns-then-along-eq2-clause-nodes
+returns-then-along-eq2-clause-nodes t c =
+    let axis : is_wide c.args.along.now ≡ c.args.wide =
+    not_turned c.args.wide c.args.along.now (sym c.is_turned.ensures ∙ c.if-is_turned.false) in
+    map_ok c.push_two.result _ _
+    (λ h limit fits.
+    h
+    ∙ divided_two c.args.along.now c.args.nodes.now.items limit _ _ c.if-along-eq2.true c.requires.distinct
+    (subst (λ w. IsSortedBy (is_before w) c.args.along.now) (sym axis) c.requires.along) fits)
+    c.push_two.ensures
 
 pub split-requires-clause-half : goal.split-requires-clause-half
 split-requires-clause-half t c =
