@@ -4,6 +4,7 @@ pub mod Unique
 pub mod Regions
 pub mod Sides
 pub mod Node
+pub mod Ascending
 pub mod Exists
 pub mod Merges
 mod Example

@@ -1,25 +1,20 @@
 -- One step of the pass: what is known of the node at the next number.
-use Rattle.std.proofs.Common.{◌≡◌, ℕ, ◌+◌, ◌<◌, ◌++◌, ◌∷◌, [], List, take, length, get_or, Option, Some, MatchOption, Result, Ok, Err, IfOk, IfErr, sym, ap, subst, arith}
+use Rattle.std.proofs.Common.{◌≡◌, ℕ, ◌+◌, ◌<◌, ◌++◌, ◌∷◌, [], List, take, length, get_or, Option, Some, MatchOption, sym, ap, subst}
 use Rattle.std.specs.List.{AllZip}
 use Rattle.std.proofs.lemmas.Option.{slice_get-get_or}
 use Rattle.cts_units.specs.declared.params.Sink.{Sink}
 use Rattle.cts_units.specs.declared.params.Params.{Params}
-use Rattle.cts_units.specs.Limits.{IsParams}
 use Rattle.cts_postorder.specs.BinaryTree.{tip, fork}
 use Rattle.cts_postorder.specs.PostOrder.{trees_of}
-use Rattle.cts_postorder.proofs.Upward.{UpAtPair, up_at_leaf, up_at_pair, up_long, least_failure}
+use Rattle.cts_postorder.proofs.Upward.{UpAtPair, up_at_leaf, up_at_pair, least_failure}
 use Rattle.cts_topo.specs.declared.shape.ShapeNode.{ShapeNode}
 use Rattle.cts_topo.specs.declared.shape.ShapeNode.TheVariants.{Leaf, Pair}
 use Rattle.cts_topo.specs.Shape.{children, IsShapeOver}
 use Rattle.cts_topo.proofs.Counts.{leaf_within}
 use Rattle.cts_merge.specs.declared.side.Finished.{Finished}
-use Rattle.cts_merge.specs.declared.side.Beyond.{Beyond}
-use Rattle.cts_merge.specs.Side.{IsMergeable}
 use Rattle.cts_merge.specs.Merge.{IsLeaf, IsMerged, IsBeyond}
-use Rattle.cts_up.specs.Sinks.{AreSinksInRange}
 use Rattle.cts_up.specs.Plan.{sink_of, IsFinished, IsBeyondPair, IsLeastBeyond}
 use Rattle.cts_up.proofs.Unique.{finished_not_beyond}
-use Rattle.cts_up.proofs.Sides.{sides_merge}
 
 -- The parameters, the sinks, the nodes of a shape over them, and the plan of the nodes before number k.
 module _ (params : Params) (sinks : List Sink) (nodes : List ShapeNode) (ok : IsShapeOver (length sinks) nodes)
@@ -41,25 +36,6 @@ module _ (params : Params) (sinks : List Sink) (nodes : List ShapeNode) (ok : Is
     pub pair : UpAtPair children nodes (IsFinished params sinks) k (left, right) (get_or nodes k e) plan
     pair = up_at_pair children (IsFinished params sinks) nodes ok.post_order k e (left, right) plan h (ap children here) before
 
-    long : length plan ≡ k
-    long = up_long children (IsFinished params sinks) nodes k plan (omega arith) before
-
-    pub left_within : left < length plan
-    left_within = omega (arith, long, pair.left_below)
-
-    pub right_within : right < length plan
-    right_within = omega (arith, long, pair.right_below)
-
-    pub left_ready : (a d : Finished) → a ≡ get_or plan left d → IsParams params → AreSinksInRange sinks
-        → IsMergeable a.side
-    left_ready a d read ranged are =
-        sides_merge params sinks pair.left a (subst (IsFinished params sinks pair.left) (sym read) (pair.left_value d)) ranged are
-
-    pub right_ready : (b d : Finished) → b ≡ get_or plan right d → IsParams params → AreSinksInRange sinks
-        → IsMergeable b.side
-    right_ready b d read ranged are =
-        sides_merge params sinks pair.right b (subst (IsFinished params sinks pair.right) (sym read) (pair.right_value d)) ranged are
-
     -- the sides of the two parts
     module _ (a b d d' : Finished) (left_read : a ≡ get_or plan left d) (right_read : b ≡ get_or plan right d') where
       left_is : IsFinished params sinks pair.left a
@@ -79,14 +55,3 @@ module _ (params : Params) (sinks : List Sink) (nodes : List ShapeNode) (ok : Is
           least_failure children (IsFinished params sinks) (IsBeyondPair params sinks)
           (λ t f. finished_not_beyond params sinks t f) nodes plan k (fork pair.left pair.right (get_or nodes k e)) before pair.here
           (a, b, left_is, right_is, over)
-
-      -- what a merge of the two sides answers
-      pub pair_next : (result : Result Finished Beyond) → IfOk result (λ f. IsMerged params a.side b.side f)
-          → IfOk result (λ f. AllZip (IsFinished params sinks) (take (k + 1) (trees_of children nodes)) (plan ++ f ∷ []))
-      pair_next (Ok f) merged = pair_merged f merged
-      pair_next (Err x) merged = tt
-
-      pub pair_beyond : (result : Result Finished Beyond) → IfErr result (λ _. IsBeyond params a.side b.side)
-          → IfErr result (λ _. IsLeastBeyond params sinks nodes k)
-      pair_beyond (Ok f) over = tt
-      pair_beyond (Err x) over = pair_over over

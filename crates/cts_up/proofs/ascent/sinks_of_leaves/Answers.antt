@@ -2,8 +2,8 @@ use Rattle.std.proofs.Common.{◌+◌, length, Vec, Global, sym, ap, subst, ◌�
 use Rattle.cts_units.specs.declared.params.Sink.{Sink}
 use Rattle.cts_topo.proofs.Counts.{leaf_within}
 use Rattle.cts_up.proofs.LeafOrder.{AreNamed, named_at_leaf, named_at_pair}
-use Rattle.cts_up.proofs.pass.sinks_of_leaves.Goals as goal
-use Rattle.cts_up.proofs.pass.sinks_of_leaves.Goals.{in-Leaf+in_ok-push-in-Leaf, in-Pair}
+use Rattle.cts_up.proofs.ascent.sinks_of_leaves.Goals as goal
+use Rattle.cts_up.proofs.ascent.sinks_of_leaves.Goals.{in-Leaf+in_ok-push-in-Leaf, in-Pair}
 
 pub bounds-sinks-sink : goal.bounds-sinks-sink
 bounds-sinks-sink c =
