@@ -8,6 +8,7 @@ pub mod Ends
 pub mod Down
 pub mod HandedDown
 pub mod Limited
+pub mod LeafLoads
 pub mod TreeFigures
 pub mod AddUp
 pub mod Unique

@@ -1,10 +1,10 @@
 -- One step of the pass upward, by number: what is known of the node at the next number.
-use Rattle.std.proofs.Common.{◌≡◌, ℕ, ◌+◌, ◌<◌, ◌≤◌, List, [], ◌∷◌, ◌++◌, map, take, length, get_or, Option, Some, None, refl, sym, ap, subst, ◌∙◌, arith}
+use Rattle.std.proofs.Common.{◌≡◌, ℕ, ◌+◌, ◌<◌, ◌≤◌, List, [], ◌∷◌, ◌++◌, map, take, drop, length, get_or, Option, Some, None, IsSomeAnd, refl, sym, ap, subst, ◌∙◌, arith}
 use Rattle.std.specs.Prelude.{IfSome, IfNone, slice_get}
-use Rattle.std.proofs.lemmas.Option.{slice_get-get_or, get_or_from_slice_get}
+use Rattle.std.proofs.lemmas.Option.{slice_get-get_or, slice_get_within, get_or_from_slice_get}
 use Rattle.std.specs.List.{AllZip}
-use Rattle.std.proofs.lemmas.List.{get_or-map}
 use Rattle.cts_units.specs.declared.params.Params.{Params}
+use Rattle.cts_units.specs.declared.params.Sink.{Sink}
 use Rattle.cts_units.specs.Limits.{max_length}
 use Rattle.cts_units.specs.Choice.{seen_load_of}
 use Rattle.cts_postorder.specs.BinaryTree.{BinaryTree, tip, fork, label, size}
@@ -21,12 +21,13 @@ use Rattle.cts_instance.specs.declared.parts.Parts.{Parts}
 use Rattle.cts_instance.specs.Validity.{IsValid}
 use Rattle.cts_elmore.specs.declared.subtree.Subtree.{Subtree}
 use Rattle.cts_elmore.specs.declared.subtree.Branch.{Branch}
-use Rattle.cts_elmore.specs.Fits.{FitsInstance}
-use Rattle.cts_elmore.specs.Loads.{sink_load}
+use Rattle.cts_elmore.specs.Fits.{FitsInstance, NamesSink}
+use Rattle.cts_elmore.specs.Loads.{sink_load, leaf_loads}
 use Rattle.cts_elmore.specs.Limits.{IsOverAtPair, long_left, long_right, IsPairOver}
 use Rattle.cts_elmore.specs.declared.figures.NodeFigure.{NodeFigure}
 use Rattle.cts_postorder.specs.Waiting.{StandsAt, AreWaiting}
 use Rattle.cts_elmore.specs.Subtrees.{IsSubtree, IsSubtreeInRange, IsKnownBelow, IsBranch, PairOrOver}
+use Rattle.cts_elmore.proofs.LeafLoads.{taken_leaf}
 use Rattle.cts_elmore.proofs.Rising.{subtree_in_range, leaf_is, pair_is, pair_over}
 use Rattle.cts_postorder.proofs.Waiting.{AtPair, waiting_at_leaf, waiting_at_pair, two_wait}
 
@@ -48,6 +49,12 @@ pub stood : {N V : Type 0} (kids : N → Option (ℕ × ℕ)) (R : BinaryTree N 
     (t : BinaryTree N) (v : V) → slice_get (trees_of kids nodes) number ≡ Some t → StandsAt kids nodes R number v → R t v
 stood kids R nodes number t v found is = subst (λ o. IfSome o (λ u. R u v)) found is
 
+-- a sink that is named stands in the list
+named_within : (sinks : List Sink) (k : ℕ) (Q : Sink → Type 0) (o : Option Sink) → slice_get sinks k ≡ o → IsSomeAnd o Q
+    → k < length sinks
+named_within sinks k Q None found h = absurd h
+named_within sinks k Q (Some s) found h = slice_get_within sinks k s found
+
 -- An instance, the nodes of a tree that fits it, and the subtrees that wait at number k.
 module _ (i : Parts) (valid : IsValid i) (nodes : List TreeNode) (ok : IsPostOrder (map tree_children nodes))
     (fits : FitsInstance i nodes) (k : ℕ) (h : k < length nodes) (waiting : List Subtree)
@@ -63,17 +70,24 @@ module _ (i : Parts) (valid : IsValid i) (nodes : List TreeNode) (ok : IsPostOrd
 
   -- a leaf
   module _ (id sink : ℕ) (e : TreeNode) (here : (get_or nodes k e).kind ≡ Leaf id sink) where
-    pub leaf_here_is : (capacitances : List ℕ) → capacitances ≡ map (sink_load i) nodes → (d : ℕ) (s : Subtree)
-        → s ≡ record { below = get_or capacitances k d; seen = get_or capacitances k d; wires = 0; greatest = 0; least = 0; residue = 0; bound = 0 }
-        → Here s
-    leaf_here_is capacitances capacitances_are d s is =
-        let cap : get_or capacitances k d ≡ sink_load i (get_or nodes k e) =
-        ap (λ cs. get_or cs k d) capacitances_are ∙ get_or-map (sink_load i) nodes k e d h in
-        let tree : get_or trees k (tip e) ≡ tip (get_or nodes k e) =
-        leaf_here tree_children (IsSubtree i) nodes k e (tip e) h (ap children_of here) in
-        stands tree_children (IsSubtree i) nodes k (tip (get_or nodes k e)) s
-        (slice_get-get_or trees k (tip e) (omega (arith, h, length-trees_of tree_children nodes)) ∙ ap Some tree)
-        (leaf_is i (get_or nodes k e) s (get_or capacitances k d) cap (ap buffer_of here) is)
+    -- takes the next of the capacitances that are left
+    module _ (loads rest : List ℕ) (cap : ℕ) (taken : loads ≡ cap ∷ rest) (are : loads ≡ leaf_loads i (drop k nodes)) where
+      same : cap ∷ rest ≡ sink_load i (get_or nodes k e) ∷ leaf_loads i (drop (k + 1) nodes)
+      same =
+          let named : NamesSink i.sinks (Leaf id sink) = subst (NamesSink i.sinks) here (fits.sinks k e h) in
+          sym taken ∙ taken_leaf i nodes k e h loads are id sink here
+          (named_within i.sinks sink (λ (of : Sink). of.id ≡ id) (slice_get i.sinks sink) refl named)
+
+      pub leaf_here_is : (s : Subtree)
+          → s ≡ record { below = cap; seen = cap; wires = 0; greatest = 0; least = 0; residue = 0; bound = 0 } → Here s
+      leaf_here_is s is =
+          let all : cap ∷ rest ≡ sink_load i (get_or nodes k e) ∷ leaf_loads i (drop (k + 1) nodes) = same in
+          let load : cap ≡ sink_load i (get_or nodes k e) = cc in
+          let tree : get_or trees k (tip e) ≡ tip (get_or nodes k e) =
+          leaf_here tree_children (IsSubtree i) nodes k e (tip e) h (ap children_of here) in
+          stands tree_children (IsSubtree i) nodes k (tip (get_or nodes k e)) s
+          (slice_get-get_or trees k (tip e) (omega (arith, h, length-trees_of tree_children nodes)) ∙ ap Some tree)
+          (leaf_is i (get_or nodes k e) s cap load (ap buffer_of here) is)
 
     pub leaf_next : (s : Subtree) → Here s → AreWaiting tree_children nodes (IsSubtree i) (k + 1) (waiting ++ s ∷ [])
     leaf_next s is = waiting_at_leaf tree_children nodes (IsSubtree i) k e h waiting before (ap children_of here) s is

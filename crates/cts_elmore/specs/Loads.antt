@@ -1,6 +1,6 @@
 -- Loads of a clock tree, in zF: the sums of the capacitances that a point drives.
-use Rattle.std.specs.Prelude.{ℕ, ◌+◌, ◌*◌, Bool, List, [], ◌∷◌, ◌++◌, sum_by, slice_get, Option, None, is_some, if◌then◌else◌}
-use Rattle.std.specs.Option.{option_and_then, option_map_or}
+use Rattle.std.specs.Prelude.{ℕ, ◌+◌, ◌*◌, Bool, List, [], ◌∷◌, ◌++◌, sum_by, filter_map, slice_get, Option, None, is_some, if◌then◌else◌}
+use Rattle.std.specs.Option.{option_and_then, option_map, option_map_or}
 use Rattle.cts_units.specs.declared.params.Buffer.{Buffer}
 use Rattle.cts_postorder.specs.BinaryTree.{BinaryTree, tip, fork, label}
 use Rattle.cts_tree.specs.declared.nodes.TreeNode.{TreeNode}
@@ -11,6 +11,13 @@ module _ (i : Parts) where
   -- the capacitance of a leaf's sink
   abbrev pub sink_load : TreeNode → ℕ
   sink_load node = option_map_or (λ sink. sink.cap) (option_and_then (slice_get i.sinks) (leaf_sink node.kind)) 0
+
+  -- the same where a node is a leaf, and of a list of nodes those of its leaves, in their order
+  abbrev pub leaf_load : TreeNode → Option ℕ
+  leaf_load node = option_map (λ sink. sink.cap) (option_and_then (slice_get i.sinks) (leaf_sink node.kind))
+
+  abbrev pub leaf_loads : List TreeNode → List ℕ
+  leaf_loads nodes = filter_map leaf_load nodes
 
   -- the buffer at a pair, of those in the library
   abbrev pub buffer_at : BinaryTree TreeNode → Option Buffer

@@ -2,7 +2,8 @@
 //!
 //! A layer above takes the [`Figures`] of a tree that is within the limits of wires, loads and delays by
 //! [`measure`], and asks by [`try_measure`] of a tree that anybody made whether it is, and for its figures.
-//! Both ask for a tree that names the instance's sinks and buffers, `specs/Fits.antt`. A layer above
+//! Both ask for a tree that names the instance's sinks and buffers, `specs/Fits.antt`. Where a layer needs
+//! the [`capacitances`] of the leaves itself, it lists them once, and measures by [`measure_with`]. A layer above
 //! cites `specs/Figures.antt` for what figures are: `Loads` has the sums over what a point drives, `Delays`
 //! the sums over a node's path from the source, `Skew` residues, skew and bound over the leaves, and
 //! `Limits` what is over the limits of a tree and what meets those of an instance.
@@ -11,6 +12,7 @@
 //! adds to its parts and hands down to them, and that the skew is at most the bound.
 #![tactic(auto)]
 
+mod capacitance;
 mod descent;
 mod drive;
 mod figures;
@@ -18,8 +20,9 @@ pub mod laws;
 mod measurement;
 mod subtree;
 
+pub use capacitance::capacitances;
 pub use figures::{Figures, NodeFigure, NodeFigures};
-pub use measurement::{Measured, measure, try_measure};
+pub use measurement::{Measured, measure, measure_with, try_measure};
 
 #[cfg(test)]
 mod tests;

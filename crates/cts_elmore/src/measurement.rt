@@ -7,9 +7,11 @@ ghost use Rattle.cts_tree.specs.Nodes.{tree_children};
 ghost use Rattle.cts_elmore.specs.Figures.{AreFigures, AreFiguresInRange};
 ghost use Rattle.cts_elmore.specs.Fits.{FitsInstance};
 ghost use Rattle.cts_elmore.specs.Limits.{IsWithinLimits};
+ghost use Rattle.cts_elmore.specs.Loads.{leaf_loads};
 ghost use Rattle.cts_elmore.specs.Measurement.{IsMeasured};
 ghost use Rattle.cts_elmore.specs.Subtrees.{DriveOrOver, IsKnownBelow, IsSubtree};
 
+use crate::capacitance::capacitances;
 use crate::descent::descend;
 use crate::drive::{Drive, drive_root};
 use crate::figures::{Figures, NodeFigure, NodeFigures};
@@ -43,7 +45,28 @@ pub fn measure(alloc: Global, instance: &Instance, tree: &Tree) -> Result<Figure
     ensures one_each { IfOk result (λ figures. length figures.nodes ≡ length tree.now) }
     ensures in_range { IfOk result AreFiguresInRange }
 {
-    match try_measure(alloc, instance, tree)? {
+    let capacitances = capacitances(alloc, instance, tree.nodes())?;
+    measure_with(alloc, instance, tree, capacitances.as_slice())
+}
+
+/// The figures of a tree that is within the limits, as [`measure`] answers them, where the
+/// [`capacitances`] of its leaves are listed already, in zF, in the order of the leaves.
+///
+/// The list doesn't depend on the lengths of the wires: that of a placed tree is that of the balanced one.
+pub fn measure_with(
+    alloc: Global,
+    instance: &Instance,
+    tree: &Tree,
+    capacitances: &[u64],
+) -> Result<Figures, NoMemory>
+    requires fits { FitsInstance instance.now tree.now }
+    requires within { IsWithinLimits instance.now tree.now }
+    requires capacitances { capacitances.now ≡ leaf_loads instance.now tree.now }
+    ensures figures { IfOk result (AreFigures instance.now tree.now) }
+    ensures one_each { IfOk result (λ figures. length figures.nodes ≡ length tree.now) }
+    ensures in_range { IfOk result AreFiguresInRange }
+{
+    match try_measure_with(alloc, instance, tree, capacitances)? {
         Measured::Within { figures } => Ok(figures),
         Measured::Over { .. } => unreachable!(),
     }
@@ -61,8 +84,23 @@ pub fn try_measure(alloc: Global, instance: &Instance, tree: &Tree) -> Result<Me
     requires { FitsInstance instance.now tree.now }
     ensures { IfOk result (IsMeasured instance.now tree.now) }
 {
+    let capacitances = capacitances(alloc, instance, tree.nodes())?;
+    try_measure_with(alloc, instance, tree, capacitances.as_slice())
+}
+
+/// The same with the capacitances of the leaves' sinks, in zF, in the order of the leaves.
+fn try_measure_with(
+    alloc: Global,
+    instance: &Instance,
+    tree: &Tree,
+    capacitances: &[u64],
+) -> Result<Measured, NoMemory>
+    requires fits { FitsInstance instance.now tree.now }
+    requires capacitances { capacitances.now ≡ leaf_loads instance.now tree.now }
+    ensures { IfOk result (IsMeasured instance.now tree.now) }
+{
     let nodes = tree.nodes();
-    let (root, known) = match gather(alloc, instance, nodes)? {
+    let (root, known) = match gather(alloc, instance, nodes, capacitances)? {
         Gathered::Within { root, figures } => (root, figures),
         Gathered::Over { node } => return Ok(Measured::Over { node }),
     };

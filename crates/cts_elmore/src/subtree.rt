@@ -1,12 +1,12 @@
 //! A pass upward: what is known of each subtree when the pair above it is reached.
 
-ghost use Rattle.std.specs.Prelude.{◌≡◌, ◌+◌, ◌<◌, ◌≤◌, ◌++◌, ◌∷◌, [], map, length, vec_len, slice_get, IfSome, IfNone, IfOk, MatchOption};
-ghost use Rattle.std.specs.Option.{option_and_then, option_map_or};
+ghost use Rattle.std.specs.Prelude.{◌≡◌, ◌+◌, ◌<◌, ◌≤◌, ◌++◌, ◌∷◌, [], map, drop, length, vec_len, slice_get, IfSome, IfNone, IfOk, MatchOption};
+ghost use Rattle.std.specs.Slice.Iter.{iter_rest};
 ghost use Rattle.cts_units.specs.Limits.{IsParams, IsWire, max_length};
 ghost use Rattle.cts_postorder.specs.PostOrder.{IsPostOrder, trees_of};
-ghost use Rattle.cts_tree.specs.Nodes.{leaf_sink, tree_children};
-ghost use Rattle.cts_elmore.specs.Fits.{FitsInstance, NamesSink};
-ghost use Rattle.cts_elmore.specs.Loads.{sink_load};
+ghost use Rattle.cts_tree.specs.Nodes.{tree_children};
+ghost use Rattle.cts_elmore.specs.Fits.{FitsInstance};
+ghost use Rattle.cts_elmore.specs.Loads.{leaf_loads};
 ghost use Rattle.cts_elmore.specs.Limits.{IsPairOver};
 ghost use Rattle.cts_elmore.specs.Subtrees.{IsBranch, IsBranchInRange, IsSubtree, IsSubtreeInRange, IsGathered, PairOrOver};
 ghost use Rattle.cts_postorder.specs.Waiting.{AreWaiting, StandsAt};
@@ -15,8 +15,9 @@ use crate::figures::NodeFigure;
 use cts_instance::Instance;
 use cts_num::NoMemory;
 use cts_tree::{NodeKind, TreeNode};
-use cts_units::{MAX_DELAY, MAX_LENGTH, MAX_LOAD, Params, Sink, Wire, buffer_delay, wire_delay};
+use cts_units::{MAX_DELAY, MAX_LENGTH, MAX_LOAD, Params, Wire, buffer_delay, wire_delay};
 use std::alloc::Global;
+use std::slice;
 
 /// What is known of a subtree. Loads are in zF, lengths in nm, and delays doubled, in 10^-27 s.
 #[derive(Clone, Copy)]
@@ -129,61 +130,35 @@ fn take_pair(waiting: &mut Vec<Subtree>) -> (Subtree, Subtree)
     (first, second)
 }
 
-/// The capacitance in zF of the sink that a node of this kind names, and 0 at a pair.
-fn capacitance(sinks: &[Sink], kind: NodeKind) -> u64
-    requires kind { NamesSink sinks.now kind }
-    ensures { result ≡ option_map_or (λ sink. sink.cap) (option_and_then (slice_get sinks.now) (leaf_sink kind)) 0 }
-{
-    match kind {
-        NodeKind::Leaf { sink, .. } => sinks[sink as usize].cap,
-        NodeKind::Pair { .. } => 0,
-    }
-}
-
-/// The capacitance in zF of each leaf's sink, by number of node, and 0 at a pair.
-///
-/// The sinks stand in memory in another order than the leaves, so that each look-up takes as long as a read
-/// from memory. In a loop that does nothing else these reads overlap; the branches of a pass upward would
-/// wait for each of them.
-fn capacitances(
-    alloc: Global,
-    instance: &Instance,
-    nodes: &[TreeNode],
-) -> Result<Vec<u64>, NoMemory>
-    requires fits { FitsInstance instance.now nodes.now }
-    ensures { IfOk result (λ capacitances. capacitances.items ≡ map (sink_load instance.now) nodes.now) }
-{
-    let sinks = instance.sinks();
-    let mut capacitances = Vec::with_capacity(alloc, nodes.len())?;
-    for node in nodes {
-        capacitances.push(capacitance(sinks, node.kind))?;
-    }
-    Ok(capacitances)
-}
-
 /// The subtree at a number, by those that wait for the pair above them, or `None` exactly where it is a
 /// pair that is over the limits. A pair's parts no longer wait. The capacitances are those of the leaves'
-/// sinks, in zF, by number of node.
+/// sinks that are left, in zF; a leaf takes the next one.
 fn subtree_at(
     instance: &Instance,
     nodes: &[TreeNode],
-    capacitances: &[u64],
+    capacitances: &mut slice::Iter<'_, u64>,
     number: usize,
     waiting: &mut Vec<Subtree>,
 ) -> Option<Subtree>
     requires post_order { IsPostOrder (map tree_children nodes.now) }
     requires fits { FitsInstance instance.now nodes.now }
-    requires capacitances { capacitances.now ≡ map (sink_load instance.now) nodes.now }
+    requires capacitances { iter_rest capacitances.old ≡ leaf_loads instance.now (drop number nodes.now) }
     requires number { number < length nodes.now }
     requires before { AreWaiting tree_children nodes.now (IsSubtree instance.now) number waiting.old.items }
     ensures here { IfSome result (StandsAt tree_children nodes.now (IsSubtree instance.now) number) }
     ensures next { IfSome result (λ s.
         AreWaiting tree_children nodes.now (IsSubtree instance.now) (number + 1) (waiting.new.items ++ s ∷ [])) }
+    ensures left { IfSome result (λ _. iter_rest capacitances.new ≡ leaf_loads instance.now (drop (number + 1) nodes.now)) }
     ensures over { IfNone result (IfSome (slice_get (trees_of tree_children nodes.now) number) (IsPairOver instance.now)) }
 {
     let params = instance.params();
     match nodes[number].kind {
-        NodeKind::Leaf { .. } => Some(leaf(capacitances[number])),
+        NodeKind::Leaf { .. } => {
+            let Some(capacitance) = capacitances.next() else {
+                unreachable!()
+            };
+            Some(leaf(*capacitance))
+        }
         NodeKind::Pair {
             left,
             right,
@@ -211,23 +186,24 @@ pub enum Gathered {
     },
 }
 
-/// The figures of a tree that are known from below, or its first pair that is over the limits.
-pub fn gather(alloc: Global, instance: &Instance, nodes: &[TreeNode]) -> Result<Gathered, NoMemory>
+/// The figures of a tree that are known from below, or its first pair that is over the limits. The
+/// capacitances are those of the leaves' sinks, in zF, in the order of the leaves.
+pub fn gather(
+    alloc: Global,
+    instance: &Instance,
+    nodes: &[TreeNode],
+    capacitances: &[u64],
+) -> Result<Gathered, NoMemory>
     requires post_order { IsPostOrder (map tree_children nodes.now) }
     requires fits { FitsInstance instance.now nodes.now }
+    requires capacitances { capacitances.now ≡ leaf_loads instance.now nodes.now }
     ensures { IfOk result (IsGathered instance.now nodes.now) }
 {
-    let capacitances = capacitances(alloc, instance, nodes)?;
     let mut figures = Vec::with_capacity(alloc, nodes.len())?;
+    let mut left = capacitances.iter();
     let mut waiting = Vec::new(alloc);
     for number in 0..nodes.len() {
-        let Some(subtree) = subtree_at(
-            instance,
-            nodes,
-            capacitances.as_slice(),
-            number,
-            &mut waiting,
-        ) else {
+        let Some(subtree) = subtree_at(instance, nodes, &mut left, number, &mut waiting) else {
             return Ok(Gathered::Over {
                 node: number as u32,
             });

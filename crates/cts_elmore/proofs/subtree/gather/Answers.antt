@@ -22,6 +22,7 @@ loop-number-preserved c = (
       (sym c.in_ok-push-2.ensures.items)
       (known_next c.args.instance.now c.args.nodes.now c.loop-number.number c.loop-number-test.true c.loop-number.figures.items
       (c.loop-number.invariant.1) c.in-Some.subtree c.in-Some.ensures.here _ refl refl),
+  c.in-Some.ensures.left,
 )
 
 pub unreachable-requires : goal.unreachable-requires

@@ -1,4 +1,5 @@
 use Rattle.std.proofs.Common.{arith}
+use Rattle.std.specs.Slice.Iter.{iter_rest}
 use Rattle.cts_elmore.proofs.Node.{if_none, leaf_here_is, leaf_next, left_within, right_within, two_ready, left_in_range, right_in_range, over_by_left, over_by_right, pair_here, pair_next, pair_fails}
 use Rattle.cts_elmore.proofs.subtree.subtree_at.Goals as goal
 
@@ -58,18 +59,20 @@ returns-in_err-b-in-Pair-clause-over c =
     c.take_pair.new.waiting.items c.take_pair.result.0 c.take_pair.result.1 c.take_pair.ensures
     _ c.in_err-b-in-Pair.ensures.branch)
 
-pub returns-in-Leaf-clause-here : goal.returns-in-Leaf-clause-here
-returns-in-Leaf-clause-here c =
+pub returns-in-Some-clause-here : goal.returns-in-Some-clause-here
+returns-in-Some-clause-here c =
     leaf_here_is c.args.instance.now c.params-params.ensures.valid c.args.nodes.now c.requires.post_order c.requires.fits c.args.number c.requires.number
-    c.args.waiting.now.items c.requires.before c.in-Leaf.id c.in-Leaf.sink _ c.in-Leaf.is c.args.capacitances.now c.requires.capacitances _
+    c.args.waiting.now.items c.requires.before c.in-Leaf.id c.in-Leaf.sink _ c.in-Leaf.is
+    (iter_rest c.args.capacitances.now) (iter_rest c.next.new.self) c.in-Some.capacitance.now c.in-Some.ensures.steps c.requires.capacitances
     c.leaf.result c.leaf.ensures
 
-pub returns-in-Leaf-clause-next : goal.returns-in-Leaf-clause-next
-returns-in-Leaf-clause-next c =
+pub returns-in-Some-clause-next : goal.returns-in-Some-clause-next
+returns-in-Some-clause-next c =
     leaf_next c.args.instance.now c.params-params.ensures.valid c.args.nodes.now c.requires.post_order c.requires.fits c.args.number c.requires.number
     c.args.waiting.now.items c.requires.before c.in-Leaf.id c.in-Leaf.sink _ c.in-Leaf.is c.leaf.result
     (leaf_here_is c.args.instance.now c.params-params.ensures.valid c.args.nodes.now c.requires.post_order c.requires.fits c.args.number c.requires.number
-    c.args.waiting.now.items c.requires.before c.in-Leaf.id c.in-Leaf.sink _ c.in-Leaf.is c.args.capacitances.now c.requires.capacitances _
+    c.args.waiting.now.items c.requires.before c.in-Leaf.id c.in-Leaf.sink _ c.in-Leaf.is
+    (iter_rest c.args.capacitances.now) (iter_rest c.next.new.self) c.in-Some.capacitance.now c.in-Some.ensures.steps c.requires.capacitances
     c.leaf.result c.leaf.ensures)
 
 pub returns-in_ok-b-in-Pair-clause-here : goal.returns-in_ok-b-in-Pair-clause-here

@@ -9,7 +9,7 @@ use Rattle.cts_elmore.specs.Figures.{AreFigures}
 use Rattle.cts_elmore.specs.Limits.{IsOver, IsWithinLimits}
 use Rattle.cts_elmore.specs.Subtrees.{IsGathered}
 use Rattle.cts_elmore.proofs.Ends.{first_pair_over, root_over, none_over}
-use Rattle.cts_elmore.proofs.measurement.try_measure.Goals as goal
+use Rattle.cts_elmore.proofs.measurement.try_measure_with.Goals as goal
 
 pub returns-in-Over : goal.returns-in-Over
 returns-in-Over c =
