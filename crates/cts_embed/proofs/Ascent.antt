@@ -1,5 +1,5 @@
 -- The pass of the balance from the leaves up: it keeps a balance of each tree that waits, and sets the wires below each pair.
-use Rattle.std.proofs.Common.{◌≡◌, ℕ, ◌+◌, ◌-◌, ◌<◌, ◌≤◌, List, [], ◌∷◌, ◌++◌, map, set, take, length, get_or, slice_get, Option, Some, MatchOption, refl, sym, ap, subst, ◌∙◌, arith, length-set}
+use Rattle.std.proofs.Common.{◌≡◌, ℕ, ◌+◌, ◌-◌, ◌<◌, ◌≤◌, List, [], ◌∷◌, ◌++◌, map, set, take, drop, length, get_or, slice_get, Option, Some, MatchOption, refl, sym, ap, subst, ◌∙◌, arith, length-set}
 use Rattle.std.specs.Prelude.{IfSome}
 use Rattle.std.specs.List.{AllZip}
 use Rattle.std.proofs.lemmas.List.{length-map}
@@ -18,14 +18,15 @@ use Rattle.cts_tree.specs.declared.nodes.TreeNode.{TreeNode}
 use Rattle.cts_tree.specs.Nodes.{tree_children}
 use Rattle.cts_instance.specs.declared.parts.Parts.{Parts}
 use Rattle.cts_instance.specs.Validity.{IsValid}
+use Rattle.cts_elmore.specs.Loads.{leaf_loads}
+use Rattle.cts_elmore.proofs.LeafLoads.{taken_pair}
 use Rattle.cts_embed.specs.declared.node.NodeBalance.{NodeBalance}
 use Rattle.cts_embed.specs.Balance.{IsBalance, IsBeyondBalance, IsLeafBalance, IsPairBalance, IsPairBeyond}
 use Rattle.cts_embed.specs.BalancedTree.{IsBalancedNode}
-use Rattle.cts_embed.specs.Capacitances.{caps_of}
 use Rattle.cts_embed.specs.Fitting.{Fits}
 use Rattle.cts_embed.specs.Range.{IsInRange}
 use Rattle.cts_embed.proofs.Assembled.{assembled}
-use Rattle.cts_embed.proofs.Capacitances.{cap_read, caps_small}
+use Rattle.cts_embed.proofs.Capacitances.{some_left, load_taken, loads_left, caps_small}
 use Rattle.cts_embed.proofs.HandedDown.{AreWired, wired_at_start, wired_at_leaf, wired_at_pair, wired_all}
 use Rattle.cts_embed.proofs.Steps as steps
 use Rattle.cts_embed.proofs.Steps.{tree_found, stood}
@@ -95,26 +96,39 @@ module _ (parts : Parts) (nodes : List TreeNode) (ok : IsPostOrder (map tree_chi
           (λ t b. balanced_not_beyond parts.params parts.sinks t b) nodes ascent.balances k here ascent.balanced found
           (subst (λ o. IfSome o (IsBeyondBalance parts.params parts.sinks)) found beyond)
 
-      -- at a leaf, whose capacitance is read of the list of them
-      pub ascent_at_leaf : Fits parts nodes → (caps : List ℕ) → caps ≡ caps_of parts.sinks nodes → (id s : ℕ) (e : TreeNode)
-          → (get_or now k e).kind ≡ Leaf id s → (d : Sink) (z : ℕ) (leaf : NodeBalance)
-          → ((sink : Sink) → sink.cap ≡ get_or caps k z → IsLeafBalance sink leaf)
-          → IsAscent parts nodes (k + 1) (waiting ++ leaf ∷ []) now
-      ascent_at_leaf fits caps caps_are id s e read d z leaf is =
-          let kind : (get_or nodes k e).kind ≡ Leaf id s = kind_read nodes now ascent.same k e h (Leaf id s) read in
-          let within : s < length parts.sinks =
-          steps.leaf_names (length parts.sinks) (length parts.params.library) id s _ kind (fits.names k e h) in
-          let of_sink : IsLeafBalance (get_or parts.sinks s d) leaf =
-          is (get_or parts.sinks s d) (cap_read parts.sinks nodes caps caps_are k e z h id s kind d within) in
-          ascent_next waiting leaf now
-          (steps.leaf_stands parts.params parts.sinks nodes ok k h waiting ascent.waits id s e kind within d leaf of_sink)
-          (steps.leaf_next parts.params parts.sinks nodes ok k h waiting ascent.waits id s e kind within d leaf of_sink)
-          (wired_at_leaf parts nodes ok k (wires_of now) ascent.wired e h id s kind) ascent.same
+      -- at a leaf, which takes the next of the capacitances that are left
+      module _ (fits : Fits parts nodes) (loads : List ℕ) (are : loads ≡ leaf_loads parts (drop k nodes)) (id s : ℕ) (e : TreeNode)
+          (read : (get_or now k e).kind ≡ Leaf id s) where
+        leaf : (get_or nodes k e).kind ≡ Leaf id s
+        leaf = kind_read nodes now ascent.same k e h (Leaf id s) read
+
+        pub load_waits : 1 ≤ length loads
+        load_waits = some_left parts nodes fits k e h loads are id s leaf
+
+        module _ (load : ℕ) (rest : List ℕ) (taken : loads ≡ load ∷ rest) where
+          pub loads_after_leaf : rest ≡ leaf_loads parts (drop (k + 1) nodes)
+          loads_after_leaf = loads_left parts nodes fits k e h loads are id s leaf load rest taken
+
+          pub ascent_at_leaf : (d : Sink) (balance : NodeBalance) → ((sink : Sink) → sink.cap ≡ load → IsLeafBalance sink balance)
+              → IsAscent parts nodes (k + 1) (waiting ++ balance ∷ []) now
+          ascent_at_leaf d balance is =
+              let within : s < length parts.sinks =
+              steps.leaf_names (length parts.sinks) (length parts.params.library) id s _ leaf (fits.names k e h) in
+              let of_sink : IsLeafBalance (get_or parts.sinks s d) balance =
+              is (get_or parts.sinks s d) (load_taken parts nodes fits k e h loads are id s leaf load rest taken d) in
+              ascent_next waiting balance now
+              (steps.leaf_stands parts.params parts.sinks nodes ok k h waiting ascent.waits id s e leaf within d balance of_sink)
+              (steps.leaf_next parts.params parts.sinks nodes ok k h waiting ascent.waits id s e leaf within d balance of_sink)
+              (wired_at_leaf parts nodes ok k (wires_of now) ascent.wired e h id s leaf) ascent.same
 
       -- at a pair
       module _ (l r : ℕ) (buffer : Option ℕ) (e : TreeNode) (read : (get_or now k e).kind ≡ Pair l r buffer) where
         kind : (get_or nodes k e).kind ≡ Pair l r buffer
         kind = kind_read nodes now ascent.same k e h (Pair l r buffer) read
+
+        -- which takes none of the capacitances
+        pub loads_after_pair : (loads : List ℕ) → loads ≡ leaf_loads parts (drop k nodes) → loads ≡ leaf_loads parts (drop (k + 1) nodes)
+        loads_after_pair loads are = taken_pair parts nodes k e h loads are l r buffer kind
 
         left_below : l < length nodes
         left_below = steps.left_within parts.params parts.sinks nodes ok k h waiting ascent.waits l r buffer e kind

@@ -12,12 +12,12 @@ pub mod Assembled
 pub mod FreePlaces
 pub mod NodeKinds
 pub mod Grounds
-pub mod Fronts
 pub mod Wired
 pub mod Starts
 pub mod Descent
 pub mod LeafIds
 pub mod Stands
+pub mod SitesOfPlans
 pub mod PlacedFits
 pub mod OnePlace
 pub mod Reach

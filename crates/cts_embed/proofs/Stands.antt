@@ -1,5 +1,5 @@
 -- What a node is and where it stands, under the names that the code gives to sinks.
-use Rattle.std.proofs.Common.{◌≡◌, ◌↔◌, ℕ, ℤ, ◌<◌, List, length, get_or, slice_get, Option, None, Some, refl, sym, ap, subst, ◌∙◌, arith}
+use Rattle.std.proofs.Common.{◌≡◌, ◌↔◌, ℕ, ℤ, ◌<◌, Bool, List, length, get_or, slice_get, Option, None, Some, refl, sym, ap, subst, ◌∙◌, arith}
 use Rattle.std.specs.Option.{MatchOption, option_map}
 use Rattle.std.proofs.lemmas.Int.{ints}
 use Rattle.cts_geom.specs.declared.regions.Region.{Region}
@@ -7,10 +7,12 @@ use Rattle.cts_geom.specs.Coordinate.{IsCoordinate}
 use Rattle.cts_geom.specs.Regions.{ContainsSpot, IsRegionInRange}
 use Rattle.cts_geom.specs.declared.points.Spot.{Spot}
 use Rattle.cts_geom.specs.Points.{IsSpotInRange, spot_at}
+use Rattle.cts_block.specs.FreeMap.{Floorplan}
+use Rattle.cts_block.specs.NearestFree.{IsNearestFree}
 use Rattle.cts_units.specs.declared.params.Params.{Params}
 use Rattle.cts_units.specs.declared.params.Sink.{Sink}
 use Rattle.cts_instance.specs.declared.parts.Parts.{Parts}
-use Rattle.cts_instance.specs.Validity.{IsSink, IsValid}
+use Rattle.cts_instance.specs.Validity.{IsDie, IsSink, IsValid}
 use Rattle.cts_topo.specs.declared.shape.ShapeNode.{ShapeNode}
 use Rattle.cts_topo.specs.declared.shape.ShapeNode.TheVariants.{Leaf, Pair}
 use Rattle.cts_postorder.specs.BinaryTree.{BinaryTree, tip}
@@ -22,19 +24,19 @@ use Rattle.cts_topo.specs.Shape.{children}
 use Rattle.cts_up.specs.Sinks.{AreSinksInRange}
 use Rattle.cts_up.specs.Plan.{IsFinished, IsPlan}
 use Rattle.cts_up.proofs.Sides.{sides_merge}
-use Rattle.cts_tree.specs.declared.nodes.TreeNode.{TreeNode}
-use Rattle.cts_embed.specs.PlacedTree.{IsCutFrom, IsPlacedFrom}
 use Rattle.cts_merge.specs.declared.side.Finished.{Finished}
 use Rattle.cts_merge.specs.Merge.{IsLeaf}
 use Rattle.cts_tree.specs.declared.nodes.NodeKind.TheVariants as kinds
 use Rattle.cts_embed.specs.Leaves.{IsIdOf, IsLeafOf}
 use Rattle.cts_embed.specs.Places.{IsNodePlace, IsPairPlace, kind_of}
-use Rattle.cts_embed.proofs.FreePlaces.{in_die_in_range}
-use Rattle.cts_embed.proofs.Starts.{place_in_die}
+use Rattle.cts_embed.specs.Prepared.{IsFreeMapOf}
+use Rattle.cts_embed.proofs.FreePlaces.{in_die_in_range, nearest_in_die}
 
-pub place_in_range : (parts : Parts) (n : ShapeNode) (f : Finished) (from place : Spot) → IsValid parts
-    → IsNodePlace parts n f from place → IsSpotInRange place
-place_in_range parts n f from place ok is = in_die_in_range parts.die place ok.die (place_in_die parts n f from place ok is)
+-- a free point that a map finds
+pub free_in_range : (parts : Parts) (free : Floorplan) → IsFreeMapOf parts free → (buffered : Bool) (at place : Spot)
+    → IsNearestFree free.blocks free.die buffered at place → IsSpotInRange place
+free_in_range parts free map buffered at place is =
+    in_die_in_range free.die place (subst IsDie (sym map.die) map.valid.die) (nearest_in_die free.blocks free.die buffered at place is)
 
 -- a leaf, by the id of the sink that it names
 pub leaf_kind_is : (sinks : List Sink) (s id : ℕ) (n : ShapeNode) → n ≡ Leaf s → (buffer : Option ℕ) → IsIdOf sinks n id
@@ -138,15 +140,3 @@ leaf_at params sinks nodes plan all k f d e h read = by_node (get_or nodes k e) 
     by_node : (n : ShapeNode) → get_or nodes k e ≡ n → IsLeafOf sinks n f
     by_node (Leaf s) here = at_leaf s here
     by_node (Pair l r) here = tt
-
--- what is placed from values that are read from lists
-pub placed_read : (parts : Parts) (n : ShapeNode) (f g : Finished) (from start : Spot) (node : TreeNode) → f ≡ g → from ≡ start
-    → IsPlacedFrom parts n f from node → IsPlacedFrom parts n g start node
-placed_read parts n f g from start node same_node same_start placed =
-    subst (λ (x : Finished). IsPlacedFrom parts n x start node) same_node
-    (subst (λ (x : Spot). IsPlacedFrom parts n f x node) same_start placed)
-
-pub cut_read : (parts : Parts) (n : ShapeNode) (f g : Finished) (from start : Spot) → f ≡ g → from ≡ start
-    → IsCutFrom parts n f from → IsCutFrom parts n g start
-cut_read parts n f g from start same_node same_start cut =
-    subst (λ (x : Finished). IsCutFrom parts n x start) same_node (subst (λ (x : Spot). IsCutFrom parts n f x) same_start cut)

@@ -1,22 +1,23 @@
 -- Where routes start, handed down from each pair to its two parts, and the nodes that are placed from there.
-use Rattle.std.proofs.Common.{◌≡◌, ℕ, ℤ, ◌+◌, ◌-◌, ◌<◌, ◌≤◌, List, [], ◌∷◌, ◌++◌, map, set, drop, reverse, length, get_or, slice_get, Option, Some, None, refl, sym, ap, subst, ◌∙◌, arith}
+use Rattle.std.proofs.Common.{◌≡◌, ℕ, ℤ, ◌+◌, ◌-◌, ◌<◌, ◌≤◌, List, [], ◌∷◌, ◌++◌, append_assoc, map, drop, length, get_or, slice_get, Option, Some, None, refl, sym, ap, subst, ◌∙◌, arith}
 use Rattle.std.specs.List.{AllZip}
 use Rattle.std.specs.Option.{MatchOption}
 use Rattle.std.proofs.lemmas.Int.{ints}
-use Rattle.std.proofs.lemmas.List.{get_or_default, reverse-append, drop_more, drop_all}
+use Rattle.std.proofs.lemmas.List.{drop_more, drop_all}
 use Rattle.std.proofs.lemmas.Option.{get_or_from_slice_get, slice_get_within}
-use Rattle.std.proofs.lemmas.Slice.Zip.{AllZip-long}
 use Rattle.cts_geom.specs.declared.points.Spot.{Spot}
 use Rattle.cts_geom.specs.Points.{IsSpotInRange, point_of, spot_at}
 use Rattle.cts_block.specs.FreePoints.{IsInDie}
 use Rattle.cts_units.specs.declared.params.Sink.{Sink}
 use Rattle.cts_postorder.specs.BinaryTree.{BinaryTree, tip, fork, label}
 use Rattle.cts_postorder.specs.PostOrder.{IsPostOrder, trees_of}
-use Rattle.cts_postorder.specs.Occurrence.{Occurrence, occurrences_of}
+use Rattle.cts_postorder.specs.Occurrence.{Occurrence, occurrence, occurrences, occurrences_of}
 use Rattle.cts_postorder.proofs.Growth.{length-trees_of, label-tree}
+use Rattle.cts_postorder.proofs.Sizes.{root_number-next}
+use Rattle.cts_postorder.proofs.Places.{get_or-occurrences-root}
 use Rattle.cts_postorder.proofs.Zips.{all_zip-at}
-use Rattle.cts_postorder.proofs.Lists.{IsPair, is_pair, Whole, whole_of, length_pos, length-occurrences_of, trees_of-here}
-use Rattle.cts_postorder.proofs.Downward.{IsSettled, settled_at_start, settled_at_leaf, settled_at_pair, settled_here}
+use Rattle.cts_postorder.proofs.Lists.{IsPair, is_pair, Whole, whole_of, length-occurrences_of, trees_of-here}
+use Rattle.cts_postorder.proofs.Handed.{AreHanded, handed_at_start, some_handed, handed_here, handed_at_leaf, handed_at_pair}
 use Rattle.cts_instance.specs.declared.parts.Parts.{Parts}
 use Rattle.cts_instance.specs.Places.{IsInDie as IsWholeInDie}
 use Rattle.cts_instance.specs.Validity.{IsValid, IsSink}
@@ -65,26 +66,33 @@ pub placed_in_die : (parts : Parts) (n : ShapeNode) (f : Finished) (from : Spot)
     → IsPlacedFrom parts n f from node → IsInDie parts.die (point_of node.place)
 placed_in_die parts n f from node ok is = place_in_die parts n f from node.place ok is.place
 
--- where the route to an occurrence starts
-abbrev pub IsStartOf : Parts → Occurrence ShapeNode → Spot → Type 0
-IsStartOf parts o from = IsRouteStart parts o.above from
+-- where the route to the node of a number starts
+abbrev pub IsStartAt : Parts → List ShapeNode → ℕ → Spot → Type 0
+IsStartAt parts nodes number from =
+    (o : Occurrence ShapeNode) → IsRouteStart parts (get_or (occurrences_of children nodes) number o).above from
 
-module _ (parts : Parts) (nodes : List ShapeNode) (ok : IsPostOrder (map children nodes)) (plan : List Finished)
-    (all : IsPlan parts.params parts.sinks nodes plan) where
-  pub plan_long : length plan ≡ length nodes
-  plan_long =
-      AllZip-long (IsFinished parts.params parts.sinks) (trees_of children nodes) plan all ∙ length-trees_of children nodes
+-- in a pass that has come down to a number, the starts of the nodes before it whose pair is placed
+abbrev pub AreStarts : Parts → List ShapeNode → ℕ → List Spot → Type 0
+AreStarts parts nodes = AreHanded children nodes (IsStartAt parts nodes)
 
+module _ (parts : Parts) (nodes : List ShapeNode) (ok : IsPostOrder (map children nodes)) where
   -- before the first step the root's start is the source
-  pub starts_begin : (starts : List Spot) → length starts ≡ length nodes
-      → ((k : ℕ) (v : Spot) → k < length nodes → get_or starts k v ≡ source_of parts) → (e : ShapeNode)
-      → IsSettled children nodes e (IsStartOf parts) (length nodes) starts
+  pub starts_begin : (starts : List Spot) (source : Spot) → source ≡ source_of parts → starts ≡ source ∷ []
+      → AreStarts parts nodes (length nodes) starts
   unfolding IsRouteStart
-  starts_begin starts long source e =
-      let w : Whole children nodes = whole_of children nodes ok in
-      let some : 0 < length nodes = length_pos children nodes ok in
-      settled_at_start children (IsStartOf parts) nodes ok e (length nodes) starts w.tree w.root_is (omega arith) long
-      (λ v. source (length nodes - 1) v (omega arith))
+  starts_begin starts source source_is are =
+      subst (AreStarts parts nodes (length nodes)) (sym are)
+      (handed_at_start children nodes ok (IsStartAt parts nodes) (label w.tree) source
+      (λ o. subst (λ (q : Occurrence ShapeNode). IsRouteStart parts q.above source) (sym (at_last o)) source_is))
+    where
+      w : Whole children nodes
+      w = whole_of children nodes ok
+
+      at_last : (o : Occurrence ShapeNode) → get_or (occurrences_of children nodes) (length nodes - 1) o ≡ occurrence [] w.tree
+      at_last o =
+          ap (λ os. get_or os (length nodes - 1) o) w.occurrences_are
+          ∙ ap (λ k. get_or (occurrences [] w.tree) k o) (omega (arith, root_number-next 0 w.tree, w.size_is))
+          ∙ get_or-occurrences-root [] w.tree o
 
   label_here : (k : ℕ) (o : Occurrence ShapeNode) (e : ShapeNode) → k < length nodes
       → label (get_or (occurrences_of children nodes) k o).here ≡ get_or nodes k e
@@ -92,138 +100,122 @@ module _ (parts : Parts) (nodes : List ShapeNode) (ok : IsPostOrder (map childre
       ap label (sym (trees_of-here children nodes ok k (tip e) o h))
       ∙ label-tree children nodes k (tip e) e h
 
-  made_here : (k : ℕ) (o : Occurrence ShapeNode) (f : Finished) → k < length nodes
-      → IsFinished parts.params parts.sinks (get_or (occurrences_of children nodes) k o).here (get_or plan k f)
-  made_here k o f h =
-      subst (λ t. IsFinished parts.params parts.sinks t (get_or plan k f)) (trees_of-here children nodes ok k o.here o h)
-      (all_zip-at (IsFinished parts.params parts.sinks) (trees_of children nodes) plan k o.here f all
-      (omega (arith, length-trees_of children nodes)))
-
   -- by the number that a loop counts down from
-  module _ (number : ℕ) (starts : List Spot) (some : 0 < number) (within : number ≤ length nodes)
-      (settled : (e : ShapeNode) → IsSettled children nodes e (IsStartOf parts) number starts) where
-    settled_next : (e : ShapeNode) → IsSettled children nodes e (IsStartOf parts) (number - 1 + 1) starts
-    settled_next e =
-        let next : number - 1 + 1 ≡ number = omega arith in
-        subst (λ n. IsSettled children nodes e (IsStartOf parts) n starts) (sym next) (settled e)
+  module _ (number : ℕ) (some : 0 < number) (within : number ≤ length nodes) (starts : List Spot)
+      (handed : AreStarts parts nodes number starts) where
+    inside : number - 1 < length nodes
+    inside = omega arith
 
-    pub number_in_starts : number - 1 < length starts
-    number_in_starts = let s : IsSettled children nodes (Leaf 0) (IsStartOf parts) number starts = settled (Leaf 0) in omega (arith, s.long)
+    next : number - 1 + 1 ≡ number
+    next = omega arith
 
-    pub number_in_plan : number - 1 < length plan
-    number_in_plan = omega (arith, plan_long)
+    handed_next : AreStarts parts nodes (number - 1 + 1) starts
+    handed_next = subst (λ n. AreStarts parts nodes n starts) (sym next) handed
 
-    pub start_here : (o : Occurrence ShapeNode) (v : Spot)
-        → IsStartOf parts (get_or (occurrences_of children nodes) (number - 1) o) (get_or starts (number - 1) v)
-    start_here o v =
-        settled_here children (IsStartOf parts) nodes ok (Leaf 0) (number - 1) starts (omega arith) (settled_next (Leaf 0)) v o
+    -- there is a start for this node
+    pub some_start : 0 < length starts
+    some_start =
+        some_handed children nodes ok (IsStartAt parts nodes) (number - 1) (Leaf 0) inside starts handed_next
 
-    pub from_in_range : IsValid parts → (v : Spot) → IsSpotInRange (get_or starts (number - 1) v)
-    from_in_range valid v =
-        in_die_in_range parts.die (get_or starts (number - 1) v) valid.die
-        (start_in_die parts (get_or (occurrences_of children nodes) (number - 1) none).above (get_or starts (number - 1) v) valid (start_here none v))
-      where
-        none : Occurrence ShapeNode
-        none = record { above = []; here = tip (Leaf 0) }
+    module _ (rest : List Spot) (from : Spot) (starts_are : starts ≡ rest ++ from ∷ []) where
+      start_here : IsStartAt parts nodes (number - 1) from
+      start_here =
+          handed_here children nodes ok (IsStartAt parts nodes) (number - 1) (Leaf 0) inside starts handed_next rest from starts_are
 
-    -- the node that is placed from there
-    module _ (e : ShapeNode) (f : Finished) (v : Spot) where
-      pub placed_here : (node : TreeNode) (o : Occurrence ShapeNode)
-          → IsPlacedFrom parts (get_or nodes (number - 1) e) (get_or plan (number - 1) f) (get_or starts (number - 1) v) node
-          → IsPlacedNode parts (get_or (occurrences_of children nodes) (number - 1) o) node
-      placed_here node o placed = record {
-        from = get_or starts (number - 1) v;
-        start = start_here o v;
-        finished = get_or plan (number - 1) f;
-        made = made_here (number - 1) o f (omega arith);
-        placed = subst (λ n. IsPlacedFrom parts n (get_or plan (number - 1) f) (get_or starts (number - 1) v) node)
-            (sym (label_here (number - 1) o e (omega arith))) placed;
-      }
+      pub from_in_range : IsValid parts → IsSpotInRange from
+      from_in_range valid =
+          in_die_in_range parts.die from valid.die
+          (start_in_die parts (get_or (occurrences_of children nodes) (number - 1) none).above from valid (start_here none))
+        where
+          none : Occurrence ShapeNode
+          none = record { above = []; here = tip (Leaf 0) }
 
-      pub cut_here : (o : Occurrence ShapeNode)
-          → IsCutFrom parts (get_or nodes (number - 1) e) (get_or plan (number - 1) f) (get_or starts (number - 1) v)
-          → IsCutNode parts (get_or (occurrences_of children nodes) (number - 1) o)
-      cut_here o cut = record {
-        from = get_or starts (number - 1) v;
-        start = start_here o v;
-        finished = get_or plan (number - 1) f;
-        made = made_here (number - 1) o f (omega arith);
-        cut = subst (λ n. IsCutFrom parts n (get_or plan (number - 1) f) (get_or starts (number - 1) v))
-            (sym (label_here (number - 1) o e (omega arith))) cut;
-      }
+      -- a leaf leaves the others
+      pub starts_at_leaf : (e : ShapeNode) (s : ℕ) → get_or nodes (number - 1) e ≡ Leaf s → AreStarts parts nodes (number - 1) rest
+      starts_at_leaf e s here =
+          handed_at_leaf children nodes ok (IsStartAt parts nodes) (number - 1) e inside starts handed_next rest from starts_are
+          (ap children here)
 
-      pub placed_more : (node : TreeNode) (placed : List TreeNode)
-          → AllZip (IsPlacedNode parts) (drop number (occurrences_of children nodes)) (reverse placed)
-          → IsPlacedFrom parts (get_or nodes (number - 1) e) (get_or plan (number - 1) f) (get_or starts (number - 1) v) node
-          → AllZip (IsPlacedNode parts) (drop (number - 1) (occurrences_of children nodes)) (reverse (placed ++ node ∷ []))
-      placed_more node placed before here =
-          let os : List (Occurrence ShapeNode) = occurrences_of children nodes in
-          let none : Occurrence ShapeNode = record { above = []; here = tip e } in
-          let next : number - 1 + 1 ≡ number = omega arith in
-          let front : drop (number - 1) os ≡ get_or os (number - 1) none ∷ drop number os =
-          drop_more os (number - 1) none (omega (arith, length-occurrences_of children nodes ok))
-          ∙ ap (λ n. get_or os (number - 1) none ∷ drop n os) next in
-          let back : reverse (placed ++ node ∷ []) ≡ node ∷ reverse placed = reverse-append placed (node ∷ []) in
-          subst (λ xs. AllZip (IsPlacedNode parts) xs (reverse (placed ++ node ∷ []))) (sym front)
-          (subst (AllZip (IsPlacedNode parts) (get_or os (number - 1) none ∷ drop number os)) (sym back)
-          (placed_here node none here, before))
+      -- the node that is placed from there, by what is finished of it
+      module _ (plan : List Finished) (all : IsPlan parts.params parts.sinks nodes plan) (e : ShapeNode) (f : Finished)
+          (f_is : f ≡ get_or plan (number - 1) f) where
+        made_here : (o : Occurrence ShapeNode)
+            → IsFinished parts.params parts.sinks (get_or (occurrences_of children nodes) (number - 1) o).here f
+        made_here o =
+            subst (λ t. IsFinished parts.params parts.sinks t f) (trees_of-here children nodes ok (number - 1) o.here o inside)
+            (subst (IsFinished parts.params parts.sinks (get_or (trees_of children nodes) (number - 1) o.here)) (sym f_is)
+            (all_zip-at (IsFinished parts.params parts.sinks) (trees_of children nodes) plan (number - 1) o.here f all
+            (omega (arith, inside, length-trees_of children nodes))))
 
-      same_node : (e' : ShapeNode) → get_or nodes (number - 1) e' ≡ get_or nodes (number - 1) e
-      same_node e' = get_or_default nodes (number - 1) e' e (omega arith)
+        pub cut_here : (o : Occurrence ShapeNode) → IsCutFrom parts (get_or nodes (number - 1) e) f from
+            → IsCutNode parts (get_or (occurrences_of children nodes) (number - 1) o)
+        cut_here o cut = record {
+          from = from;
+          start = start_here o;
+          finished = f;
+          made = made_here o;
+          cut = subst (λ n. IsCutFrom parts n f from) (sym (label_here (number - 1) o e inside)) cut;
+        }
 
-      pub starts_at_leaf : (s : ℕ) → get_or nodes (number - 1) e ≡ Leaf s
-          → (e' : ShapeNode) → IsSettled children nodes e' (IsStartOf parts) (number - 1) starts
-      starts_at_leaf s here e' =
-          settled_at_leaf children (IsStartOf parts) nodes e' (number - 1) starts (ap children (same_node e' ∙ here)) (settled_next e')
+        module _ (node : TreeNode) (here : IsPlacedFrom parts (get_or nodes (number - 1) e) f from node) where
+          placed_here : (o : Occurrence ShapeNode) → IsPlacedNode parts (get_or (occurrences_of children nodes) (number - 1) o) node
+          placed_here o = record {
+            from = from;
+            start = start_here o;
+            finished = f;
+            made = made_here o;
+            placed = subst (λ n. IsPlacedFrom parts n f from node) (sym (label_here (number - 1) o e inside)) here;
+          }
 
-      module _ (l r : ℕ) (here : get_or nodes (number - 1) e ≡ Pair l r) where
-        at_pair : IsPair children nodes (number - 1) (l, r) (get_or nodes (number - 1) e)
-        at_pair = is_pair children nodes ok (number - 1) e (l, r) (omega arith) (ap children here)
+          pub placed_more : (placed : List TreeNode) → AllZip (IsPlacedNode parts) (drop number (occurrences_of children nodes)) placed
+              → AllZip (IsPlacedNode parts) (drop (number - 1) (occurrences_of children nodes)) (node ∷ placed)
+          placed_more placed before =
+              let os : List (Occurrence ShapeNode) = occurrences_of children nodes in
+              let none : Occurrence ShapeNode = record { above = []; here = tip e } in
+              let front : drop (number - 1) os ≡ get_or os (number - 1) none ∷ drop number os =
+              drop_more os (number - 1) none (omega (arith, inside, length-occurrences_of children nodes ok))
+              ∙ ap (λ n. get_or os (number - 1) none ∷ drop n os) next in
+              subst (λ xs. AllZip (IsPlacedNode parts) xs (node ∷ placed)) (sym front) (placed_here none, before)
 
-        pub left_within : l < length starts
-        left_within =
-            let s : IsSettled children nodes (Leaf 0) (IsStartOf parts) number starts = settled (Leaf 0) in
-            omega (arith, at_pair.left_below, s.long)
-
-        pub right_within : r < length starts
-        right_within =
-            let s : IsSettled children nodes (Leaf 0) (IsStartOf parts) number starts = settled (Leaf 0) in
-            omega (arith, at_pair.right_below, s.long)
-
-        -- both parts start at the pair's place
-        pub starts_at_pair : (node : TreeNode)
-            → IsPlacedFrom parts (get_or nodes (number - 1) e) (get_or plan (number - 1) f) (get_or starts (number - 1) v) node
-            → (e' : ShapeNode) → IsSettled children nodes e' (IsStartOf parts) (number - 1) (set (set starts l node.place) r node.place)
-        unfolding IsRouteStart label
-        starts_at_pair node placed e' =
-            let pair : IsPair children nodes (number - 1) (l, r) (get_or nodes (number - 1) e') =
-            is_pair children nodes ok (number - 1) e' (l, r) (omega arith) (ap children (same_node e' ∙ here)) in
-            let none : Occurrence ShapeNode = record { above = []; here = tip e' } in
-            let start : IsRouteStart parts pair.above (get_or starts (number - 1) v) =
-            subst (λ (o : Occurrence ShapeNode). IsRouteStart parts o.above (get_or starts (number - 1) v))
-            {y = record { above = pair.above; here = fork pair.left pair.right (get_or nodes (number - 1) e') }} (pair.own none) (start_here none v) in
-            let made : IsFinished parts.params parts.sinks (fork pair.left pair.right (get_or nodes (number - 1) e')) (get_or plan (number - 1) f) =
-            subst (λ (o : Occurrence ShapeNode). IsFinished parts.params parts.sinks o.here (get_or plan (number - 1) f)) (pair.own none)
-            (made_here (number - 1) none f (omega arith)) in
-            let place : IsNodePlace parts (label (fork pair.left pair.right (get_or nodes (number - 1) e'))) (get_or plan (number - 1) f) (get_or starts (number - 1) v) node.place =
-            subst (λ n. IsNodePlace parts n (get_or plan (number - 1) f) (get_or starts (number - 1) v) node.place) (sym (same_node e')) placed.place in
-            let below : IsPlaceBelow parts (get_or starts (number - 1) v) (fork pair.left pair.right (get_or nodes (number - 1) e')) node.place =
-            record { node = get_or plan (number - 1) f; finished = made; is_place = place } in
-            settled_at_pair children (IsStartOf parts) nodes e' (number - 1) (l, r) starts node.place node.place
-            (ap children (same_node e' ∙ here)) pair (omega arith)
-            (get_or starts (number - 1) v, start, below) (get_or starts (number - 1) v, start, below) (settled_next e')
+          -- both parts of a pair start at its place
+          pub starts_at_pair : (l r : ℕ) → get_or nodes (number - 1) e ≡ Pair l r → (one two : List Spot)
+              → one ≡ rest ++ node.place ∷ [] → two ≡ one ++ node.place ∷ [] → AreStarts parts nodes (number - 1) two
+          unfolding IsRouteStart label
+          starts_at_pair l r is one two one_is two_is =
+              let n : ShapeNode = get_or nodes (number - 1) e in
+              let named : children n ≡ Some (l, r) = ap children is in
+              let pair : IsPair children nodes (number - 1) (l, r) n = is_pair children nodes ok (number - 1) e (l, r) inside named in
+              let none : Occurrence ShapeNode = record { above = []; here = tip e } in
+              let own : get_or (occurrences_of children nodes) (number - 1) none ≡ occurrence pair.above (fork pair.left pair.right n) = pair.own none in
+              let start : IsRouteStart parts pair.above from =
+              subst (λ (o : Occurrence ShapeNode). IsRouteStart parts o.above from) {y = occurrence pair.above (fork pair.left pair.right n)} own (start_here none) in
+              let made : IsFinished parts.params parts.sinks (fork pair.left pair.right n) f =
+              subst (λ (o : Occurrence ShapeNode). IsFinished parts.params parts.sinks o.here f) {y = occurrence pair.above (fork pair.left pair.right n)} own (made_here none) in
+              let below : IsPlaceBelow parts from (fork pair.left pair.right n) node.place =
+              record { node = f; finished = made; is_place = here.place } in
+              let to_part : (t : BinaryTree ShapeNode) (o q : Occurrence ShapeNode) → q ≡ occurrence (fork pair.left pair.right n ∷ pair.above) t
+              → IsRouteStart parts q.above node.place =
+              λ t o q q_is. subst (λ (o : Occurrence ShapeNode). IsRouteStart parts o.above node.place)
+              {x = occurrence (fork pair.left pair.right n ∷ pair.above) t} (sym q_is) (from, start, below) in
+              let both : two ≡ rest ++ node.place ∷ node.place ∷ [] =
+              two_is ∙ ap (λ xs. xs ++ node.place ∷ []) one_is ∙ append_assoc rest (node.place ∷ []) (node.place ∷ []) in
+              subst (AreStarts parts nodes (number - 1)) (sym both)
+              (handed_at_pair children nodes ok (IsStartAt parts nodes) (number - 1) e inside starts handed_next rest from starts_are
+              (l, r) named node.place node.place
+              (λ o. to_part pair.left o (get_or (occurrences_of children nodes) l o) (pair.at_left o))
+              (λ o. to_part pair.right o (get_or (occurrences_of children nodes) r o) (pair.at_right o)))
 
 -- at the end all nodes are placed
 pub all_placed : (parts : Parts) (nodes : List ShapeNode) (placed : List TreeNode) (number : ℕ) → number ≡ 0
-    → AllZip (IsPlacedNode parts) (drop number (occurrences_of children nodes)) (reverse placed)
-    → AllZip (IsPlacedNode parts) (occurrences_of children nodes) (reverse placed)
+    → AllZip (IsPlacedNode parts) (drop number (occurrences_of children nodes)) placed
+    → AllZip (IsPlacedNode parts) (occurrences_of children nodes) placed
 all_placed parts nodes placed number none all =
-    subst (λ n. AllZip (IsPlacedNode parts) (drop n (occurrences_of children nodes)) (reverse placed)) none all
+    subst (λ n. AllZip (IsPlacedNode parts) (drop n (occurrences_of children nodes)) placed) none all
 
 -- at the start none is
 pub none_placed : (parts : Parts) (nodes : List ShapeNode) → IsPostOrder (map children nodes) → (placed : List TreeNode) → placed ≡ []
-    → AllZip (IsPlacedNode parts) (drop (length nodes) (occurrences_of children nodes)) (reverse placed)
+    → AllZip (IsPlacedNode parts) (drop (length nodes) (occurrences_of children nodes)) placed
 none_placed parts nodes ok placed empty =
-    subst (λ ns. AllZip (IsPlacedNode parts) (drop (length nodes) (occurrences_of children nodes)) (reverse ns)) (sym empty)
+    subst (AllZip (IsPlacedNode parts) (drop (length nodes) (occurrences_of children nodes))) (sym empty)
     (subst (λ os. AllZip (IsPlacedNode parts) os [])
     (sym (drop_all (length nodes) (occurrences_of children nodes) (omega (arith, length-occurrences_of children nodes ok)))) tt)

@@ -4,14 +4,15 @@ pub mod Prepared
 pub mod Leaves
 pub mod Fitting
 pub mod Balance
-pub mod Capacitances
 pub mod BalancedTree
 pub mod Ends
 pub mod Laws
 pub mod Range
 pub use Rattle.cts_tree.specs.Nodes
 pub use Rattle.cts_merge.specs.LeastPair
+pub use Rattle.cts_elmore.specs.Loads
 pub use Rattle.cts_postorder.specs.Pass
 pub use Rattle.cts_block.specs.NearestFree
 pub use Rattle.cts_route.specs.Routes
 pub use Rattle.cts_up.specs.Plan
+pub use Rattle.cts_up.specs.Sites

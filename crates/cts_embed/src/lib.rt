@@ -1,11 +1,12 @@
 //! From the plan of a shape to its tree: places and routes from the root down, and then the wires balanced upward.
 //!
-//! A layer above hands the plan of a shape to [`embed`], or to [`embed_plan`] where nobody reads it afterwards, and takes
-//! the placed tree; it cites `specs/Places.antt` for where a node stands and `specs/PlacedTree.antt` for the tree of the
+//! A layer above hands the plan of a shape to [`embed`], or the sites of the plan alone to [`embed_sites`], and takes the
+//! placed tree; it cites `specs/Places.antt` for where a node stands and `specs/PlacedTree.antt` for the tree of the
 //! same form whose nodes are told one by one, each by its subtree and the pairs above it. It hands a placed tree to
-//! [`balance`] and takes the tree, or the least node that is beyond; it cites `specs/Balance.antt`, which tells by a
-//! recursion on the tree what the balance makes of each node, and `specs/BalancedTree.antt`, which tells the nodes of the
-//! balanced tree in the same way. The laws of [`laws`] say that there is one answer to each, and where places lie.
+//! [`balance`], or to [`balance_with`] where it has listed the capacitances of the leaves (`cts_elmore::capacitances`),
+//! and takes the tree, or the least node that is beyond; it cites `specs/Balance.antt`, which tells by a recursion on
+//! the tree what the balance makes of each node, and `specs/BalancedTree.antt`, which tells the nodes of the balanced
+//! tree in the same way. The laws of [`laws`] say that there is one answer to each, and where places lie.
 #![tactic(auto)]
 
 mod balancing;
@@ -16,12 +17,11 @@ mod ids;
 pub mod laws;
 mod node;
 mod placing;
-mod room;
 mod upward;
 mod wires;
 
-pub use balancing::balance;
-pub use embedding::{embed, embed_plan};
+pub use balancing::{balance, balance_with};
+pub use embedding::{embed, embed_sites};
 pub use end::{BalanceEnd, EmbedEnd};
 pub use node::NodeBalance;
 

@@ -4,6 +4,8 @@ ghost use Rattle.std.specs.Prelude.{◌≡◌, List, Some, IfOk, Err};
 ghost use Rattle.cts_geom.specs.Points.{IsSpotInRange, spot_at};
 ghost use Rattle.cts_geom.specs.Regions.{IsRegionInRange};
 ghost use Rattle.cts_merge.specs.Merge.{IsLeaf};
+ghost use Rattle.cts_merge.specs.declared.side.Finished.{Finished};
+ghost use Rattle.cts_up.specs.Sites.{site_of};
 ghost use Rattle.cts_units.specs.declared.params.Sink.{Sink};
 ghost use Rattle.cts_embed.specs.Leaves.{IsIdOf, IsLeafOf};
 ghost use Rattle.cts_embed.specs.PlacedTree.{IsCutFrom, IsPlacedFrom};
@@ -16,11 +18,11 @@ use crate::ground::Ground;
 use cts_block::FreeMap;
 use cts_geom::{Spot, nearest, spot_of};
 use cts_instance::Instance;
-use cts_merge::Finished;
 use cts_num::NoMemory;
 use cts_route::{Grid, RouteEnd};
 use cts_topo::ShapeNode;
 use cts_tree::{NodeKind, TreeNode};
+use cts_up::Site;
 use std::alloc::Global;
 
 /// The place of the clock source.
@@ -44,22 +46,26 @@ pub(crate) fn ground_of(alloc: Global, instance: &Instance) -> Result<Ground, No
 }
 
 /// The final place of a pair, seen from a place above it.
-fn pair_place(free: &FreeMap, pair: &Finished, from: Spot) -> Spot
-    requires region { IsRegionInRange pair.now.side.region }
+fn pair_place(free: &FreeMap, pair: &Site, from: Spot) -> Spot
+    requires free { (parts : Parts) × IsFreeMapOf parts free.now }
+    requires region { IsRegionInRange pair.now.region }
     requires from { IsSpotInRange from }
-    ensures { (parts : Parts) → IsFreeMapOf parts free.now → IsPairPlace parts pair.now from result }
+    ensures place { (parts : Parts) (finished : Finished) → IsFreeMapOf parts free.now → site_of finished ≡ pair.now
+        → IsPairPlace parts finished from result }
+    ensures in_range { IsSpotInRange result }
 {
-    let first = nearest(&pair.side.region, from);
+    let first = nearest(&pair.region, from);
     free.nearest_free(first, pair.buffer.is_some())
 }
 
 /// The place of a leaf, which is the only spot of its region. The sink has it too, but would have to be waited for.
-fn leaf_place(leaf: &Finished) -> Spot
-    requires { IsRegionInRange leaf.now.side.region }
-    ensures place { (sink : Sink) → IsLeaf sink leaf.now → result ≡ spot_at sink.x sink.y }
+fn leaf_place(leaf: &Site) -> Spot
+    requires { IsRegionInRange leaf.now.region }
+    ensures place { (sink : Sink) (finished : Finished) → site_of finished ≡ leaf.now → IsLeaf sink finished
+        → result ≡ spot_at sink.x sink.y }
     ensures in_range { IsSpotInRange result }
 {
-    let region = leaf.side.region;
+    let region = leaf.region;
     Spot {
         u: region.u1,
         v: region.v1,
@@ -67,27 +73,21 @@ fn leaf_place(leaf: &Finished) -> Spot
 }
 
 /// What a node is, with the id of a leaf's sink, and its final place.
-fn stand(
-    free: &FreeMap,
-    node: ShapeNode,
-    id: u32,
-    finished: &Finished,
-    from: Spot,
-) -> (NodeKind, Spot)
+fn stand(free: &FreeMap, node: ShapeNode, id: u32, site: &Site, from: Spot) -> (NodeKind, Spot)
     requires free { (parts : Parts) × IsFreeMapOf parts free.now }
-    requires region { IsRegionInRange finished.now.side.region }
+    requires region { IsRegionInRange site.now.region }
     requires from { IsSpotInRange from }
-    ensures kind { (sinks : List Sink) → IsIdOf sinks node id
-        → kind_of sinks node finished.now.buffer ≡ Some result.0 }
-    ensures place { (parts : Parts) → IsFreeMapOf parts free.now → IsLeafOf parts.sinks node finished.now
-        → IsNodePlace parts node finished.now from result.1 }
+    ensures kind { (sinks : List Sink) (finished : Finished) → site_of finished ≡ site.now → IsIdOf sinks node id
+        → kind_of sinks node finished.buffer ≡ Some result.0 }
+    ensures place { (parts : Parts) (finished : Finished) → site_of finished ≡ site.now → IsFreeMapOf parts free.now
+        → IsLeafOf parts.sinks node finished → IsNodePlace parts node finished from result.1 }
     ensures in_range { IsSpotInRange result.1 }
 {
     match node {
-        ShapeNode::Leaf { sink } => (NodeKind::Leaf { id, sink }, leaf_place(finished)),
+        ShapeNode::Leaf { sink } => (NodeKind::Leaf { id, sink }, leaf_place(site)),
         ShapeNode::Pair { left, right } => {
-            let buffer = finished.buffer;
-            let place = pair_place(free, finished, from);
+            let buffer = site.buffer;
+            let place = pair_place(free, site, from);
             (
                 NodeKind::Pair {
                     left,
@@ -107,19 +107,19 @@ pub(crate) fn place_node(
     ground: &Ground,
     node: ShapeNode,
     id: u32,
-    finished: &Finished,
+    site: &Site,
     from: Spot,
 ) -> Result<TreeNode, RouteEnd>
     requires ground { (parts : Parts) × IsGroundOf parts ground.now }
-    requires region { IsRegionInRange finished.now.side.region }
+    requires region { IsRegionInRange site.now.region }
     requires from { IsSpotInRange from }
-    ensures placed { IfOk result (λ placed. (parts : Parts) → IsGroundOf parts ground.now
-        → IsIdOf parts.sinks node id → IsLeafOf parts.sinks node finished.now
-        → IsPlacedFrom parts node finished.now from placed) }
-    ensures cut { result ≡ Err RouteEnd.Cut → (parts : Parts) → IsGroundOf parts ground.now
-        → IsLeafOf parts.sinks node finished.now → IsCutFrom parts node finished.now from }
+    ensures placed { IfOk result (λ placed. (parts : Parts) (finished : Finished) → site_of finished ≡ site.now
+        → IsGroundOf parts ground.now → IsIdOf parts.sinks node id → IsLeafOf parts.sinks node finished
+        → IsPlacedFrom parts node finished from placed) }
+    ensures cut { result ≡ Err RouteEnd.Cut → (parts : Parts) (finished : Finished) → site_of finished ≡ site.now
+        → IsGroundOf parts ground.now → IsLeafOf parts.sinks node finished → IsCutFrom parts node finished from }
 {
-    let (kind, place) = stand(&ground.free, node, id, finished, from);
+    let (kind, place) = stand(&ground.free, node, id, site, from);
     let route = ground.grid.route(alloc, from, place)?;
     Ok(TreeNode {
         kind,

@@ -1,22 +1,19 @@
 //! The steps of the balance upward: what it makes of a leaf, of a pair and of the root.
 
-ghost use Rattle.std.specs.Prelude.{◌≡◌, ℕ, ◌^◌, ◌<◌, ◌≤◌, ◌++◌, ◌∷◌, ◌↔◌, [], IsTrue, length, vec_len, IfOk, IfErr, MatchOption, All};
+ghost use Rattle.std.specs.Prelude.{◌≡◌, ◌^◌, ◌<◌, ◌≤◌, ◌++◌, ◌∷◌, ◌↔◌, [], IsTrue, length, vec_len, IfOk, IfErr, MatchOption};
+ghost use Rattle.std.specs.Slice.Iter.{iter_rest};
 ghost use Rattle.cts_units.specs.Choice.{added_delay_of, seen_load_of};
 ghost use Rattle.cts_units.specs.Limits.{IsParams, max_length, max_load};
 ghost use Rattle.cts_merge.specs.LeastPair.{IsTooLong, Covers};
 ghost use Rattle.cts_embed.specs.Balance.{IsLeafBalance, IsPairBalance, IsPairBeyond, IsRootWithin, IsWirePair, delay_through};
-ghost use Rattle.cts_embed.specs.Capacitances.{caps_of};
-ghost use Rattle.cts_embed.specs.Fitting.{NamesWithin};
 ghost use Rattle.cts_embed.specs.Range.{IsInRange};
 
 use crate::node::NodeBalance;
 use cts_geom::Region;
 use cts_instance::Instance;
 use cts_merge::{Beyond, Side, choose};
-use cts_num::NoMemory;
-use cts_tree::{NodeKind, TreeNode};
 use cts_units::{MAX_DELAY, MAX_LENGTH, MAX_LOAD, Params, Sink, buffer_delay, wire_delay};
-use std::alloc::Global;
+use std::slice;
 
 /// A node as `choose` takes it, which looks at no region.
 fn side_of(node: &NodeBalance) -> Side
@@ -121,34 +118,18 @@ pub(crate) fn pair_balance(
     })
 }
 
-/// The capacitance in zF of each leaf's sink, by number of node, and 0 at a pair. They are looked up before the
-/// pass, whose branches would wait for each of them.
-pub(crate) fn capacitances(
-    alloc: Global,
-    sinks: &[Sink],
-    nodes: &[TreeNode],
-) -> Result<Vec<u64>, NoMemory>
-    requires names { (buffers : ℕ) × All (λ node. NamesWithin (length sinks.now) buffers node.kind) nodes.now }
-    ensures { IfOk result (λ caps. caps.items ≡ caps_of sinks.now nodes.now) }
+/// A leaf over the sink whose capacitance in zF is the next of those that are left.
+pub(crate) fn take_leaf(capacitances: &mut slice::Iter<'_, u64>) -> NodeBalance
+    requires some { 1 ≤ length (iter_rest capacitances.old) }
+    ensures leaf { (sink : Sink) → sink.cap ≡ result.load → IsLeafBalance sink result }
+    ensures left { iter_rest capacitances.old ≡ result.load ∷ iter_rest capacitances.new }
 {
-    let mut caps = Vec::with_capacity(alloc, nodes.len())?;
-    for node in nodes {
-        let cap = match node.kind {
-            NodeKind::Leaf { sink, .. } => sinks[sink as usize].cap,
-            NodeKind::Pair { .. } => 0,
-        };
-        caps.push(cap)?;
-    }
-    Ok(caps)
-}
-
-/// A leaf over a sink of this capacitance in zF.
-pub(crate) fn leaf_balance(cap: u64) -> NodeBalance
-    ensures { (sink : Sink) → sink.cap ≡ cap → IsLeafBalance sink result }
-{
+    let Some(capacitance) = capacitances.next() else {
+        unreachable!()
+    };
     NodeBalance {
         greatest: 0,
-        load: cap,
+        load: *capacitance,
         left_wire: 0,
         right_wire: 0,
     }

@@ -1,14 +1,12 @@
-use Rattle.std.proofs.Common.{◌≡◌, ◌+◌, ◌∷◌, ◌++◌, [], length, pos, true, false, inl, inr, refl, sym, ap, subst, ◌∙◌, arith}
-use Rattle.std.specs.List.{All}
+use Rattle.std.proofs.Common.{◌≡◌, ◌+◌, ◌∷◌, ◌++◌, [], pos, true, false, inl, inr, refl, sym, ap, subst, arith, ◌∙◌, drop}
+use Rattle.std.specs.Slice.Iter.{iter_rest}
 use Rattle.cts_units.specs.declared.params.Sink.{Sink}
 use Rattle.cts_postorder.proofs.Lists.{length_pos}
 use Rattle.cts_postorder.proofs.Waiting.{one_waits, root_waits}
-use Rattle.cts_tree.specs.declared.nodes.TreeNode.{TreeNode}
 use Rattle.cts_tree.specs.Nodes.{tree_children}
+use Rattle.cts_elmore.specs.Loads.{leaf_loads}
 use Rattle.cts_embed.specs.Balance.{IsBalance}
-use Rattle.cts_embed.specs.Capacitances.{caps_of}
-use Rattle.cts_embed.specs.Fitting.{NamesWithin}
-use Rattle.cts_embed.proofs.Ascent.{IsAscent, ascent_named, ascent_at_start, ascent_at_leaf, ascent_at_pair, ascent_all, left_within, right_within, right_within_set, two_ready, buffer_named, left_ready, right_ready, pair_beyond}
+use Rattle.cts_embed.proofs.Ascent.{IsAscent, ascent_named, ascent_at_start, ascent_at_leaf, ascent_at_pair, load_waits, loads_after_leaf, loads_after_pair, ascent_all, left_within, right_within, right_within_set, two_ready, buffer_named, left_ready, right_ready, pair_beyond}
 use Rattle.cts_embed.proofs.Root.{root_in_range, all_within, root_beyond, root_route}
 use Rattle.cts_embed.proofs.wires.set_wires.Goals.{in-Leaf, in-Pair+in-Ok}
 use Rattle.cts_embed.proofs.wires.set_wires.Goals as goal
@@ -17,65 +15,65 @@ use Rattle.cts_embed.proofs.wires.set_wires.Goals as goal
 abbrev none : Sink
 none = record { id = 0; x = pos 0; y = pos 0; cap = 0 }
 
-pub capacitances-requires : goal.capacitances-requires
-capacitances-requires c = record {
-  names = (
-    length c.args.instance.now.params.library,
-    subst (λ sinks. All (λ (node : TreeNode). NamesWithin (length sinks) (length c.args.instance.now.params.library) node.kind) c.args.nodes.now)
-        (sym c.sinks.ensures.part) c.requires.fits.names,
-  );
+pub loop-number-init : goal.loop-number-init
+loop-number-init c = record {
+  ascent = ascent_at_start c.args.instance.now c.args.nodes.now c.requires.post_order c.new-waiting.result.items c.new-waiting.ensures.items;
+  left = c.iter-leaves.ensures.rest ∙ c.requires.capacitances;
 }
 
-pub loop-number-init : goal.loop-number-init
-loop-number-init c =
-    ascent_at_start c.args.instance.now c.args.nodes.now c.requires.post_order c.new-waiting.result.items c.new-waiting.ensures.items
+pub take_leaf-balance-requires : goal.take_leaf-balance-requires
+take_leaf-balance-requires c = record {
+  some = load_waits c.args.instance.now c.args.nodes.now c.requires.post_order c.loop-number.number c.loop-number.waiting.items
+      c.loop-number.nodes c.loop-number.invariant.ascent (omega (arith, c.loop-number-test.true, c.loop-number.auto.nodes)) c.requires.fits
+      (iter_rest c.loop-number.leaves) c.loop-number.invariant.left c.in-Leaf.id c.in-Leaf.sink _ c.in-Leaf.is;
+}
 
 pub bounds-nodes-left : goal.bounds-nodes-left
 bounds-nodes-left c =
     left_within c.args.instance.now c.args.nodes.now c.requires.post_order c.loop-number.number c.loop-number.waiting.items
-    c.loop-number.nodes c.loop-number.invariant (omega (arith, c.loop-number-test.true, c.loop-number.auto.nodes))
+    c.loop-number.nodes c.loop-number.invariant.ascent (omega (arith, c.loop-number-test.true, c.loop-number.auto.nodes))
     c.in-Pair.left c.in-Pair.right c.in-Pair.buffer _ c.in-Pair.is
 
 pub bounds-nodes-left-in-Pair : goal.bounds-nodes-left-in-Pair
 bounds-nodes-left-in-Pair c =
     left_within c.args.instance.now c.args.nodes.now c.requires.post_order c.loop-number.number c.loop-number.waiting.items
-    c.loop-number.nodes c.loop-number.invariant (omega (arith, c.loop-number-test.true, c.loop-number.auto.nodes))
+    c.loop-number.nodes c.loop-number.invariant.ascent (omega (arith, c.loop-number-test.true, c.loop-number.auto.nodes))
     c.in-Pair.left c.in-Pair.right c.in-Pair.buffer _ c.in-Pair.is
 
 pub bounds-nodes-left-in-Ok : goal.bounds-nodes-left-in-Ok
 bounds-nodes-left-in-Ok c =
     left_within c.args.instance.now c.args.nodes.now c.requires.post_order c.loop-number.number c.loop-number.waiting.items
-    c.loop-number.nodes c.loop-number.invariant (omega (arith, c.loop-number-test.true, c.loop-number.auto.nodes))
+    c.loop-number.nodes c.loop-number.invariant.ascent (omega (arith, c.loop-number-test.true, c.loop-number.auto.nodes))
     c.in-Pair.left c.in-Pair.right c.in-Pair.buffer _ c.in-Pair.is
 
 pub bounds-nodes-right : goal.bounds-nodes-right
 bounds-nodes-right c =
     right_within c.args.instance.now c.args.nodes.now c.requires.post_order c.loop-number.number c.loop-number.waiting.items
-    c.loop-number.nodes c.loop-number.invariant (omega (arith, c.loop-number-test.true, c.loop-number.auto.nodes))
+    c.loop-number.nodes c.loop-number.invariant.ascent (omega (arith, c.loop-number-test.true, c.loop-number.auto.nodes))
     c.in-Pair.left c.in-Pair.right c.in-Pair.buffer _ c.in-Pair.is
 
 pub bounds-nodes-right-in-Pair : goal.bounds-nodes-right-in-Pair
 bounds-nodes-right-in-Pair c =
     right_within c.args.instance.now c.args.nodes.now c.requires.post_order c.loop-number.number c.loop-number.waiting.items
-    c.loop-number.nodes c.loop-number.invariant (omega (arith, c.loop-number-test.true, c.loop-number.auto.nodes))
+    c.loop-number.nodes c.loop-number.invariant.ascent (omega (arith, c.loop-number-test.true, c.loop-number.auto.nodes))
     c.in-Pair.left c.in-Pair.right c.in-Pair.buffer _ c.in-Pair.is
 
 pub bounds-nodes-left-in-Ok-2 : goal.bounds-nodes-left-in-Ok-2
 bounds-nodes-left-in-Ok-2 c =
     left_within c.args.instance.now c.args.nodes.now c.requires.post_order c.loop-number.number c.loop-number.waiting.items
-    c.loop-number.nodes c.loop-number.invariant (omega (arith, c.loop-number-test.true, c.loop-number.auto.nodes))
+    c.loop-number.nodes c.loop-number.invariant.ascent (omega (arith, c.loop-number-test.true, c.loop-number.auto.nodes))
     c.in-Pair.left c.in-Pair.right c.in-Pair.buffer _ c.in-Pair.is
 
 pub bounds-nodes-right-in-Ok : goal.bounds-nodes-right-in-Ok
 bounds-nodes-right-in-Ok c =
     right_within_set c.args.instance.now c.args.nodes.now c.requires.post_order c.loop-number.number c.loop-number.waiting.items
-    c.loop-number.nodes c.loop-number.invariant (omega (arith, c.loop-number-test.true, c.loop-number.auto.nodes))
+    c.loop-number.nodes c.loop-number.invariant.ascent (omega (arith, c.loop-number-test.true, c.loop-number.auto.nodes))
     c.in-Pair.left c.in-Pair.right c.in-Pair.buffer _ c.in-Pair.is _
 
 pub bounds-nodes-right-in-Ok-2 : goal.bounds-nodes-right-in-Ok-2
 bounds-nodes-right-in-Ok-2 c =
     right_within_set c.args.instance.now c.args.nodes.now c.requires.post_order c.loop-number.number c.loop-number.waiting.items
-    c.loop-number.nodes c.loop-number.invariant (omega (arith, c.loop-number-test.true, c.loop-number.auto.nodes))
+    c.loop-number.nodes c.loop-number.invariant.ascent (omega (arith, c.loop-number-test.true, c.loop-number.auto.nodes))
     c.in-Pair.left c.in-Pair.right c.in-Pair.buffer _ c.in-Pair.is _
 
 pub take_pair-requires : goal.take_pair-requires
@@ -83,7 +81,7 @@ take_pair-requires c = record {
   two = omega (
     arith,
     two_ready c.args.instance.now c.args.nodes.now c.requires.post_order c.loop-number.number c.loop-number.waiting.items
-        c.loop-number.nodes c.loop-number.invariant (omega (arith, c.loop-number-test.true, c.loop-number.auto.nodes))
+        c.loop-number.nodes c.loop-number.invariant.ascent (omega (arith, c.loop-number-test.true, c.loop-number.auto.nodes))
         c.in-Pair.left c.in-Pair.right c.in-Pair.buffer _ c.in-Pair.is,
   );
 }
@@ -91,28 +89,28 @@ take_pair-requires c = record {
 pub pair_balance-requires-clause-buffer : goal.pair_balance-requires-clause-buffer
 pair_balance-requires-clause-buffer c =
     buffer_named c.args.instance.now c.args.nodes.now c.requires.post_order c.loop-number.number c.loop-number.waiting.items
-    c.loop-number.nodes c.loop-number.invariant (omega (arith, c.loop-number-test.true, c.loop-number.auto.nodes))
+    c.loop-number.nodes c.loop-number.invariant.ascent (omega (arith, c.loop-number-test.true, c.loop-number.auto.nodes))
     c.in-Pair.left c.in-Pair.right c.in-Pair.buffer _ c.in-Pair.is
     c.requires.fits c.params-params.result.now c.params-params.ensures.part
 
 pub pair_balance-requires-clause-a : goal.pair_balance-requires-clause-a
 pair_balance-requires-clause-a c =
     left_ready c.args.instance.now c.args.nodes.now c.requires.post_order c.loop-number.number c.loop-number.waiting.items
-    c.loop-number.nodes c.loop-number.invariant (omega (arith, c.loop-number-test.true, c.loop-number.auto.nodes))
+    c.loop-number.nodes c.loop-number.invariant.ascent (omega (arith, c.loop-number-test.true, c.loop-number.auto.nodes))
     c.in-Pair.left c.in-Pair.right c.in-Pair.buffer _ c.in-Pair.is
     c.take_pair.new.waiting.items c.take_pair.result.0 c.take_pair.result.1 c.take_pair.ensures c.params-params.ensures.valid
 
 pub pair_balance-requires-clause-b : goal.pair_balance-requires-clause-b
 pair_balance-requires-clause-b c =
     right_ready c.args.instance.now c.args.nodes.now c.requires.post_order c.loop-number.number c.loop-number.waiting.items
-    c.loop-number.nodes c.loop-number.invariant (omega (arith, c.loop-number-test.true, c.loop-number.auto.nodes))
+    c.loop-number.nodes c.loop-number.invariant.ascent (omega (arith, c.loop-number-test.true, c.loop-number.auto.nodes))
     c.in-Pair.left c.in-Pair.right c.in-Pair.buffer _ c.in-Pair.is
     c.take_pair.new.waiting.items c.take_pair.result.0 c.take_pair.result.1 c.take_pair.ensures c.params-params.ensures.valid
 
 pub returns-in_default-clause-ends : goal.returns-in_default-clause-ends
 returns-in_default-clause-ends c =
     inl (pair_beyond c.args.instance.now c.args.nodes.now c.requires.post_order c.loop-number.number c.loop-number.waiting.items
-    c.loop-number.nodes c.loop-number.invariant (omega (arith, c.loop-number-test.true, c.loop-number.auto.nodes))
+    c.loop-number.nodes c.loop-number.invariant.ascent (omega (arith, c.loop-number-test.true, c.loop-number.auto.nodes))
     c.in-Pair.left c.in-Pair.right c.in-Pair.buffer _ c.in-Pair.is
     c.take_pair.new.waiting.items c.take_pair.result.0 c.take_pair.result.1 c.take_pair.ensures
     c.params-params.result.now c.params-params.ensures.part _ _ c.in_default.ensures.beyond)
@@ -124,27 +122,44 @@ loop-number-preserved c =
     elim c.match-nodes-number.branch [
       | in-Leaf w ↦
           ascent_named c.args.instance.now c.args.nodes.now (c.loop-number.number + 1) c.match-nodes-number.waiting.items
-          c.loop-number.waiting.items c.match-nodes-number.balance w.leaf_balance-balance.result c.match-nodes-number.nodes
+          c.loop-number.waiting.items c.match-nodes-number.balance w.take_leaf-balance.result c.match-nodes-number.nodes
           c.loop-number.nodes (ap (λ v. v.items) w.waiting-is) w.balance-is w.nodes-is
           (ascent_at_leaf c.args.instance.now c.args.nodes.now c.requires.post_order c.loop-number.number c.loop-number.waiting.items
-          c.loop-number.nodes c.loop-number.invariant (omega (arith, c.loop-number-test.true, c.loop-number.auto.nodes)) c.requires.fits
-          c.in_ok-caps.caps.items
-          (c.in_ok-caps.ensures ∙ ap (λ sinks. caps_of sinks c.args.nodes.now) c.sinks.ensures.part)
-          w.in-Leaf.id w.in-Leaf.sink _ w.in-Leaf.is none w.index.result.now w.leaf_balance-balance.result
-          (λ sink is. w.leaf_balance-balance.ensures sink (is ∙ sym w.index.ensures)))
+          c.loop-number.nodes c.loop-number.invariant.ascent (omega (arith, c.loop-number-test.true, c.loop-number.auto.nodes)) c.requires.fits
+          (iter_rest c.loop-number.leaves) c.loop-number.invariant.left
+          w.in-Leaf.id w.in-Leaf.sink _ w.in-Leaf.is w.take_leaf-balance.result.load (iter_rest w.take_leaf-balance.new.capacitances)
+          w.take_leaf-balance.ensures.left none w.take_leaf-balance.result w.take_leaf-balance.ensures.leaf)
       | in-Pair+in-Ok w ↦
           ascent_named c.args.instance.now c.args.nodes.now (c.loop-number.number + 1) c.match-nodes-number.waiting.items
           w.take_pair.new.waiting.items c.match-nodes-number.balance w.in-Ok.pair c.match-nodes-number.nodes _
           (ap (λ v. v.items) w.waiting-is) w.balance-is w.nodes-is
           (ascent_at_pair c.args.instance.now c.args.nodes.now c.requires.post_order c.loop-number.number c.loop-number.waiting.items
-          c.loop-number.nodes c.loop-number.invariant (omega (arith, c.loop-number-test.true, c.loop-number.auto.nodes))
+          c.loop-number.nodes c.loop-number.invariant.ascent (omega (arith, c.loop-number-test.true, c.loop-number.auto.nodes))
           w.in-Pair.left w.in-Pair.right w.in-Pair.buffer _ w.in-Pair.is
           w.take_pair.new.waiting.items w.take_pair.result.0 w.take_pair.result.1 w.take_pair.ensures
           c.params-params.result.now c.params-params.ensures.part w.index-nodes-left.result w.index-nodes-right.result
           w.in-Ok.pair w.in-Ok.ensures.pair w.index-nodes-left-in-Pair.result w.index-nodes-right-in-Pair.result)
     ] in
-    subst (λ vs. IsAscent c.args.instance.now c.args.nodes.now (c.loop-number.number + 1) vs c.match-nodes-number.nodes)
-    (sym c.in_ok-push.ensures.items) ascent
+    let left : iter_rest c.match-nodes-number.leaves ≡ leaf_loads c.args.instance.now (drop (c.loop-number.number + 1) c.args.nodes.now) =
+    elim c.match-nodes-number.branch [
+      | in-Leaf w ↦
+          ap iter_rest w.leaves-is
+          ∙ loads_after_leaf c.args.instance.now c.args.nodes.now c.requires.post_order c.loop-number.number c.loop-number.waiting.items
+          c.loop-number.nodes c.loop-number.invariant.ascent (omega (arith, c.loop-number-test.true, c.loop-number.auto.nodes)) c.requires.fits
+          (iter_rest c.loop-number.leaves) c.loop-number.invariant.left
+          w.in-Leaf.id w.in-Leaf.sink _ w.in-Leaf.is w.take_leaf-balance.result.load (iter_rest w.take_leaf-balance.new.capacitances)
+          w.take_leaf-balance.ensures.left
+      | in-Pair+in-Ok w ↦
+          ap iter_rest w.leaves-is
+          ∙ loads_after_pair c.args.instance.now c.args.nodes.now c.requires.post_order c.loop-number.number c.loop-number.waiting.items
+          c.loop-number.nodes c.loop-number.invariant.ascent (omega (arith, c.loop-number-test.true, c.loop-number.auto.nodes))
+          w.in-Pair.left w.in-Pair.right w.in-Pair.buffer _ w.in-Pair.is (iter_rest c.loop-number.leaves) c.loop-number.invariant.left
+    ] in
+    record {
+      ascent = subst (λ vs. IsAscent c.args.instance.now c.args.nodes.now (c.loop-number.number + 1) vs c.match-nodes-number.nodes)
+          (sym c.in_ok-push.ensures.items) ascent;
+      left = left;
+    }
 
 pub unreachable-requires : goal.unreachable-requires
 unreachable-requires c =
@@ -156,7 +171,7 @@ unreachable-requires c =
       one_waits tree_children c.args.nodes.now (IsBalance c.args.instance.now.params c.args.instance.now.sinks) c.loop-number.number
           (omega (arith, c.loop-number-test.false, c.loop-number.auto.nodes))
           (omega (arith, c.loop-number.auto.number-end, c.loop-number.auto.nodes))
-          c.loop-number.waiting.items c.loop-number.invariant.waits,
+          c.loop-number.waiting.items c.loop-number.invariant.ascent.waits,
     )) in
     cc
 
@@ -171,24 +186,24 @@ bounds-nodes-last-in-Some c = omega (arith, c.loop-number.auto.nodes, length_pos
 
 pub is_root_within-requires : goal.is_root_within-requires
 is_root_within-requires c = record {
-  root = root_in_range c.args.instance.now c.args.nodes.now c.requires.post_order c.loop-number.nodes c.loop-number.invariant.same
+  root = root_in_range c.args.instance.now c.args.nodes.now c.requires.post_order c.loop-number.nodes c.loop-number.invariant.ascent.same
       c.index-nodes-last.result c.in-Some.root
       (root_waits tree_children c.args.nodes.now (IsBalance c.args.instance.now.params c.args.instance.now.sinks) c.loop-number.number
       (omega (arith, c.loop-number-test.false, c.loop-number.auto.nodes))
       (omega (arith, c.loop-number.auto.number-end, c.loop-number.auto.nodes))
-      c.loop-number.waiting.items c.loop-number.invariant.waits c.pop.new.self.items
+      c.loop-number.waiting.items c.loop-number.invariant.ascent.waits c.pop.new.self.items
       c.in-Some.root c.in-Some.ensures.items)
       c.params-params.ensures.valid;
 }
 
 pub returns-then-not-is_root_within-clause-ends : goal.returns-then-not-is_root_within-clause-ends
 returns-then-not-is_root_within-clause-ends c =
-    inr (root_beyond c.args.instance.now c.args.nodes.now c.requires.post_order c.loop-number.nodes c.loop-number.invariant.same
+    inr (root_beyond c.args.instance.now c.args.nodes.now c.requires.post_order c.loop-number.nodes c.loop-number.invariant.ascent.same
     c.index-nodes-last.result c.in-Some.root
     (root_waits tree_children c.args.nodes.now (IsBalance c.args.instance.now.params c.args.instance.now.sinks) c.loop-number.number
     (omega (arith, c.loop-number-test.false, c.loop-number.auto.nodes))
     (omega (arith, c.loop-number.auto.number-end, c.loop-number.auto.nodes))
-    c.loop-number.waiting.items c.loop-number.invariant.waits c.pop.new.self.items
+    c.loop-number.waiting.items c.loop-number.invariant.ascent.waits c.pop.new.self.items
     c.in-Some.root c.in-Some.ensures.items)
     (λ within. let clash = c.if-not-is_root_within.ensures.1 within in cc))
 
@@ -206,13 +221,13 @@ returns-clause-tree c =
     root_waits tree_children c.args.nodes.now (IsBalance c.args.instance.now.params c.args.instance.now.sinks) c.loop-number.number
     (omega (arith, c.loop-number-test.false, c.loop-number.auto.nodes))
     (omega (arith, c.loop-number.auto.number-end, c.loop-number.auto.nodes))
-    c.loop-number.waiting.items c.loop-number.invariant.waits c.pop.new.self.items
+    c.loop-number.waiting.items c.loop-number.invariant.ascent.waits c.pop.new.self.items
     c.in-Some.root c.in-Some.ensures.items in
     record {
-      within = all_within c.args.instance.now c.args.nodes.now c.requires.post_order c.loop-number.nodes c.loop-number.invariant.same
+      within = all_within c.args.instance.now c.args.nodes.now c.requires.post_order c.loop-number.nodes c.loop-number.invariant.ascent.same
           c.index-nodes-last.result c.in-Some.root root (c.if-not-is_root_within.ensures.0 refl);
       nodes = ascent_all c.args.instance.now c.args.nodes.now c.requires.post_order c.loop-number.number c.loop-number.waiting.items
-          c.loop-number.nodes c.loop-number.invariant (omega (arith, c.loop-number-test.false, c.loop-number.auto.nodes)) _ _
-          (root_route c.args.instance.now c.args.nodes.now c.requires.post_order c.loop-number.nodes c.loop-number.invariant.same
+          c.loop-number.nodes c.loop-number.invariant.ascent (omega (arith, c.loop-number-test.false, c.loop-number.auto.nodes)) _ _
+          (root_route c.args.instance.now c.args.nodes.now c.requires.post_order c.loop-number.nodes c.loop-number.invariant.ascent.same
           c.index-nodes-last.result c.in-Some.root root);
     }
