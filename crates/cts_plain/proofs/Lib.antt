@@ -2,6 +2,7 @@ pub mod WithinLimits
 pub mod SinksOnce
 pub mod Reached
 pub mod Wires
+pub mod LeafLoads
 pub mod Fitted
 pub mod Unique
 pub mod Sound

@@ -12,14 +12,14 @@ ghost use Rattle.cts_plain.specs.Ends.{CountsInPlaces, CountsMerges, Ends, EndsI
 ghost use Rattle.cts_plain.specs.Synthesis.{IsPlacedBy, IsSynthesis, IsSynthesisOver, StandsInDie, made};
 
 use crate::end::NoTree;
-use cts_elmore::{Figures, measure};
-use cts_embed::{balance, embed, embed_plan};
+use cts_elmore::{Figures, capacitances, measure_with};
+use cts_embed::{balance_with, embed, embed_sites};
 use cts_instance::Instance;
 use cts_merge::{Finished, Steps};
 use cts_topo::{Shape, topology};
 use cts_tree::{Placed, Tree};
-use cts_up::up;
-use std::alloc::{AllocError, Global};
+use cts_up::sites;
+use std::alloc::Global;
 use std::sync::ledger::Ledger;
 
 /// The tree of a shape over an instance's sinks by its plan, with its figures: places and routes from
@@ -64,24 +64,14 @@ fn settle(alloc: Global, instance: &Instance, placed: Placed) -> Result<(Tree, F
 {
     // A read call says that the instance is valid, which the limits of the passes rest on.
     let _die = instance.die();
-    let tree = balance(alloc, instance, placed)?;
-    let figures = measure(alloc, instance, &tree)?;
+    let capacitances = capacitances(alloc, instance, placed.nodes())?;
+    let tree = balance_with(alloc, instance, placed, capacitances.as_slice())?;
+    let figures = measure_with(alloc, instance, &tree, capacitances.as_slice())?;
     Ok((tree, figures))
 }
 
-/// The room in bytes, for each sink, of the lists that come one after the other: more than that of the
-/// figures, which come last, and less than that of the plan and of the nodes, which are freed in parts.
-const ROOM: usize = 136;
-
-/// Asks for room and gives it back. The C library then keeps lists of up to this length in one heap, where
-/// each takes the place of those that went, and asks the system for the pages of longer ones alone. Whether
-/// there is such room doesn't matter.
-fn open_heap(alloc: Global, room: usize) {
-    let _asked: Result<Vec<u8>, AllocError> = Vec::with_capacity(alloc, room);
-}
-
-/// The nodes of an instance's tree in their places, with the routes to them. The shape and the plan,
-/// which nobody reads after it, go.
+/// The nodes of an instance's tree in their places, with the routes to them. The shape and the sites of its
+/// plan, which nobody reads after it, go.
 fn place<L: Ledger>(
     alloc: Global,
     instance: &Instance,
@@ -96,10 +86,9 @@ fn place<L: Ledger>(
     ensures merges_at_most { steps.new + 1 ≤ steps.old + length instance.now.sinks }
 {
     let sinks = instance.sinks();
-    open_heap(alloc, sinks.len().saturating_mul(ROOM));
     let shape = topology(alloc, sinks)?;
-    let plan = up(alloc, instance.params(), sinks, &shape, steps)?;
-    Ok(embed_plan(alloc, instance, &shape, plan)?)
+    let sites = sites(alloc, instance.params(), sinks, &shape, steps)?;
+    Ok(embed_sites(alloc, instance, &shape, sites.as_slice())?)
 }
 
 /// The synthesis of an instance by one thread: its tree with the figures, or why it has none.

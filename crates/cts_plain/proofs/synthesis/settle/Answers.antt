@@ -1,9 +1,26 @@
+use Rattle.std.proofs.Common.{◌<◌, List, length, IfSome, sym, ap, subst, ◌∙◌}
+use Rattle.std.specs.List.{All}
+use Rattle.cts_tree.specs.declared.nodes.TreeNode.{TreeNode}
+use Rattle.cts_tree.specs.Nodes.{leaf_sink}
+use Rattle.cts_embed.proofs.Capacitances.{sinks_within}
+use Rattle.cts_elmore.specs.Loads.{leaf_loads}
 use Rattle.cts_plain.specs.Synthesis.{IsTreeOf}
+use Rattle.cts_plain.proofs.LeafLoads.{leaf_loads_kept}
 use Rattle.cts_plain.proofs.Sound.{trees_sound}
 use Rattle.cts_plain.proofs.synthesis.settle.Goals as goal
 
-pub measure-requires-clause-fits : goal.measure-requires-clause-fits
-measure-requires-clause-fits c =
+pub capacitances-requires : goal.capacitances-requires
+capacitances-requires c =
+    subst (λ (nodes : List TreeNode). All (λ node. IfSome (leaf_sink node.kind) (λ sink. sink < length c.args.instance.now.sinks)) nodes)
+    (sym c.nodes.ensures.nodes) (sinks_within c.args.instance.now c.args.placed c.requires.fits)
+
+pub measure_with-requires-clause-capacitances : goal.measure_with-requires-clause-capacitances
+measure_with-requires-clause-capacitances c =
+    c.as_slice-2.ensures.value ∙ c.in_ok-capacitances.ensures ∙ ap (leaf_loads c.args.instance.now) c.nodes.ensures.nodes
+    ∙ leaf_loads_kept c.args.instance.now c.args.placed c.nodes.ensures.post_order c.in_ok-tree.tree c.in_ok-tree.ensures.tree
+
+pub measure_with-requires-clause-fits : goal.measure_with-requires-clause-fits
+measure_with-requires-clause-fits c =
     let shape = c.requires.of_shape.0 in
     let by = c.requires.of_shape.2 in
     let tree : IsTreeOf c.args.instance.now shape c.in_ok-tree.tree = record {
@@ -15,8 +32,8 @@ measure-requires-clause-fits c =
     } in
     (trees_sound c.args.instance.now shape c.in_ok-tree.tree c.die-die.ensures.valid c.requires.of_shape.1 tree).2
 
-pub measure-requires-clause-within : goal.measure-requires-clause-within
-measure-requires-clause-within c =
+pub measure_with-requires-clause-within : goal.measure_with-requires-clause-within
+measure_with-requires-clause-within c =
     let shape = c.requires.of_shape.0 in
     let by = c.requires.of_shape.2 in
     let tree : IsTreeOf c.args.instance.now shape c.in_ok-tree.tree = record {
