@@ -1,6 +1,6 @@
 //! Reading all that a source has.
 
-ghost use Rattle.std.specs.Prelude.{◌≡◌, ℕ, List, ◌+◌, ◌^◌, ◌<◌, ◌≤◌, length, vec_len, IfOk, IfSome, OnOk, IsErrOf};
+ghost use Rattle.std.specs.Prelude.{◌≡◌, ℕ, List, ◌+◌, ◌++◌, ◌^◌, ◌<◌, ◌≤◌, length, vec_len, IfOk, IfSome, OnOk, IsErrOf};
 ghost use Rattle.std.specs.Io.KnownBytes.{IsAtEnd};
 ghost use Rattle.cts_io.specs.Faults.{Rose};
 ghost use Rattle.cts_io.specs.Taken.{TakesFirst};
@@ -85,6 +85,18 @@ pub fn read_all<S: ByteSource>(
         if bytes.len() + count > limit {
             return Err(ReadEnd::TooLong);
         }
-        bytes.extend_from_slice(&part[..count])?;
+        append(&mut bytes, &part[..count])?;
     }
+}
+
+/// Appends some bytes. The list grows by a quarter at a time and not to twice its length: so a report of 24 MB is
+/// never in a list above 32 MB, which the C library would keep apart from the heap that later lists take.
+fn append(bytes: &mut Vec<u8>, more: &[u8]) -> Result<(), AllocError>
+    ensures items { OnOk result (bytes.new.items ≡ bytes.old.items ++ more.now) }
+    ensures len { OnOk result (vec_len bytes.new ≡ vec_len bytes.old + length more.now) }
+{
+    if bytes.capacity() - bytes.len() < more.len() {
+        bytes.reserve_exact(more.len().max(bytes.len() / 4))?;
+    }
+    bytes.extend_from_slice(more)
 }

@@ -50,15 +50,15 @@ pub loop-block-preserved : goal.loop-block-preserved
 loop-block-preserved g c =
     let both = Consumes-trans _ _ _ _ _ c.loop-block.invariant.taken c.in_ok-count.ensures.taken in
     record {
-      within = rw c.in_ok-extend_from_slice.ensures.len (omega (arith, length-take {A = ℕ}, c.in_ok-count.ensures.bound));
+      within = rw c.in_ok-append.ensures.len (omega (arith, length-take {A = ℕ}, c.in_ok-count.ensures.bound));
       room = omega arith;
-      taken = rw c.in_ok-extend_from_slice.ensures.items both;
+      taken = rw c.in_ok-append.ensures.items both;
       counted = omega (arith, c.in_ok-count.ensures.counted);
     }
 
-pub returns-in_err-extend_from_slice-clause-fewer :
-    goal.returns-in_err-extend_from_slice-clause-fewer
-returns-in_err-extend_from_slice-clause-fewer g c = λ _. (
+pub returns-in_err-append-clause-fewer :
+    goal.returns-in_err-append-clause-fewer
+returns-in_err-append-clause-fewer g c = λ _. (
   vec_len c.loop-block.bytes + c.in_ok-count.count,
   omega arith,
   takes_first _ _ _ _ (rw (length-append, length-take) (omega (arith, c.in_ok-count.ensures.bound))) (Consumes-trans _ _ _ _ _ c.loop-block.invariant.taken c.in_ok-count.ensures.taken),
