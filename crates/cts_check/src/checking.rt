@@ -1,6 +1,8 @@
 //! The check of a report.
 
-ghost use Rattle.std.specs.Prelude.{IfOk};
+ghost use Rattle.std.specs.Prelude.{ℕ, List, ◌≤◌, length, drop, IfOk};
+ghost use Rattle.cts_instance.specs.Validity.{IsValid};
+ghost use Rattle.cts_report_reader.specs.Reports.{IsReading, IsSeenReading};
 ghost use Rattle.cts_check.specs.Verdict.{IsVerdict};
 
 use crate::judge::judge;
@@ -30,8 +32,51 @@ pub fn check(
 ) -> Result<Verdict, NoMemory>
     ensures { IfOk result (IsVerdict instance.now bytes.now) }
 {
+    let reading = reading_of(alloc, instance, bytes)?;
+    verdict_on(rt, alloc, instance, reading)
+}
+
+/// The verdict that [`check`] gives on the bytes of an input from this place on. The input goes once it is read, so
+/// that the tree takes its room.
+pub fn check_rest(
+    rt: &(impl Threads + Sync),
+    alloc: Global,
+    instance: &Instance,
+    input: Vec<u8>,
+    from: usize,
+) -> Result<Verdict, NoMemory>
+    requires { from ≤ length input.items }
+    ensures { IfOk result (IsVerdict instance.now (drop from input.items)) }
+{
+    let reading = reading_of(alloc, instance, &input[from..])?;
+    drop(input);
+    verdict_on(rt, alloc, instance, reading)
+}
+
+/// What some bytes are as a report of an instance's clock tree.
+fn reading_of(alloc: Global, instance: &Instance, bytes: &[u8]) -> Result<Reading, NoMemory>
+    ensures told { IfOk result (IsReading (length instance.now.params.library) bytes.now) }
+    ensures seen { IfOk result IsSeenReading }
+    ensures valid { IsValid instance.now }
+{
     let buffers = instance.params().library.items().len();
-    match read_report(alloc, buffers, bytes)? {
+    read_report(alloc, buffers, bytes)
+}
+
+/// The verdict on bytes that were read so.
+fn verdict_on(
+    rt: &(impl Threads + Sync),
+    alloc: Global,
+    instance: &Instance,
+    reading: Reading,
+) -> Result<Verdict, NoMemory>
+    requires told { (bytes : List ℕ) × IsReading (length instance.now.params.library) bytes reading }
+    requires seen { IsSeenReading reading }
+    requires valid { IsValid instance.now }
+    ensures { (bytes : List ℕ) → IsReading (length instance.now.params.library) bytes reading
+        → IfOk result (IsVerdict instance.now bytes) }
+{
+    match reading {
         Reading::Text { report } => judge(rt, alloc, instance, report),
         Reading::NotText { line } => Ok(Verdict::NotText { line }),
     }

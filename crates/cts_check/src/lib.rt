@@ -24,5 +24,5 @@ mod told;
 mod verdict;
 mod wires;
 
-pub use checking::check;
+pub use checking::{check, check_rest};
 pub use verdict::{Rule, Verdict};
