@@ -4,8 +4,8 @@
 //! returns and serves the forms of one thread, [`end_without_memory`] where it can't even collect the
 //! words, and the statuses. What stands beside them is private: the words (`words`), what each form does
 //! (`serve`), the instance of an input (`input`), its synthesis by workers (`workers`) and by one thread,
-//! and the text for it (`answer`), the edits of callers (`edit`), the verdict on a report (`verdict`), and
-//! the notes (`stop`, `notes`).
+//! and the text for it (`answer`), the edits of callers (`edit`), the verdict on a report (`verdict`), the
+//! room that their lists share (`room`), and the notes (`stop`, `notes`).
 #![tactic(auto)]
 
 mod answer;
@@ -14,6 +14,7 @@ mod edit;
 mod input;
 mod notes;
 mod outcome;
+mod room;
 mod serve;
 mod stop;
 mod verdict;

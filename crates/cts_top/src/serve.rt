@@ -18,6 +18,7 @@ use crate::answer::{Telling, answer_by_workers, answer_instance};
 use crate::edit::serve_edit;
 use crate::input::{INPUT_LIMIT, give_back, read_front, read_input};
 use crate::outcome::Kept;
+use crate::room::{REPORT_ROOM, TREE_ROOM, open_heap};
 use crate::stop::{Answer, Stop, ended};
 use crate::verdict::answer_verdict;
 use crate::words::{Form, is_alone};
@@ -79,6 +80,7 @@ fn read_source<S: ByteSource>(alloc: Global, source: &mut S) -> Result<Instance,
     ensures counted { S.faults source.old ≤ S.faults source.new }
 {
     let bytes = read_all(alloc, source, INPUT_LIMIT)?;
+    let _first = open_heap(alloc, TREE_ROOM);
     let read = read_input(alloc, &bytes);
     give_back(bytes);
     read
@@ -94,8 +96,9 @@ fn serve_check<R: Threads + Sync, S: ByteSource, K: ByteSink>(
     ensures serves { Serves S.left S.faults K.held K.faults no_log Form.Check source.old source.new sink.old sink.new result }
     ensures words { IsErrOf result Stop.Words → ⊥ }
 {
-    let (instance, bytes, used) = read_front_source(alloc, source)?;
-    answer_verdict(rt, alloc, sink, &instance, &bytes[used..])
+    let _first = open_heap(alloc, REPORT_ROOM);
+    let (instance, input, used) = read_front_source(alloc, source)?;
+    answer_verdict(rt, alloc, sink, &instance, input, used)
 }
 
 /// The instance at the front of an input, which is read to its end, with all its bytes and how many of
@@ -146,7 +149,9 @@ fn serve_job<K: ByteSink>(
     requires sinks { sinks ≤ 65536 }
     ensures { Answers (TellsSynthesis summary_text (made_parts seed sinks)) K.held K.faults sink.old sink.new result }
 {
+    let first = open_heap(alloc, TREE_ROOM);
     let instance = make_instance(alloc, seed, sinks)?;
+    drop(first);
     answer_instance(alloc, sink, Telling::Summary, &instance)
 }
 

@@ -1,13 +1,13 @@
 //! The verdict on a report, and the line for it.
 
-ghost use Rattle.std.specs.Prelude.{◌≡◌};
+ghost use Rattle.std.specs.Prelude.{◌≡◌, ◌≤◌, length, drop};
 ghost use Rattle.cts_io.specs.Text.{Puts, Writes};
 ghost use Rattle.cts_top.specs.Verdict.{TellsVerdict, answer_of_verdict, rule_words, verdict_text};
 ghost use Rattle.cts_top.specs.Written.{Answers};
 
 use crate::notes::put_numbered;
 use crate::stop::{Answer, Stop, ended};
-use cts_check::{Rule, Verdict, check};
+use cts_check::{Rule, Verdict, check_rest};
 use cts_instance::Instance;
 use cts_io::{ByteSink, SinkBuffer, WriteEnd};
 use std::alloc::Global;
@@ -66,17 +66,20 @@ fn kind_of(verdict: Verdict) -> Answer
     }
 }
 
-/// Writes the line for the verdict on a report of an instance.
+/// Writes the line for the verdict on the bytes of an input from this place on, as a report of an instance. The input
+/// goes once it is read.
 pub fn answer_verdict<R: Threads + Sync, K: ByteSink>(
     rt: &R,
     alloc: Global,
     sink: &mut K,
     instance: &Instance,
-    report: &[u8],
+    input: Vec<u8>,
+    from: usize,
 ) -> Result<Answer, Stop>
-    ensures { Answers (TellsVerdict instance.now report.now) K.held K.faults sink.old sink.new result }
+    requires { from ≤ length input.items }
+    ensures { Answers (TellsVerdict instance.now (drop from input.items)) K.held K.faults sink.old sink.new result }
 {
     let _die = instance.die();
-    let verdict = check(rt, alloc, instance, report)?;
+    let verdict = check_rest(rt, alloc, instance, input, from)?;
     ended(write_verdict(sink, verdict), kind_of(verdict))
 }
