@@ -66,7 +66,7 @@ fn judge<R: AllocGlobal + Threads + Wait + Sync + Print>(
 }
 
 /// Compares the report and the summary of a made instance of 64 sinks, and judges its report.
-pub fn check<R: AllocGlobal + Threads + Wait + Sync + Print>(rt: &R) -> io::Result<()> {
+pub(crate) fn check<R: AllocGlobal + Threads + Wait + Sync + Print>(rt: &R) -> io::Result<()> {
     let (_, made) = answer(rt, "make 14 64", b"")?;
     compare(
         rt,

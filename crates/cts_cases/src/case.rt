@@ -56,7 +56,7 @@ fn no_memory(_: NoMemory) -> io::Error {
 }
 
 /// The words of a text.
-pub fn words_of(alloc: Global, text: &str) -> io::Result<Vec<String>> {
+pub(crate) fn words_of(alloc: Global, text: &str) -> io::Result<Vec<String>> {
     let mut words = Vec::new(alloc);
     for word in text.split_whitespace() {
         words.push(String::from_str(alloc, word)?)?;
@@ -65,13 +65,13 @@ pub fn words_of(alloc: Global, text: &str) -> io::Result<Vec<String>> {
 }
 
 /// A sink that takes what a made instance of some sinks comes to.
-pub fn much(alloc: Global) -> io::Result<MemSink> {
+pub(crate) fn much(alloc: Global) -> io::Result<MemSink> {
     Stream::of(None, None).sink(alloc)
 }
 
 /// Runs a case. Two words for each of its streams, the input, the output and the notes, say how much it moves at once
 /// and which call fails, as in `/ 7 - 7 1 4096 0`. Where the line begins with `-`, the text lacks its last line end.
-pub fn run_case<R: AllocGlobal + Threads + Wait + Sync + Print>(
+pub(crate) fn run_case<R: AllocGlobal + Threads + Wait + Sync + Print>(
     rt: &R,
     case: &[u8],
 ) -> io::Result<()> {

@@ -19,7 +19,7 @@ const NUMBERS: [(u128, u32); 9] = [
 ];
 
 /// Prints the texts of the numbers, and of the error for want of memory.
-pub fn write<R: Print>(rt: &R) -> io::Result<()> {
+pub(crate) fn write<R: Print>(rt: &R) -> io::Result<()> {
     for (value, places) in NUMBERS {
         if value < 100_000_000_000_000_000_000_000_000_000_000_000_000 && places <= 16 {
             show::text(rt, decimal(value, places).bytes())?;

@@ -25,7 +25,7 @@ const WIRES: [(&str, &str); 3] = [
 ];
 
 /// Prints the verdicts on reports of trees in which every pair but the lowest has a leaf on its right.
-pub fn check<R: AllocGlobal + Threads + Wait + Sync + Print>(rt: &R) -> io::Result<()> {
+pub(crate) fn check<R: AllocGlobal + Threads + Wait + Sync + Print>(rt: &R) -> io::Result<()> {
     let alloc = rt.alloc();
     let mut words = Vec::new(alloc);
     words.push(String::from_str(alloc, "check")?)?;

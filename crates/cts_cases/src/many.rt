@@ -12,7 +12,7 @@ const BUFFER_BLOCKS: u32 = 4_096;
 const ALL_BLOCKS: u32 = 64;
 
 /// Prints how many sinks and blocks are read of an instance that has as many as there may be.
-pub fn read<R: AllocGlobal + Print>(rt: &R) -> io::Result<()> {
+pub(crate) fn read<R: AllocGlobal + Print>(rt: &R) -> io::Result<()> {
     let mut text = String::new(rt.alloc());
     text.push_str("cts 1\ndie 0 0 100 100\nsource 0 0 0\nwire 1 1\nlimits 1 1 1\nbuffers 0\n")?;
     writeln!(text, "sinks {SINKS}")?;

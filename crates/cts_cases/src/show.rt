@@ -5,7 +5,7 @@ use cts_read::read_instance;
 use std::{io, str};
 
 /// A text, with a line end of its own where it has none.
-pub fn text<R: Print>(rt: &R, bytes: &[u8]) -> io::Result<()> {
+pub(crate) fn text<R: Print>(rt: &R, bytes: &[u8]) -> io::Result<()> {
     let text = str::from_utf8(bytes).unwrap_or("not UTF-8");
     if text.is_empty() || text.ends_with('\n') {
         print!(rt; "{text}")
@@ -16,7 +16,7 @@ pub fn text<R: Print>(rt: &R, bytes: &[u8]) -> io::Result<()> {
 
 /// What reading a text gives: why it is refused, or all of the instance, with the number of its last line and the
 /// bytes that it takes.
-pub fn reading<R: AllocGlobal + Print>(rt: &R, text: &[u8]) -> io::Result<()> {
+pub(crate) fn reading<R: AllocGlobal + Print>(rt: &R, text: &[u8]) -> io::Result<()> {
     if text.len() > 65_536 {
         return Ok(());
     }

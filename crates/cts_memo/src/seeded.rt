@@ -10,6 +10,7 @@ pub(crate) struct Seeded {
 }
 
 impl Seeded {
+    /// Makes hashers that begin with this seed.
     pub(crate) fn new(seed: u64) -> Seeded {
         Seeded { seed }
     }

@@ -210,6 +210,7 @@ pub(crate) fn write_low(number: u64, width: usize, buffer: &mut [u8], end: usize
     rest
 }
 
+/// Writes a number below 100 as two digits at this place of a buffer.
 #[inline(always)]
 pub(crate) fn write_pair(pair: u64, buffer: &mut [u8], at: usize)
     requires pair { pair < 100 }
