@@ -26,8 +26,6 @@ mod obstacles;
 mod raster;
 mod scan;
 mod search;
-#[cfg(test)]
-mod tests;
 mod whole;
 
 pub use blocks::{Block, Kind};

@@ -62,7 +62,7 @@ fn draw_counted<L: Ledger, R: Wait, G: Gate>(
 }
 
 /// The tree of the sinks after all edits.
-pub(crate) fn draw_last<R: Wait, G: Gate>(
+fn draw_last<R: Wait, G: Gate>(
     rt: &R,
     alloc: Global,
     gate: &G,

@@ -14,6 +14,3 @@ mod reply;
 
 pub use edit::{Run, run_callers};
 pub use reply::Reply;
-
-#[cfg(test)]
-mod tests;

@@ -11,6 +11,3 @@ mod rule;
 mod view;
 
 pub use deal::{Deal, Hand};
-
-#[cfg(test)]
-mod tests;

@@ -21,6 +21,3 @@ pub use call::{DesignCall, DesignReply, EditReply};
 pub use design::Design;
 pub use edit::{Edit, EditCause, Entry};
 pub use shared::{send_edit, snapshot};
-
-#[cfg(test)]
-mod tests;

@@ -1,20 +1,18 @@
 -- Why an input spells no instance and no report.
-use Rattle.std.proofs.Common.{ℕ, ◌≤◌, List, length, refl}
+use Rattle.std.proofs.Common.{ℕ, ◌≤◌, List, length}
 use Rattle.cts_instance.specs.declared.parts.Parts.{Parts}
 use Rattle.cts_read.specs.declared.stop.ReadStop.{ReadStop}
 use Rattle.cts_read.specs.declared.stop.ReadStop.TheVariants.{Refused, NoMemory}
 use Rattle.cts_read.specs.Grammar.{Refuses}
-use Rattle.cts_read.specs.Whole.{instance_of}
-use Rattle.cts_top.specs.Input.{SpellsFront, front_of, input_limit}
+use Rattle.cts_notes.specs.Front.{SpellsFront, front_of, input_limit}
 use Rattle.cts_draw.specs.declared.stop.Stop.{Stop}
 use Rattle.cts_draw.specs.declared.stop.Stop.TheVariants as stop
 use Rattle.cts_draw.specs.Drawing.{Explains, ExplainsReport, stop_of_text}
 
-pub front_refused : (bytes : List ℕ) (end : ReadStop) → length bytes ≤ input_limit → Refuses end (instance_of bytes)
+pub refuses_explains : (bytes : List ℕ) (end : ReadStop) → length bytes ≤ input_limit → Refuses end (front_of bytes)
     → Explains bytes (stop_of_text end)
-unfolding front_of
-front_refused bytes (Refused line cause) h e = (h, rw e refl)
-front_refused bytes NoMemory h e = tt
+refuses_explains bytes (Refused line cause) h e = (h, e)
+refuses_explains bytes NoMemory h e = tt
 
 -- where the instance was read, and what follows it is no report
 pub report_refused : (bytes : List ℕ) (i : Parts) (rest : List ℕ) (end : Stop) → SpellsFront bytes i rest → ExplainsReport i rest end

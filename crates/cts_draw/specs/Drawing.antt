@@ -12,9 +12,9 @@ use Rattle.cts_report.specs.Printed.{Printed}
 use Rattle.cts_report_reader.specs.Bounds.{IsReport}
 use Rattle.cts_report_reader.specs.Text.{Spells, IsNotText}
 use Rattle.cts_picture.specs.Picture.{picture_text}
-use Rattle.cts_top.specs.Input.{SpellsFront, front_of, input_limit}
-use Rattle.cts_top.specs.declared.outcome.Status.{Status}
-use Rattle.cts_top.specs.declared.outcome.Status.TheVariants as status
+use Rattle.cts_notes.specs.Front.{SpellsFront, front_of, input_limit}
+use Rattle.cts_notes.specs.declared.status.Status.{Status}
+use Rattle.cts_notes.specs.declared.status.Status.TheVariants as status
 use Rattle.cts_draw.specs.declared.stop.Stop.{Stop}
 use Rattle.cts_draw.specs.declared.stop.Stop.TheVariants as stop
 

@@ -1,5 +1,5 @@
 pub mod Drawing
 pub mod Notes
-pub use Rattle.cts_top.specs.Input
-pub use Rattle.cts_top.specs.Outcome
+pub use Rattle.cts_notes.specs.Front
+pub use Rattle.cts_notes.specs.Status
 pub use Rattle.cts_picture.specs.Picture

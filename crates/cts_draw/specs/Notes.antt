@@ -1,7 +1,7 @@
 -- What the notes say where no picture was written whole. But for the usage and for a report that is none they are the notes
 -- of the program for words.
 use Rattle.std.specs.Prelude.{ℕ, List, [], ◌++◌, codes, Result, Ok, Err}
-use Rattle.cts_top.specs.Notes.{numbered, refusal_note, too_long_note}
+use Rattle.cts_notes.specs.Notes.{numbered, refusal_note, too_long_note}
 use Rattle.cts_draw.specs.declared.stop.Stop.{Stop}
 use Rattle.cts_draw.specs.declared.stop.Stop.TheVariants as stop
 

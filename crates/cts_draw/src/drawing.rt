@@ -11,8 +11,8 @@ use crate::input::read_source;
 use crate::notes::write_note;
 use crate::stop::{Stop, status_of};
 use cts_io::{ByteSink, ByteSource};
+use cts_notes::Status;
 use cts_picture::write_picture;
-use cts_top::Status;
 use std::alloc::Global;
 
 /// Reads an instance and a report, and writes the picture.

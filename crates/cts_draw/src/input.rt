@@ -5,22 +5,19 @@ ghost use Rattle.std.specs.Io.KnownBytes.{IsAtEnd};
 ghost use Rattle.cts_io.specs.Faults.{Rose};
 ghost use Rattle.cts_report_reader.specs.Reports.{seen_report};
 ghost use Rattle.cts_picture.specs.Drawable.{IsDrawable};
-ghost use Rattle.cts_top.specs.Input.{SpellsFront, input_limit};
+ghost use Rattle.cts_notes.specs.Front.{SpellsFront, input_limit};
 ghost use Rattle.cts_draw.specs.Drawing.{Explains, ExplainsReport, SpellsBoth, SpellsReport};
 
 use crate::stop::Stop;
 use cts_instance::Instance;
 use cts_io::{ByteSource, read_all};
-use cts_read::read_instance;
+use cts_notes::INPUT_LIMIT;
 use cts_report_reader::{Reading, Report, read_report};
 use std::alloc::Global;
 
-/// The most bytes of an input that are accepted: 64 MiB.
-const INPUT_LIMIT: usize = 67_108_864;
-
 /// The instance at the front of an input that is not too long, and how many of the bytes are those of its
 /// lines; or why there is none.
-#[tactic(auto, using(crate::proofs::Reading::front_refused))]
+#[tactic(auto, using(crate::proofs::Reading::refuses_explains))]
 fn read_front(alloc: Global, bytes: &[u8]) -> Result<(Instance, usize), Stop>
     requires { length bytes.now ≤ input_limit }
     ensures spells { IfOk result (λ r. SpellsFront bytes.now r.0 (drop r.1 bytes.now)) }
@@ -30,8 +27,7 @@ fn read_front(alloc: Global, bytes: &[u8]) -> Result<(Instance, usize), Stop>
     ensures read_fault { IsErrOf result Stop.ReadFault → ⊥ }
     ensures write_fault { IsErrOf result Stop.WriteFault → ⊥ }
 {
-    let taken = read_instance(alloc, bytes)?;
-    Ok((taken.instance, taken.used))
+    Ok(cts_notes::read_front(alloc, bytes)?)
 }
 
 /// The report on an instance that these bytes are the text of, or that they are none.

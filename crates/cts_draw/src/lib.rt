@@ -3,7 +3,7 @@
 //!
 //! The layer above, the program, may use [`draw`]. What stands beside it is private: the instance and the
 //! report of an input (`input`), and the notes (`stop`, `notes`). Statuses and notes are those of `cts`
-//! (`cts_top`), beside which there is one more note, on a report that is no text of one.
+//! (`cts_notes`), beside which there is one more note, on a report that is no text of one.
 #![tactic(auto)]
 
 mod drawing;
@@ -12,6 +12,3 @@ mod notes;
 mod stop;
 
 pub use drawing::draw;
-
-#[cfg(test)]
-mod tests;

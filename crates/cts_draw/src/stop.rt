@@ -5,9 +5,9 @@ ghost use Rattle.cts_draw.specs.Drawing.{status_of, stop_of_read, stop_of_text};
 ghost use Rattle.cts_draw.specs.declared.stop.Stop.TheVariants.{WriteFault};
 
 use cts_io::{ReadEnd, WriteEnd};
+use cts_notes::Status;
 use cts_num::NoMemory;
 use cts_read::{Cause, ReadStop};
-use cts_top::Status;
 use thiserror::Error;
 
 /// Why no picture was written whole.

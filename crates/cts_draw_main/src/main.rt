@@ -3,11 +3,11 @@
 
 ghost use Rattle.std.specs.Prelude.{◌≡◌};
 ghost use Rattle.std.specs.Process.{exit_status};
-ghost use Rattle.cts_top.specs.Outcome.{code_of};
+ghost use Rattle.cts_notes.specs.Status.{code_of};
 
 use cts_draw::draw;
 use cts_io::{HostSink, HostSource};
-use cts_top::Status;
+use cts_notes::Status;
 use std::env::FillError;
 use std::process::ExitCode;
 use std::rt::Env;

@@ -23,6 +23,3 @@ mod subtree;
 pub use capacitance::capacitances;
 pub use figures::{Figures, NodeFigure, NodeFigures};
 pub use measurement::{Measured, measure, measure_with, try_measure};
-
-#[cfg(test)]
-mod tests;

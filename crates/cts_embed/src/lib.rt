@@ -24,6 +24,3 @@ pub use balancing::{balance, balance_with};
 pub use embedding::{embed, embed_sites};
 pub use end::{BalanceEnd, EmbedEnd};
 pub use node::NodeBalance;
-
-#[cfg(test)]
-mod tests;

@@ -12,6 +12,3 @@ mod reply;
 mod words;
 
 pub use history::write_history;
-
-#[cfg(test)]
-mod tests;

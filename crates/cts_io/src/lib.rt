@@ -25,6 +25,3 @@ pub use host::{HostSink, HostSource};
 pub use memory::{MemSink, MemSource};
 pub use read::{ReadEnd, read_all};
 pub use write::{WriteEnd, write_all};
-
-#[cfg(test)]
-mod tests;

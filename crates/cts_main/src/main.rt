@@ -3,7 +3,7 @@
 
 ghost use Rattle.std.specs.Prelude.{◌≡◌};
 ghost use Rattle.std.specs.Process.{exit_status};
-ghost use Rattle.cts_top.specs.Outcome.{code_of};
+ghost use Rattle.cts_notes.specs.Status.{code_of};
 
 use cts_io::{HostSink, HostSource};
 use cts_top::{Outcome, end_without_memory, run};

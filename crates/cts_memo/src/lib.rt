@@ -12,6 +12,3 @@ pub use entry::{Answer, MemoCall, MemoEntry, MemoReply, PutEnd};
 pub use key::Key;
 pub use memo::{Memo, MemoOut, MemoPass};
 pub use table::Table;
-
-#[cfg(test)]
-mod tests;

@@ -260,6 +260,3 @@ pub fn route(
     let grid = Grid::of(alloc, blocks, die)?;
     grid.route(alloc, from, to)
 }
-
-#[cfg(test)]
-mod tests;

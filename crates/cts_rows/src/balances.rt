@@ -8,6 +8,7 @@ use cts_geom::Region;
 use cts_merge::{Beyond, Side, choose};
 use cts_units::{Library, Params, Wire};
 use std::alloc::Global;
+use std::process::Abort;
 
 /// A side whose region has no part in a balance.
 fn side(greatest: u128, load: u64) -> Side
@@ -40,31 +41,52 @@ fn bare(alloc: Global, unit: u64) -> Params
     }
 }
 
+/// Compares the lengths that balance two sides over routes of these lengths.
+fn balances(
+    rt: &impl Abort,
+    params: &Params,
+    a: (&Side, u64),
+    b: (&Side, u64),
+    lengths: Result<(u64, u64), Beyond>,
+)
+    requires params { IsParams params.now }
+    requires a { IsSideInRange a.0.now }
+    requires b { IsSideInRange b.0.now }
+{
+    assert_eq!(rt; choose(params, a.0, a.1, b.0, b.1), lengths);
+}
+
 #[test]
 fn lengths_of_worked_pairs(rt: HostRuntime) {
     let unit = bare(rt.alloc(), 1);
     let light = side(0, 5);
     // (3, 3) has 39 on both sides, where (2, 3) has 24 and 39.
-    assert_eq!(rt; choose(&unit, &light, 2, &light, 3), Ok((3, 3)));
-    assert_eq!(rt; choose(&unit, &light, 3, &light, 2), Ok((3, 3)));
+    balances(&rt, &unit, (&light, 2), (&light, 3), Ok((3, 3)));
+    balances(&rt, &unit, (&light, 3), (&light, 2), Ok((3, 3)));
     // (5, 5) leaves 10, and (6, 5) would leave 11.
-    assert_eq!(rt; choose(&unit, &light, 5, &side(0, 6), 5), Ok((5, 5)));
+    balances(&rt, &unit, (&light, 5), (&side(0, 6), 5), Ok((5, 5)));
     // The first side waits for 1000: 27·37 = 999.
-    assert_eq!(rt; choose(&unit, &light, 10, &side(1000, 5), 0), Ok((27, 0)));
+    balances(&rt, &unit, (&light, 10), (&side(1000, 5), 0), Ok((27, 0)));
     // Routes of 2 um and 8 um, with 1 ohm and 1 fF per um.
     let metal = bare(rt.alloc(), 1000);
     let sink = side(0, 5_000_000);
-    assert_eq!(rt; choose(&metal, &sink, 2000, &sink, 8000), Ok((8000, 8000)));
-    // A route at the limit of one wire, and routes past it.
+    balances(&rt, &metal, (&sink, 2000), (&sink, 8000), Ok((8000, 8000)));
+}
+
+#[test]
+fn lengths_at_the_limit_of_a_wire(rt: HostRuntime) {
+    let unit = bare(rt.alloc(), 1);
+    let light = side(0, 5);
     let limit = 2_147_483_647;
-    assert_eq!(rt;
-        choose(&unit, &light, limit, &light, limit),
-        Ok((limit, limit))
-    );
-    assert_eq!(rt; choose(&unit, &light, limit + 1, &light, 0), Err(Beyond));
-    assert_eq!(rt; choose(&unit, &light, 0, &light, u64::MAX), Err(Beyond));
-    assert_eq!(rt;
-        choose(&unit, &light, limit, &side(0, 4), limit),
-        Err(Beyond)
+    let longest = Ok((limit, limit));
+    balances(&rt, &unit, (&light, limit), (&light, limit), longest);
+    balances(&rt, &unit, (&light, limit + 1), (&light, 0), Err(Beyond));
+    balances(&rt, &unit, (&light, 0), (&light, u64::MAX), Err(Beyond));
+    balances(
+        &rt,
+        &unit,
+        (&light, limit),
+        (&side(0, 4), limit),
+        Err(Beyond),
     );
 }

@@ -1,9 +1,13 @@
 //! Free points round a few blocks.
 
+ghost use Rattle.cts_geom.specs.Points.{IsSpotInRange};
+
 use cts_block::{Block, Kind, free_for_buffer, free_for_wire};
 use cts_geom::{Die, Spot};
+use std::process::Abort;
 
-fn block(kind: Kind, x1: i64, y1: i64, x2: i64, y2: i64) -> Block {
+/// A block in nm.
+pub(crate) fn block(kind: Kind, x1: i64, y1: i64, x2: i64, y2: i64) -> Block {
     Block {
         kind,
         x1,
@@ -31,55 +35,71 @@ fn square_in_a_square() -> [Block; 4] {
     ]
 }
 
+/// Compares whether a wire may stand at the spot (u, v) in the square.
+fn holds_a_wire(rt: &impl Abort, blocks: &[Block], u: i64, v: i64, is_free: bool)
+    requires { IsSpotInRange (record { u = u; v = v }) }
+{
+    let die = square_die(5);
+    assert_eq!(rt;
+        free_for_wire(blocks, &die, Spot { u, v }),
+        is_free,
+        "at {u}, {v}"
+    );
+}
+
 #[test]
 fn leaves_edges_free_for_wires(rt: HostRuntime) {
-    let die = square_die(5);
     let blocks = square_in_a_square();
-    let table = [
-        ("(2.5, 2.5), the centre", 5, 0, false),
-        ("(2, 2)", 4, 0, false),
-        ("(1.5, 3.5)", 5, -2, false),
-        ("(1, 2), on the west edge", 3, -1, true),
-        ("(4, 4), a corner", 8, 0, true),
-        ("(0.5, 0.5)", 1, 0, true),
-        ("(4.5, 2.5)", 7, 2, true),
-        ("(5, 5), a corner of the die", 10, 0, true),
-        ("(0, 3), on the west edge of the die", 3, -3, true),
-        ("(5.5, 2.5), east of the die", 8, 3, false),
-        ("(2, 6), north of the die", 8, -4, false),
-        ("(-0.5, 0.5), west of the die", 0, -1, false),
-        ("(3, -1), south of the die", 2, 4, false),
-    ];
-    for (place, u, v, free) in table {
-        assert_eq!(rt;
-            free_for_wire(&blocks, &die, Spot { u, v }),
-            free,
-            "at {place}"
-        );
-    }
+    // (2.5, 2.5), the centre, (2, 2) and (1.5, 3.5).
+    holds_a_wire(&rt, &blocks, 5, 0, false);
+    holds_a_wire(&rt, &blocks, 4, 0, false);
+    holds_a_wire(&rt, &blocks, 5, -2, false);
+    // (1, 2), on the west edge, and (4, 4), a corner.
+    holds_a_wire(&rt, &blocks, 3, -1, true);
+    holds_a_wire(&rt, &blocks, 8, 0, true);
+    // (0.5, 0.5) and (4.5, 2.5).
+    holds_a_wire(&rt, &blocks, 1, 0, true);
+    holds_a_wire(&rt, &blocks, 7, 2, true);
+}
+
+#[test]
+fn leaves_the_edge_of_the_die_free_and_nothing_outside(rt: HostRuntime) {
+    let blocks = square_in_a_square();
+    // (5, 5), a corner of the die, and (0, 3), on its west edge.
+    holds_a_wire(&rt, &blocks, 10, 0, true);
+    holds_a_wire(&rt, &blocks, 3, -3, true);
+    // (5.5, 2.5), (2, 6), (-0.5, 0.5) and (3, -1), to the east, north, west and south of it.
+    holds_a_wire(&rt, &blocks, 8, 3, false);
+    holds_a_wire(&rt, &blocks, 8, -4, false);
+    holds_a_wire(&rt, &blocks, 0, -1, false);
+    holds_a_wire(&rt, &blocks, 2, 4, false);
+}
+
+/// Compares whether a buffer may stand at the spot (u, v).
+fn holds_a_buffer(rt: &impl Abort, blocks: &[Block], u: i64, v: i64, is_free: bool)
+    requires { IsSpotInRange (record { u = u; v = v }) }
+{
+    let die = square_die(20);
+    assert_eq!(rt;
+        free_for_buffer(blocks, &die, Spot { u, v }),
+        is_free,
+        "at {u}, {v}"
+    );
 }
 
 #[test]
 fn keeps_buffers_off_blocks_of_both_kinds(rt: HostRuntime) {
-    let die = square_die(20);
     let blocks = [
         block(Kind::Buffer, 2, 2, 8, 9),
         block(Kind::All, 10, 10, 12, 12),
     ];
-    let table = [
-        ("(5, 5), inside a block for buffers", 10, 0, false),
-        ("(2, 5), on its west edge", 7, -3, true),
-        ("(5, 2), on its south edge", 7, 3, true),
-        ("(8, 5), on its east edge", 13, 3, true),
-        ("(11, 11), inside a block for all", 22, 0, false),
-        ("(10, 11), on its west edge", 21, -1, true),
-        ("(21, 20), outside the die", 41, 1, false),
-    ];
-    for (place, u, v, free) in table {
-        assert_eq!(rt;
-            free_for_buffer(&blocks, &die, Spot { u, v }),
-            free,
-            "at {place}"
-        );
-    }
+    // (5, 5), inside a block for buffers, and (2, 5), (5, 2) and (8, 5), on its edges.
+    holds_a_buffer(&rt, &blocks, 10, 0, false);
+    holds_a_buffer(&rt, &blocks, 7, -3, true);
+    holds_a_buffer(&rt, &blocks, 7, 3, true);
+    holds_a_buffer(&rt, &blocks, 13, 3, true);
+    // (11, 11), inside a block for all, (10, 11), on its west edge, and (21, 20), outside the die.
+    holds_a_buffer(&rt, &blocks, 22, 0, false);
+    holds_a_buffer(&rt, &blocks, 21, -1, true);
+    holds_a_buffer(&rt, &blocks, 41, 1, false);
 }

@@ -1,7 +1,8 @@
-//! Worked rows of the crates on roots, geometry, delays, shapes and merges, as tests.
+//! Worked rows of the crates that neither wait nor start threads, as tests.
 //!
-//! They stand in a crate of their own, since a crate that has a test is proved twice. A row that a text can say is one of
-//! `cts_cases` instead.
+//! They stand in a crate of their own, since a crate that has a test is proved twice. Those of the crates that share
+//! objects between threads are in `cts_rows_shared`, those of texts and whole runs in `cts_rows_top`. A row that a text
+//! can say is one of `cts_cases` instead.
 #![tactic(auto)]
 
 #[cfg(test)]
@@ -13,7 +14,13 @@ mod buffers;
 #[cfg(test)]
 mod delays;
 #[cfg(test)]
+mod figures;
+#[cfg(test)]
+mod free_places;
+#[cfg(test)]
 mod lengths;
+#[cfg(test)]
+mod lists;
 #[cfg(test)]
 mod merges;
 #[cfg(test)]
@@ -25,4 +32,8 @@ mod regions;
 #[cfg(test)]
 mod roots;
 #[cfg(test)]
+mod routes;
+#[cfg(test)]
 mod shapes;
+#[cfg(test)]
+mod trees;

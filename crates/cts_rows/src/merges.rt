@@ -200,99 +200,120 @@ fn pairs_at_the_limits(rt: HostRuntime) {
     compare(&rt, &unit, side(slow, 5, 0, 0), side(slow, 5, 2, 0), None);
 }
 
+/// Compares the region of a pair with its ends in u and v.
+fn compare_region(rt: &impl Abort, node: &Finished, ends: (i64, i64, i64, i64)) {
+    let region = node.side.region;
+    assert_eq!(rt; (region.u1, region.u2, region.v1, region.v2), ends);
+}
+
 #[test]
 fn merging_region_of_a_worked_pair(rt: HostRuntime) -> Result<(), Fail> {
     // (0, 0) and (6, 4) in um with 5 fF each: the segment from (1, 4) to (5, 0).
     let metal = bare(rt.alloc(), 1000, 1000);
-    let node = pair(
-        &metal,
-        &side(0, 5_000_000, 0, 0),
-        &side(0, 5_000_000, 6000, 4000),
-    )?;
-    assert_eq!(rt; (node.ea, node.eb), (5000, 5000));
-    assert_eq!(rt; node.side.load, 20_000_000);
-    assert_eq!(rt; node.side.greatest, 75_000_000_000_000);
-    let region = node.side.region;
-    assert_eq!(rt;
-        (region.u1, region.u2, region.v1, region.v2),
-        (5000, 5000, -3000, 5000)
+    let (a, b) = (side(0, 5_000_000, 0, 0), side(0, 5_000_000, 6000, 4000));
+    let node = pair(&metal, &a, &b)?;
+    compare_pair(
+        &rt,
+        &node,
+        (5000, 5000),
+        None,
+        20_000_000,
+        75_000_000_000_000,
     );
+    compare_region(&rt, &node, (5000, 5000, -3000, 5000));
     Ok(())
+}
+
+/// The leaf of a sink of 5 fF on the x axis.
+fn leaf_at(id: u32, x: i64) -> Finished
+    requires low { pos 0 ≤ℤ x }
+    requires high { x ≤ℤ pos (10 ^ 8) }
+    ensures { IsMergeable result.side }
+{
+    leaf(&Sink {
+        id,
+        x,
+        y: 0,
+        cap: 5_000_000,
+    })
+}
+
+/// Compares a pair with its lengths, its buffer, its load and its greatest delay.
+fn compare_pair(
+    rt: &impl Abort,
+    node: &Finished,
+    lengths: (u64, u64),
+    buffer: Option<u16>,
+    load: u64,
+    greatest: u128,
+) {
+    assert_eq!(rt; (node.ea, node.eb), lengths);
+    assert_eq!(rt; node.buffer, buffer);
+    assert_eq!(rt; (node.side.load, node.side.greatest), (load, greatest));
+}
+
+/// Parameters of 1 ohm and 1 fF per um and a buffer of 3 fF and 1 ohm above a threshold.
+fn buffered(alloc: Global, insert_at: u64) -> Result<Params, Fail>
+    requires { insert_at ≤ 10 ^ 12 }
+    ensures { IfOk result IsParams }
+{
+    let buffers = vec![in alloc;
+        Buffer {
+            cin: 3_000_000,
+            rout: 1_000_000,
+            intrinsic: 0
+        },
+    ]?;
+    Ok(Params {
+        wire: Wire { r: 1000, c: 1000 },
+        library: Library::of(buffers),
+        insert_at,
+    })
 }
 
 #[test]
 fn leaves_and_buffers_of_worked_pairs(rt: HostRuntime) -> Result<(), Fail> {
-    // Sinks of 5 fF, 10 um apart, with a buffer of 3 fF and 1 ohm above a threshold of 15 or 20 fF.
-    let a = leaf(&Sink {
-        id: 1,
-        x: 0,
-        y: 0,
-        cap: 5_000_000,
-    });
-    let b = leaf(&Sink {
-        id: 2,
-        x: 10_000,
-        y: 0,
-        cap: 5_000_000,
-    });
-    assert_eq!(rt; (a.ea, a.eb, a.buffer), (0, 0, None));
-    assert_eq!(rt; (b.side.load, b.side.greatest), (5_000_000, 0));
-    for (insert_at, buffer, load, greatest) in [
-        (15_000_000, Some(0), 3_000_000, 115_000_000_000_000),
-        (20_000_000, None, 20_000_000, 75_000_000_000_000),
-    ] {
-        assert!(rt; insert_at <= 20_000_000);
-        let buffers = vec![in rt.alloc();
-            Buffer {
-                cin: 3_000_000,
-                rout: 1_000_000,
-                intrinsic: 0
-            },
-        ]?;
-        let params = Params {
-            wire: Wire { r: 1000, c: 1000 },
-            library: Library::of(buffers),
-            insert_at,
-        };
-        let node = pair(&params, &a.side, &b.side)?;
-        assert_eq!(rt; (node.ea, node.eb), (5000, 5000));
-        assert_eq!(rt; node.buffer, buffer, "above {insert_at} zF");
-        assert_eq!(rt; node.side.load, load);
-        assert_eq!(rt; node.side.greatest, greatest);
-    }
+    // Sinks of 5 fF, 10 um apart, with a threshold of 15 or 20 fF.
+    let (a, b) = (leaf_at(1, 0), leaf_at(2, 10_000));
+    compare_pair(&rt, &a, (0, 0), None, 5_000_000, 0);
+    compare_pair(&rt, &b, (0, 0), None, 5_000_000, 0);
+    let above = pair(&buffered(rt.alloc(), 15_000_000)?, &a.side, &b.side)?;
+    let greatest = 115_000_000_000_000;
+    compare_pair(&rt, &above, (5000, 5000), Some(0), 3_000_000, greatest);
+    let at = pair(&buffered(rt.alloc(), 20_000_000)?, &a.side, &b.side)?;
+    compare_pair(&rt, &at, (5000, 5000), None, 20_000_000, 75_000_000_000_000);
     Ok(())
 }
 
-#[test]
-fn slow_buffer_puts_the_next_pair_beyond(rt: HostRuntime) -> Result<(), Fail> {
-    // 1,000,000 ohm into 20.001 fF: the third sink would need a snake of some 6.3·10^9 nm.
-    let buffers = vec![in rt.alloc();
+/// Parameters of a wire of 1 µΩ and 1 zF per nm and a buffer of 1,000,000 ohm above 15 fF.
+fn slow(alloc: Global) -> Result<Params, Fail>
+    ensures { IfOk result IsParams }
+{
+    let buffers = vec![in alloc;
         Buffer {
             cin: 1_000_000,
             rout: 1_000_000_000_000,
             intrinsic: 0
         },
     ]?;
-    let params = Params {
+    Ok(Params {
         wire: Wire { r: 1, c: 1 },
         library: Library::of(buffers),
         insert_at: 15_000_000,
-    };
-    let node = pair(
-        &params,
-        &side(0, 10_000_000, 0, 0),
-        &side(0, 10_000_000, 1000, 0),
-    )?;
-    assert_eq!(rt; (node.ea, node.eb, node.buffer), (500, 500, Some(0)));
-    assert_eq!(rt; node.side.load, 1_000_000);
-    assert_eq!(rt; node.side.greatest, 40_002_000_010_000_250_000);
-    let region = node.side.region;
-    assert_eq!(rt;
-        (region.u1, region.u2, region.v1, region.v2),
-        (500, 500, 500, 500)
-    );
+    })
+}
+
+#[test]
+fn slow_buffer_puts_the_next_pair_beyond(rt: HostRuntime) -> Result<(), Fail> {
+    // 1,000,000 ohm into 20.001 fF: the third sink would need a snake of some 6.3·10^9 nm.
+    let params = slow(rt.alloc())?;
+    let first = side(0, 10_000_000, 0, 0);
+    let second = side(0, 10_000_000, 1000, 0);
+    let node = pair(&params, &first, &second)?;
+    let greatest = 40_002_000_010_000_250_000;
+    compare_pair(&rt, &node, (500, 500), Some(0), 1_000_000, greatest);
+    compare_region(&rt, &node, (500, 500, 500, 500));
     let below = side(40_002_000_010_000_250_000, 1_000_000, 500, 0);
-    let next = pair(&params, &below, &side(0, 5_000_000, 5000, 0));
-    assert!(rt; matches!(next, Err(Beyond)));
+    compare(&rt, &params, below, side(0, 5_000_000, 5000, 0), None);
     Ok(())
 }

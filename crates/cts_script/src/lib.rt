@@ -20,6 +20,3 @@ pub use make::make_instance;
 pub use read::read_script;
 pub use script::{Act, Script, ScriptStep};
 pub use write::write_instance;
-
-#[cfg(test)]
-mod tests;

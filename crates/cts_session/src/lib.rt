@@ -18,6 +18,3 @@ mod session;
 pub use desk::{Desk, DeskOut, Hands};
 pub use draw::{Drawn, TreeEnd};
 pub use session::Session;
-
-#[cfg(test)]
-mod tests;

@@ -18,13 +18,15 @@ use Rattle.cts_top.specs.declared.stop.Stop.{Stop}
 use Rattle.cts_top.specs.declared.stop.Stop.TheVariants as stop
 use Rattle.cts_top.specs.declared.words.Form.{Form}
 use Rattle.cts_top.specs.declared.words.Form.TheVariants.{Synth, Check, Edit, Make, Job}
-use Rattle.cts_top.specs.declared.outcome.Status.TheVariants as status
+use Rattle.cts_notes.specs.declared.status.Status.TheVariants as status
 use Rattle.cts_check.specs.Verdict.{IsVerdict}
 use Rattle.cts_check.proofs.Verdicts.{verdict_is_one_lem}
-use Rattle.cts_top.specs.Input.{Spells, SpellsFront, SpellsScripts, front_of, input_of, scripted_of}
+use Rattle.cts_notes.specs.Front.{SpellsFront, front_of}
+use Rattle.cts_top.specs.Input.{Spells, SpellsScripts, input_of, scripted_of}
 use Rattle.cts_top.specs.Log.{Log}
 use Rattle.cts_top.specs.Verdict.{answer_of_verdict}
-use Rattle.cts_top.specs.Notes.{note_of, refusal_note, stop_note, too_long_note}
+use Rattle.cts_notes.specs.Notes.{refusal_note, too_long_note}
+use Rattle.cts_top.specs.Notes.{note_of, stop_note}
 use Rattle.cts_top.specs.Outcome.{IsNote, IsRefusalNote, NamesRefusal, status_of}
 use Rattle.cts_top.specs.Right.{Explains, ExplainsBy, IsRight, IsRightKind, OfInput, RefusesInput}
 use Rattle.cts_top.specs.Text.{TellsSynthesis, TreeText, answer_of}

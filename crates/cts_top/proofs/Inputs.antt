@@ -9,7 +9,8 @@ use Rattle.cts_read.specs.Grammar.{Left, Refusal, Refuses, content, left_in, lef
 use Rattle.cts_read.specs.Whole.{Rests, instance_of, place_at, rest_of}
 use Rattle.cts_script.specs.declared.script.ScriptStep.{ScriptStep}
 use Rattle.cts_script.specs.Scripts.{script_at}
-use Rattle.cts_top.specs.Input.{input_of, input_limit, scripted_of}
+use Rattle.cts_notes.specs.Front.{input_limit}
+use Rattle.cts_top.specs.Input.{input_of, scripted_of}
 use Rattle.cts_top.specs.Outcome.{stop_of_text}
 use Rattle.cts_top.specs.Right.{ExplainsBy}
 

@@ -1,4 +1,3 @@
-pub mod Fronts
 pub mod Endings
 pub mod Running
 pub mod Synthesising

@@ -24,7 +24,7 @@ use Rattle.cts_session.specs.Desks.{version_of}
 use Rattle.cts_top.specs.declared.stop.Answer.{Answer}
 use Rattle.cts_top.specs.declared.stop.Stop.{Stop}
 use Rattle.cts_top.specs.declared.stop.Stop.TheVariants as stop
-use Rattle.cts_top.specs.declared.outcome.Status.{Status}
+use Rattle.cts_notes.specs.declared.status.Status.{Status}
 use Rattle.cts_top.specs.declared.words.Form.{Form}
 use Rattle.cts_top.specs.declared.words.Form.TheVariants.{Synth, Check, Edit, Make, Job}
 use Rattle.cts_top.specs.Input.{Spells, SpellsScripts}

@@ -6,7 +6,7 @@ use Rattle.cts_top.specs.declared.stop.Answer.{Answer}
 use Rattle.cts_top.specs.declared.stop.Answer.TheVariants as answer
 use Rattle.cts_top.specs.declared.stop.Stop.{Stop}
 use Rattle.cts_top.specs.declared.stop.Stop.TheVariants as stop
-use Rattle.cts_top.specs.declared.outcome.Status.TheVariants as status
+use Rattle.cts_notes.specs.declared.status.Status.TheVariants as status
 use Rattle.cts_top.specs.declared.words.Form.{Form}
 use Rattle.cts_top.specs.Log.{Log}
 use Rattle.cts_top.specs.Notes.{note_of, stop_note}

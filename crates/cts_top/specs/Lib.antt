@@ -21,3 +21,6 @@ pub use Rattle.cts_script.specs.Scripts
 pub use Rattle.cts_callers.specs.Legal
 pub use Rattle.cts_callers.specs.Replies
 pub use Rattle.cts_history.specs.History
+pub use Rattle.cts_notes.specs.Front
+pub use Rattle.cts_notes.specs.Status
+pub use Rattle.cts_notes.specs.Notes as RefusalNotes

@@ -14,8 +14,8 @@ use Rattle.cts_plain.specs.Synthesis.{IsSynthesis, made}
 use Rattle.cts_script.specs.declared.script.ScriptStep.{ScriptStep}
 use Rattle.cts_script.specs.Generator.{made_parts}
 use Rattle.cts_session.specs.Desks.{version_of}
-use Rattle.cts_top.specs.declared.outcome.Status.{Status}
-use Rattle.cts_top.specs.declared.outcome.Status.TheVariants as status
+use Rattle.cts_notes.specs.declared.status.Status.{Status}
+use Rattle.cts_notes.specs.declared.status.Status.TheVariants as status
 use Rattle.cts_top.specs.declared.words.Form.{Form}
 use Rattle.cts_top.specs.declared.words.Form.TheVariants.{Synth, Check, Edit, Make, Job}
 use Rattle.cts_top.specs.Input.{Spells, SpellsScripts}

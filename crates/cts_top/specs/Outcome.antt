@@ -7,17 +7,19 @@ use Rattle.cts_read.specs.Grammar.{Refusal}
 use Rattle.cts_read.specs.declared.stop.Cause.{Cause}
 use Rattle.cts_read.specs.declared.stop.ReadStop.{ReadStop}
 use Rattle.cts_read.specs.declared.stop.ReadStop.TheVariants as text
+use Rattle.cts_notes.specs.declared.status.Status.{Status}
+use Rattle.cts_notes.specs.declared.status.Status.TheVariants as status
+use Rattle.cts_notes.specs.Front.{front_of, input_limit}
+use Rattle.cts_notes.specs.Notes.{refusal_note, too_long_note}
 use Rattle.cts_top.specs.declared.stop.Answer.{Answer}
 use Rattle.cts_top.specs.declared.stop.Answer.TheVariants as answer
 use Rattle.cts_top.specs.declared.stop.Stop.{Stop}
 use Rattle.cts_top.specs.declared.stop.Stop.TheVariants as stop
-use Rattle.cts_top.specs.declared.outcome.Status.{Status}
-use Rattle.cts_top.specs.declared.outcome.Status.TheVariants as status
 use Rattle.cts_top.specs.declared.words.Form.{Form}
 use Rattle.cts_top.specs.declared.words.Form.TheVariants.{Synth, Check, Edit, Make, Job}
-use Rattle.cts_top.specs.Input.{front_of, input_limit, input_of, scripted_of}
+use Rattle.cts_top.specs.Input.{input_of, scripted_of}
 use Rattle.cts_top.specs.Log.{Log}
-use Rattle.cts_top.specs.Notes.{refusal_note, too_long_note, usage_note}
+use Rattle.cts_top.specs.Notes.{usage_note}
 use Rattle.cts_top.specs.Right.{Explains, HasRead, IsRight, LeavesOthers, OfInput, ReadsInput}
 use Rattle.cts_top.specs.Written.{IsAnswered, IsAnsweredInPart}
 
@@ -41,17 +43,6 @@ status_of (Err (stop.Refused line cause)) = status.Refused
 status_of (Err stop.ReadFault) = status.ReadFault
 status_of (Err stop.WriteFault) = status.WriteFault
 status_of (Err stop.NoMemory) = status.NoMemory
-
--- the program's exit status
-abbrev pub code_of : Status → ℕ
-code_of status.Done = 0
-code_of status.No = 1
-code_of status.Words = 2
-code_of status.Refused = 3
-code_of status.NoTree = 4
-code_of status.ReadFault = 5
-code_of status.WriteFault = 6
-code_of status.NoMemory = 7
 
 -- How a run on an input and an output ends, for what the words ask. An answer is written whole, once the input was read to
 -- its end; where nothing was written whole, the input explains why, and the output is as it was but for a write fault.

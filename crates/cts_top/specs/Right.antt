@@ -18,7 +18,8 @@ use Rattle.cts_top.specs.declared.stop.Stop.{Stop}
 use Rattle.cts_top.specs.declared.stop.Stop.TheVariants as stop
 use Rattle.cts_top.specs.declared.words.Form.{Form}
 use Rattle.cts_top.specs.declared.words.Form.TheVariants.{Synth, Check, Edit, Make, Job}
-use Rattle.cts_top.specs.Input.{AreScriptsRefused, IsFrontRefused, IsRefused, Spells, SpellsFront, SpellsScripts, front_of, input_limit, input_of, scripted_of}
+use Rattle.cts_notes.specs.Front.{SpellsFront, front_of, input_limit}
+use Rattle.cts_top.specs.Input.{AreScriptsRefused, IsFrontRefused, IsRefused, Spells, SpellsScripts, input_of, scripted_of}
 use Rattle.cts_top.specs.Log.{Log}
 use Rattle.cts_top.specs.Text.{TellsEdits, TellsSynthesis, answer_of}
 use Rattle.cts_top.specs.Verdict.{TellsVerdict, answer_of_verdict}

@@ -16,7 +16,7 @@ use Rattle.cts_top.specs.declared.answer.Telling.{Telling}
 use Rattle.cts_top.specs.declared.answer.Telling.TheVariants as telling
 use Rattle.cts_history.specs.History.{history_text}
 use Rattle.cts_top.specs.Log.{Log}
-use Rattle.cts_top.specs.Notes.{numbered}
+use Rattle.cts_notes.specs.Notes.{numbered}
 
 -- a text of a tree with its figures
 abbrev pub TreeText : Type 0

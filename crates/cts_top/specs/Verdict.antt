@@ -9,7 +9,7 @@ use Rattle.cts_check.specs.declared.verdict.Verdict.TheVariants.{Yes, NotText, W
 use Rattle.cts_check.specs.Verdict.{IsVerdict}
 use Rattle.cts_top.specs.declared.stop.Answer.{Answer}
 use Rattle.cts_top.specs.declared.stop.Answer.TheVariants as answer
-use Rattle.cts_top.specs.Notes.{numbered}
+use Rattle.cts_notes.specs.Notes.{numbered}
 
 unfoldable pub rule_words : Rule → List ℕ
 rule_words Sinks = codes "sinks"

@@ -10,7 +10,6 @@ ghost use Rattle.cts_top.specs.Synthesised.{IsSynthesised};
 ghost use Rattle.cts_top.specs.Text.{TellsSynthesis, TreeText, no_tree_text, told_by};
 ghost use Rattle.cts_top.specs.Written.{Answers};
 
-use crate::notes::put_numbered;
 use crate::stop::{Answer, Stop, ended};
 use crate::workers::synthesise_by_workers;
 use cts_elmore::Figures;
@@ -18,6 +17,7 @@ use cts_instance::Instance;
 use cts_io::{ByteSink, SinkBuffer, WriteEnd};
 use cts_memo::Table;
 use cts_merge::Steps;
+use cts_notes::put_numbered;
 use cts_plain::{NoTree, synthesise};
 use cts_report::{write_report, write_summary};
 use cts_tree::Tree;

@@ -10,11 +10,12 @@ ghost use Rattle.cts_top.specs.Runs.{AnswersWords, Runs};
 ghost use Rattle.cts_top.specs.Words.{IsForm, IsFormAlone};
 
 use crate::notes::write_note;
-use crate::outcome::{Kept, Outcome, Status};
+use crate::outcome::{Kept, Outcome};
 use crate::serve::{serve, serve_by_threads};
 use crate::stop::{Answer, Stop, status_of};
 use crate::words::{Form, form_alone, form_of};
 use cts_io::{ByteSink, ByteSource};
+use cts_notes::Status;
 use cts_work::Gate;
 use std::alloc::Global;
 use std::sync::Wait;

@@ -18,7 +18,7 @@ ghost use Rattle.cts_top.specs.Text.{TellsEdits};
 ghost use Rattle.cts_top.specs.Written.{Answers};
 
 use crate::answer::{Telling, answer_synthesis};
-use crate::input::{INPUT_LIMIT, give_back, read_scripts};
+use crate::input::{give_back, read_scripts};
 use crate::outcome::Kept;
 use crate::stop::{Answer, Stop};
 use crate::words::Form;
@@ -29,6 +29,7 @@ use cts_history::write_history;
 use cts_instance::Instance;
 use cts_io::{ByteSink, ByteSource, read_all};
 use cts_memo::Table;
+use cts_notes::INPUT_LIMIT;
 use cts_num::NoMemory;
 use cts_plain::NoTree;
 use cts_script::Script;

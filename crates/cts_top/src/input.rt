@@ -3,7 +3,8 @@
 ghost use Rattle.std.specs.Prelude.{◌≡◌, ◌≤◌, length, drop, IfOk, IfErr, IsErrOf, Ok};
 ghost use Rattle.cts_read.specs.Grammar.{Refuses};
 ghost use Rattle.cts_script.specs.Steps.{IsCallerCount};
-ghost use Rattle.cts_top.specs.Input.{Spells, SpellsFront, SpellsScripts, front_of, input_limit, input_of, scripted_of};
+ghost use Rattle.cts_notes.specs.Front.{SpellsFront, front_of, input_limit};
+ghost use Rattle.cts_top.specs.Input.{Spells, SpellsScripts, input_of, scripted_of};
 ghost use Rattle.cts_top.specs.Right.{ExplainsBy};
 
 use crate::stop::Stop;
@@ -11,9 +12,6 @@ use cts_instance::Instance;
 use cts_read::{ReadStop, read_instance, read_rest};
 use cts_script::{Script, read_script};
 use std::alloc::Global;
-
-/// The most bytes of an input that are accepted: 64 MiB.
-pub const INPUT_LIMIT: usize = 67_108_864;
 
 /// Gives the room of a long input back to the system, so that it is not kept for the lists that come after
 /// it.
@@ -49,7 +47,7 @@ pub fn read_input(alloc: Global, bytes: &[u8]) -> Result<Instance, Stop>
 
 /// The instance at the front of an input that is not too long, and how many of the bytes are those of its
 /// lines; or why there is none.
-#[tactic(auto, using(crate::proofs::Fronts::front_refused))]
+#[tactic(auto, using(crate::proofs::Inputs::refuses_explains))]
 pub fn read_front(alloc: Global, bytes: &[u8]) -> Result<(Instance, usize), Stop>
     requires { length bytes.now ≤ input_limit }
     ensures spells { IfOk result (λ r. SpellsFront bytes.now r.0 (drop r.1 bytes.now)) }
@@ -59,8 +57,7 @@ pub fn read_front(alloc: Global, bytes: &[u8]) -> Result<(Instance, usize), Stop
     ensures read_fault { IsErrOf result Stop.ReadFault → ⊥ }
     ensures write_fault { IsErrOf result Stop.WriteFault → ⊥ }
 {
-    let taken = read_instance(alloc, bytes)?;
-    Ok((taken.instance, taken.used))
+    Ok(cts_notes::read_front(alloc, bytes)?)
 }
 
 /// The instance at the front of an input, and the scripts of all callers after it, which nothing but lines

@@ -22,7 +22,5 @@ mod words;
 mod workers;
 
 pub use calls::{end_without_memory, run, run_alone};
-pub use outcome::{Outcome, Status};
-
-#[cfg(test)]
-mod tests;
+pub use cts_notes::Status;
+pub use outcome::Outcome;

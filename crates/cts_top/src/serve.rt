@@ -3,7 +3,8 @@
 ghost use Rattle.std.specs.Prelude.{◌≡◌, ◌≢◌, ◌≤◌, ◌<◌, ◌^◌, ◌↔◌, ℕ, [], length, drop, IfSome, IfOk, IfErr, OnOk, IsErrOf, IsSome};
 ghost use Rattle.std.specs.Io.KnownBytes.{IsAtEnd};
 ghost use Rattle.cts_io.specs.Faults.{Rose};
-ghost use Rattle.cts_top.specs.Input.{Spells, SpellsFront, front_of, input_of};
+ghost use Rattle.cts_notes.specs.Front.{SpellsFront, front_of};
+ghost use Rattle.cts_top.specs.Input.{Spells, input_of};
 ghost use Rattle.cts_top.specs.Log.{log_of, no_log};
 ghost use Rattle.cts_report.specs.Report.{summary_text};
 ghost use Rattle.cts_script.specs.Generator.{made_parts};
@@ -16,7 +17,7 @@ ghost use Rattle.cts_top.specs.Written.{Answers};
 
 use crate::answer::{Telling, answer_by_workers, answer_instance};
 use crate::edit::serve_edit;
-use crate::input::{INPUT_LIMIT, give_back, read_front, read_input};
+use crate::input::{give_back, read_front, read_input};
 use crate::outcome::Kept;
 use crate::room::{REPORT_ROOM, TREE_ROOM, open_heap};
 use crate::stop::{Answer, Stop, ended};
@@ -25,6 +26,7 @@ use crate::words::{Form, is_alone};
 use cts_instance::Instance;
 use cts_io::{ByteSink, ByteSource, read_all};
 use cts_memo::Table;
+use cts_notes::INPUT_LIMIT;
 use cts_num::NoMemory;
 use cts_script::{make_instance, write_instance};
 use cts_work::Gate;

@@ -5,8 +5,8 @@ ghost use Rattle.cts_top.specs.Outcome.{status_of, stop_of_read, stop_of_text};
 ghost use Rattle.cts_top.specs.Written.{ended_of};
 ghost use Rattle.cts_top.specs.declared.stop.Stop.TheVariants.{WriteFault};
 
-use crate::outcome::Status;
 use cts_io::{ReadEnd, WriteEnd};
+use cts_notes::Status;
 use cts_num::NoMemory;
 use cts_read::{Cause, ReadStop};
 use thiserror::Error;

@@ -5,11 +5,11 @@ ghost use Rattle.cts_io.specs.Text.{Puts, Writes};
 ghost use Rattle.cts_top.specs.Verdict.{TellsVerdict, answer_of_verdict, rule_words, verdict_text};
 ghost use Rattle.cts_top.specs.Written.{Answers};
 
-use crate::notes::put_numbered;
 use crate::stop::{Answer, Stop, ended};
 use cts_check::{Rule, Verdict, check_rest};
 use cts_instance::Instance;
 use cts_io::{ByteSink, SinkBuffer, WriteEnd};
+use cts_notes::put_numbered;
 use std::alloc::Global;
 use std::thread::Threads;
 

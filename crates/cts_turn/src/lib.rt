@@ -15,6 +15,3 @@ mod view;
 
 pub use object::Object;
 pub use turn::{Pass, StillOut, Turn};
-
-#[cfg(test)]
-mod tests;

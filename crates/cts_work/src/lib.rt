@@ -15,8 +15,3 @@ mod workers;
 pub use all::build_all;
 pub use gate::{Gate, OpenGate};
 pub use upward::rebuild;
-
-#[cfg(test)]
-mod tests;
-#[cfg(test)]
-mod worker_tests;

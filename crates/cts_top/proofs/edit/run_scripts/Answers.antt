@@ -1,4 +1,4 @@
-use Rattle.std.proofs.Common.{◌≡◌, subst}
+use Rattle.std.proofs.Common.{◌≡◌, subst, sym}
 use Rattle.cts_instance.specs.Validity.{IsValid, with_sinks}
 use Rattle.cts_history.proofs.Runs.{runs_can_be_printed_lem}
 use Rattle.cts_session.specs.Desks.{version_of}
@@ -6,6 +6,23 @@ use Rattle.cts_top.specs.Memos.{IsMemoOf}
 use Rattle.cts_top.specs.Synthesised.{IsSynthesised}
 use Rattle.cts_top.proofs.Editing.{last_memo, last_synthesised}
 use Rattle.cts_top.proofs.edit.run_scripts.Goals as goal
+
+pub returns-clause-legal : goal.returns-clause-legal
+returns-clause-legal g c = c.in_ok-instance.ensures.legal
+
+pub returns-clause-version : goal.returns-clause-version
+returns-clause-version g c =
+    let run = c.in_ok-instance.ensures in
+    let made = c.in_ok-version.ensures.same in
+    let of_instance = c.in_ok-instance.instance-is in
+    let of_sinks = c.in_ok-instance.sinks-is in
+    let at_base = run.instance_is in
+    let after_edits = run.sinks_are in
+    let same : version_of c.args.instance c.in_ok-instance.field-0.history.items ≡ c.in_ok-version.version = cc in
+    sym same
+
+pub returns-clause-told : goal.returns-clause-told
+returns-clause-told g c = c.in_ok-instance.ensures.is_synthesis.told
 
 pub returns-clause-printable : goal.returns-clause-printable
 returns-clause-printable g c =

@@ -1,7 +1,0 @@
-use Rattle.std.proofs.Common.{◌≡◌}
-use Rattle.cts_turn.specs.Passes.{share_of}
-use Rattle.cts_design.specs.Passes.{IsPassOf}
-use Rattle.cts_design.proofs.tests.set_caps.Given as goal
-
-abbrev pub invariant-loop-cap : goal.invariant-loop-cap
-invariant-loop-cap g l = record { own : IsPassOf l.design l.pass; share : share_of l.pass ≡ share_of l.fn.pass }

@@ -1,0 +1,26 @@
+//! Worked rows of the crates that share objects between threads, as tests: turns, deals, memos, designs, sessions,
+//! workers and callers.
+//!
+//! They stand in a crate of their own, since a crate that has a test is proved twice.
+#![tactic(auto)]
+
+#[cfg(test)]
+mod callers;
+#[cfg(test)]
+mod deals;
+#[cfg(test)]
+mod designs;
+#[cfg(test)]
+mod drawing;
+#[cfg(test)]
+mod instances;
+#[cfg(test)]
+mod memos;
+#[cfg(test)]
+mod rebuilds;
+#[cfg(test)]
+mod sessions;
+#[cfg(test)]
+mod turns;
+#[cfg(test)]
+mod workers;

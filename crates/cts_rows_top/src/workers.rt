@@ -1,0 +1,53 @@
+//! Runs by more than one worker: a gate holds the first two pieces until both have been begun.
+
+use crate::runs::{ran, text_of};
+use cts_top::Status;
+use cts_work::Gate;
+use std::sync::atomic::{AtomicU64, Ordering};
+use std::test::Fail;
+
+/// How often a piece looks whether the other one has been begun.
+const TURNS: u32 = 100_000_000;
+
+/// A gate that holds pieces 0 and 1 until both have been begun, or until the limit of turns.
+#[derive(Drop)]
+struct Meeting {
+    begun: AtomicU64,
+    /// The pieces that reached the limit.
+    alone: AtomicU64,
+}
+
+impl Gate for Meeting {
+    fn piece(&self, number: u32) {
+        if number > 1 {
+            return;
+        }
+        self.begun.fetch_add(1, Ordering::SeqCst);
+        for _ in 0..TURNS {
+            if self.begun.load(Ordering::SeqCst) == 2 {
+                return;
+            }
+        }
+        self.alone.fetch_add(1, Ordering::SeqCst);
+    }
+
+    fn between(&self, _number: u32) {}
+}
+
+#[test]
+fn two_workers_begin_two_pieces(rt: HostRuntime) -> Result<(), Fail> {
+    let made = text_of(&rt, "make 14 64", b"")?;
+    let alone = text_of(&rt, "synth 1", made.bytes())?;
+    let gate = Meeting {
+        begun: AtomicU64::new(0),
+        alone: AtomicU64::new(0),
+    };
+    let beside = ran(&rt, &gate, "synth 2", made.bytes())?;
+    assert_eq!(rt; beside.outcome.status, Status::Done);
+    assert_eq!(rt; gate.begun.load(Ordering::SeqCst), 2);
+    assert_eq!(rt; gate.alone.load(Ordering::SeqCst), 0);
+    assert!(rt; beside.outcome.memo.is_some());
+    assert_eq!(rt; beside.output.bytes(), alone.bytes());
+    assert!(rt; beside.notes.bytes().is_empty());
+    Ok(())
+}

@@ -1,7 +1,0 @@
-use Rattle.cts_top.specs.Notes.{refusal_note}
-use Rattle.cts_io.proofs.Chains.{◌▸◌}
-use Rattle.cts_top.proofs.notes.put_refusal.Goals as goal
-
-pub returns : goal.returns
-unfolding refusal_note
-returns g c = c.put_numbered.ensures ▸ c.put.ensures ▸ c.put_cause.ensures ▸ c.put-2.ensures

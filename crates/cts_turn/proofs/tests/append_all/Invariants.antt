@@ -1,6 +1,0 @@
-use Rattle.cts_turn.specs.Passes.{IsPassOf}
-use Rattle.cts_turn.specs.contracts.tests.NumbersObject.TheImpl.{ghosts}
-use Rattle.cts_turn.proofs.tests.append_all.Given as goal
-
-abbrev pub invariant-loop-number : goal.invariant-loop-number
-invariant-loop-number g l = IsPassOf ghosts l.turn l.pass

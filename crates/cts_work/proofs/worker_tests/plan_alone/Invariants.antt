@@ -1,4 +1,0 @@
-use Rattle.cts_work.proofs.worker_tests.plan_alone.Given as goal
-
-abbrev pub ghosts-plan_counted : goal.ghosts-plan_counted
-ghosts-plan_counted a = record { name = a.blank.name; parts = a.blank.parts }
