@@ -1,5 +1,5 @@
 -- The order of points by (distance, x, y).
-use Rattle.std.proofs.Common.{◌≡◌, ℕ, ◌≤◌, inl, inr, ℤ, pos, ◌+ℤ◌, ◌-ℤ◌, ◌≤ℤ◌, ◌<ℤ◌, ◌∙◌, arith}
+use Rattle.std.proofs.Common.{◌≡◌, ℕ, ◌<◌, ◌≤◌, inl, inr, ℤ, pos, ◌+ℤ◌, ◌-ℤ◌, ◌≤ℤ◌, ◌<ℤ◌, ◌∙◌, arith}
 use Rattle.std.proofs.lemmas.Int.{ints}
 use Rattle.cts_geom.specs.declared.points.Half.{Half}
 use Rattle.cts_geom.specs.Points.{manhattan_of}
@@ -29,12 +29,20 @@ no_later_trans d x y d' x' y' d'' x'' y'' first second =
           omega (arith, ints);
     }
 
+pub nearer_is_no_later : (d : ℕ) (x y : ℤ) (d' : ℕ) (x' y' : ℤ) → d < d' → IsNoLater d x y d' x' y'
+nearer_is_no_later d x y d' x' y' near = record { by_distance = omega arith; by_x = λ same. absurd (omega arith); by_y = λ same _. absurd (omega arith) }
+
 pub ahead_refl : (from : Half) (p : Whole) → IsAhead from p p
 ahead_refl from p = no_later_refl (manhattan_of from (half_of p)) p.x p.y
 
 pub ahead_trans : (from : Half) (p q r : Whole) → IsAhead from p q → IsAhead from q r → IsAhead from p r
 ahead_trans from p q r first second =
     no_later_trans (manhattan_of from (half_of p)) p.x p.y (manhattan_of from (half_of q)) q.x q.y (manhattan_of from (half_of r)) r.x r.y first second
+
+-- a point that is nearer to the place than a bound is ahead of one that is not
+pub nearer_is_ahead : (from : Half) (p q : Whole) (bound : ℕ) → manhattan_of from (half_of p) < bound → bound ≤ manhattan_of from (half_of q) → IsAhead from p q
+nearer_is_ahead from p q bound near far =
+    nearer_is_no_later (manhattan_of from (half_of p)) p.x p.y (manhattan_of from (half_of q)) q.x q.y (omega arith)
 
 -- of two points of a column on one side of the place, the one that is nearer to the place is ahead
 module _ (range : Range) (from : Half) (closest : Range) (is_closest : IsClosest range from.y closest) (p q : Whole) (column : q.x ≡ p.x) where

@@ -8,7 +8,7 @@ use Rattle.cts_block.specs.declared.blocks.Block.{Block}
 use Rattle.cts_block.specs.declared.whole.Whole.{Whole}
 use Rattle.cts_block.specs.declared.whole.Range.{Range}
 use Rattle.cts_block.specs.declared.whole.Segment.{Segment}
-use Rattle.cts_block.specs.FreePoints.{IsInDie, IsInside}
+use Rattle.cts_block.specs.FreePoints.{IsPointInRange, IsInDie, IsInside}
 use Rattle.cts_block.specs.NearestFree.{IsDieInRange, LiesIn}
 use Rattle.cts_block.specs.Search.{IsWholeInRange, IsFreeAmong, IsAhead, IsClosest, IsOn, IsSegmentIn, rows_of, half_of}
 use Rattle.cts_block.proofs.OrderLemmas.{ahead_trans, upper_is_later, lower_is_later}
@@ -18,6 +18,9 @@ range_in_die die range p in_die = record {
   x = record { low = omega (arith, ints, in_die.x.at_least, range.x1.low); high = omega (arith, ints, in_die.x.at_most, range.x2.high) };
   y = record { low = omega (arith, ints, in_die.y.at_least, range.y1.low); high = omega (arith, ints, in_die.y.at_most, range.y2.high) };
 }
+
+pub point_in_range : (die : Die) → IsDieInRange die → (point : Half) → IsInDie die point → IsPointInRange point
+point_in_range die range point in_die = record { x = omega (arith, ints, in_die.x.at_most, range.x2.high); y = omega (arith, ints, in_die.y.at_most, range.y2.high) }
 
 pub point_in_die : (die : Die) (x y : ℤ) → die.x1 ≤ℤ x → x ≤ℤ die.x2 → die.y1 ≤ℤ y → y ≤ℤ die.y2 → IsInDie die (half_of (record { x = x; y = y }))
 point_in_die die x y left right low high = record {

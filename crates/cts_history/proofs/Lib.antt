@@ -1,3 +1,4 @@
 pub mod Lists
 pub mod Numbered
 pub mod Runs
+pub mod Pieces

@@ -4,3 +4,5 @@ pub mod Printing
 pub mod Once
 pub mod InFrame
 pub mod Readings
+pub mod Pieces
+pub mod Found

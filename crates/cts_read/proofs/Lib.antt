@@ -7,3 +7,5 @@ pub mod WordLists
 pub mod WordCounts
 pub mod Refusals
 pub mod Agreements
+pub mod Errors
+pub mod KindWords

@@ -1,12 +1,13 @@
 -- Lines of nodes and points, one more at a time.
-use Rattle.std.proofs.Common.{◌≡◌, ℕ, zero, suc, ◌+◌, ◌<◌, List, [], ◌∷◌, ◌++◌, length, take, get_or, refl, sym, ap, ◌∙◌, arith, append_assoc, append-nil}
-use Rattle.std.specs.List.{concat}
+use Rattle.std.proofs.Common.{◌≡◌, ℕ, zero, suc, ◌+◌, ◌<◌, List, [], ◌∷◌, ◌++◌, length, take, get_or, map, refl, sym, ap, subst, ◌∙◌, arith, append_assoc, append-nil}
+use Rattle.std.specs.List.{flat_map, concat}
 use Rattle.std.proofs.lemmas.List.{take_more, length-take-le}
+use Rattle.cts_geom.specs.declared.points.Half.{Half}
 use Rattle.cts_tree.specs.declared.nodes.TreeNode.{TreeNode}
 use Rattle.cts_elmore.specs.declared.figures.NodeFigure.{NodeFigure}
 use Rattle.cts_report.specs.Printed.{PrintedNode}
-use Rattle.cts_report.specs.Lines.{node_line, node_lines}
-use Rattle.cts_report.specs.Report.{printed_node, printed_nodes}
+use Rattle.cts_report.specs.Lines.{node_line, node_lines, point_words}
+use Rattle.cts_report.specs.Report.{printed_point, printed_node, printed_nodes}
 
 pub concat-append : (xs ys : List (List ℕ)) → concat (xs ++ ys) ≡ concat xs ++ concat ys
 concat-append [] ys = refl
@@ -56,3 +57,20 @@ lines_before_more nodes figures k n f h w =
     ∙ ap (λ q. take k printed ++ q ∷ []) (get_or-printed_nodes nodes figures k n f p h w))
     ∙ node_lines_more 0 (take k printed) p
     ∙ ap (λ i. concat (node_lines 0 (take k printed)) ++ node_line i p) (omega arith)
+
+-- the words of the points before a number, and then that point's
+pub points_before_more : (points : List Half) (k : ℕ) (p : Half) → k < length points
+    → flat_map point_words (map printed_point (take (k + 1) points))
+    ≡ flat_map point_words (map printed_point (take k points)) ++ point_words (printed_point (get_or points k p))
+points_before_more [] k p w = absurd (omega arith)
+points_before_more (point ∷ points) zero p w = append-nil (point_words (printed_point point))
+points_before_more (point ∷ points) (suc k) p w =
+    ap (λ n. flat_map point_words (map printed_point (take n (point ∷ points)))) (let next : suc k + 1 ≡ suc (k + 1) = omega arith in next)
+    ∙ ap (λ t. point_words (printed_point point) ++ t) (points_before_more points k p (omega arith))
+    ∙ sym (append_assoc (point_words (printed_point point)) (flat_map point_words (map printed_point (take k points))) (point_words (printed_point (get_or points k p))))
+
+-- what holds of the words of the points before a number, and of that point's, holds of those up to it
+pub points_step : (P : List ℕ → Type 0) (points : List Half) (k : ℕ) (p : Half) → k < length points
+    → P (flat_map point_words (map printed_point (take k points)) ++ point_words (printed_point (get_or points k p)))
+    → P (flat_map point_words (map printed_point (take (k + 1) points)))
+points_step P points k p w here = subst P (sym (points_before_more points k p w)) here

@@ -9,6 +9,8 @@ pub mod LineParts
 pub mod LinesPieces
 pub mod TotalPieces
 pub mod NodePieces
+pub mod PairReads
+pub mod NodeReads
 pub mod ReportPieces
 pub mod PointLoops
 pub mod StackLists

@@ -1,15 +1,15 @@
 -- The lines on the whole tree, as the code reads them in three steps.
-use Rattle.std.proofs.Common.{◌≡◌, ℕ, List, Option, Some, None, Result, Ok, Err, refl, sym, ap, ap₂, subst, codes}
+use Rattle.std.proofs.Common.{◌≡◌, ℕ, ◌+◌, List, Option, Some, None, Result, Ok, Err, true, false, refl, sym, ap, ap₂, subst, codes}
 use Rattle.std.specs.Borrow.{Bor}
 use Rattle.cts_report.specs.Printed.{PrintedTotals}
 use Rattle.cts_report_reader.specs.declared.totals.Answers.{Answers}
 use Rattle.cts_report_reader.specs.declared.totals.LaterTotals.{LaterTotals}
 use Rattle.cts_report_reader.specs.declared.totals.ReportTotals.{ReportTotals}
-use Rattle.cts_report_reader.specs.Lines.{figure_at}
+use Rattle.cts_report_reader.specs.Lines.{answer_at, figure_at}
 use Rattle.cts_report_reader.specs.Seen.{FindsLine}
 use Rattle.cts_report_reader.specs.Totals.{seen_answers, seen_later, seen_totals}
 use Rattle.cts_report_reader.specs.Whole.{AnswersFound, LaterFound, totals_of, answers_at, later_at, totals_at}
-use Rattle.cts_report_reader.specs.Words.{Finds, same}
+use Rattle.cts_report_reader.specs.Words.{Finds, labelled_at, same, word_at}
 
 -- what was found, as an equation
 pub found_is : {T A : Type 0} (view : T → A) (value : T) (left : Bor (List ℕ)) (right : Option (A × List ℕ)) → Finds view (Some (value, left)) right
@@ -91,3 +91,79 @@ pub totals_found : (at : ℕ) (bytes : List ℕ) (load wire greatest : ℕ) (one
 totals_found at bytes load wire greatest one two three found e f g h =
     let is = totals_is at bytes load wire greatest one.now two.now three.now (found_is same load one _ e) (found_is same wire two _ f) (found_is same greatest three _ g) (later_at at three.now) refl in
     subst (FindsLine seen_totals (with_later load wire greatest found)) (sym is) (totals_seen load wire greatest found (later_at at three.now) h)
+
+-- nothing was found, as an equation
+pub nothing_is : {T A : Type 0} (view : T → A) (right : Option (A × List ℕ)) → Finds view None right → right ≡ None
+nothing_is view None h = refl
+nothing_is view (Some x) h = absurd h
+
+-- the line of an answer, by what its words are
+module _ (label bytes : List ℕ) where
+  pub answer_unlabelled : word_at label bytes ≡ None → answer_at label bytes ≡ None
+  unfolding answer_at
+  answer_unlabelled e = rw e refl
+
+  pub answer_yes : (one two : List ℕ) → word_at label bytes ≡ Some (tt, one) → word_at (codes " yes\n") one ≡ Some (tt, two)
+      → answer_at label bytes ≡ Some (true, two)
+  unfolding answer_at
+  answer_yes one two e f = rw (e, f) refl
+
+  pub answer_no : (one two : List ℕ) → word_at label bytes ≡ Some (tt, one) → word_at (codes " yes\n") one ≡ None
+      → word_at (codes " no\n") one ≡ Some (tt, two) → answer_at label bytes ≡ Some (false, two)
+  unfolding answer_at
+  answer_no one two e f g = rw (e, f, g) refl
+
+  pub answer_neither : (one : List ℕ) → word_at label bytes ≡ Some (tt, one) → word_at (codes " yes\n") one ≡ None
+      → word_at (codes " no\n") one ≡ None → answer_at label bytes ≡ None
+  unfolding answer_at
+  answer_neither one e f g = rw (e, f, g) refl
+
+-- the line of a figure, by what its parts are
+module _ (label : List ℕ) (places : ℕ) (bytes : List ℕ) where
+  pub figure_unlabelled : labelled_at label places bytes ≡ None → figure_at label places bytes ≡ None
+  unfolding figure_at
+  figure_unlabelled e = rw e refl
+
+  pub figure_goes_on : (value : ℕ) (one : List ℕ) → labelled_at label places bytes ≡ Some (value, one) → word_at (codes "\n") one ≡ None
+      → figure_at label places bytes ≡ None
+  unfolding figure_at
+  figure_goes_on value one e f = rw (e, f) refl
+
+  pub figure_ends : (value : ℕ) (one two : List ℕ) → labelled_at label places bytes ≡ Some (value, one) → word_at (codes "\n") one ≡ Some (tt, two)
+      → figure_at label places bytes ≡ Some (value, two)
+  unfolding figure_at
+  figure_ends value one two e f = rw (e, f) refl
+
+-- a line that is missing
+pub line_missed : {T A : Type 0} (view : T → A) (line other : ℕ) (right : Result (A × List ℕ) ℕ) → right ≡ Err other → line ≡ other
+    → FindsLine view (Err line) right
+line_missed view line other right e f = rw e f
+
+module _ (at : ℕ) (bytes : List ℕ) where
+  pub later_no_least : figure_at (codes "delay least ") 16 bytes ≡ None → later_at at bytes ≡ Err (at + 3 + 1)
+  unfolding later_at
+  later_no_least e = rw e refl
+
+  pub later_no_skew : (least : ℕ) (one : List ℕ) → figure_at (codes "delay least ") 16 bytes ≡ Some (least, one) → figure_at (codes "skew ") 16 one ≡ None
+      → later_at at bytes ≡ Err (at + 4 + 1)
+  unfolding later_at
+  later_no_skew least one e f = rw (e, f) refl
+
+  pub later_no_bound : (least skew : ℕ) (one two : List ℕ) → figure_at (codes "delay least ") 16 bytes ≡ Some (least, one)
+      → figure_at (codes "skew ") 16 one ≡ Some (skew, two) → figure_at (codes "bound ") 16 two ≡ None → later_at at bytes ≡ Err (at + 5 + 1)
+  unfolding later_at
+  later_no_bound least skew one two e f g = rw (e, f, g) refl
+
+  pub totals_no_load : figure_at (codes "source load ") 6 bytes ≡ None → totals_at at bytes ≡ Err (at + 1)
+  unfolding totals_at
+  totals_no_load e = rw e refl
+
+  pub totals_no_wire : (load : ℕ) (one : List ℕ) → figure_at (codes "source load ") 6 bytes ≡ Some (load, one) → figure_at (codes "wire total ") 3 one ≡ None
+      → totals_at at bytes ≡ Err (at + 1 + 1)
+  unfolding totals_at
+  totals_no_wire load one e f = rw (e, f) refl
+
+  pub totals_no_greatest : (load wire : ℕ) (one two : List ℕ) → figure_at (codes "source load ") 6 bytes ≡ Some (load, one)
+      → figure_at (codes "wire total ") 3 one ≡ Some (wire, two) → figure_at (codes "delay greatest ") 16 two ≡ None → totals_at at bytes ≡ Err (at + 2 + 1)
+  unfolding totals_at
+  totals_no_greatest load wire one two e f g = rw (e, f, g) refl

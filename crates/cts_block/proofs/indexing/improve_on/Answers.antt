@@ -5,6 +5,8 @@ use Rattle.cts_block.specs.Search.{IsFreeAmong, IsAhead, IsOn}
 use Rattle.std.specs.Prelude.{Contains}
 use Rattle.cts_block.specs.Index.{IsEdge, edges_of}
 use Rattle.cts_block.proofs.IndexLemmas.{all_of_part, side_of_index, edge_is_far, edge_is_beyond}
+use Rattle.cts_block.specs.NearestFree.{LiesIn}
+use Rattle.std.proofs.Common.{arith}
 use Rattle.cts_block.proofs.indexing.improve_on.Goals as goal
 
 pub improve_along-requires-clause-in_die : goal.improve_along-requires-clause-in_die
@@ -43,3 +45,48 @@ returns-clause-first c = λ q free beyond on.
     let listed = complete has.edge has.listed further in
     let P : Edge → Type 0 = λ edge. (p : Whole) → IsFreeAmong (Contains index.raster) die p → IsOn edge.segment p → IsAhead c.args.from c.improve_along.result p in
     All-contains P c.edges_beyond-edges.result.now has.edge c.improve_along.ensures.first listed q free has.on
+
+pub last_column-requires-clause-ordered : goal.last_column-requires-clause-ordered
+last_column-requires-clause-ordered c = c.requires.die.y_ordered
+
+pub last_column-requires-clause-low : goal.last_column-requires-clause-low
+last_column-requires-clause-low c = c.requires.columns.low_least
+
+pub last_column-requires-clause-columns : goal.last_column-requires-clause-columns
+last_column-requires-clause-columns c = c.requires.columns.ordered
+
+pub last_column-requires-clause-high : goal.last_column-requires-clause-high
+last_column-requires-clause-high c = c.requires.columns.high_most
+
+pub offset_of-start-requires-clause-die : goal.offset_of-start-requires-clause-die
+offset_of-start-requires-clause-die c = c.requires.die
+
+pub offset_of-start-requires-clause-p : goal.offset_of-start-requires-clause-p
+offset_of-start-requires-clause-p c = c.last_column.ensures.in_die
+
+pub edges_beyond-edges-requires : goal.edges_beyond-edges-requires
+edges_beyond-edges-requires c = rw c.edges_of.ensures (side_of_index c.args.die.now c.args.index.now c.args.side c.requires.index).ordered
+
+pub improve_along-requires-clause-die : goal.improve_along-requires-clause-die
+improve_along-requires-clause-die c = c.requires.die
+
+pub improve_along-requires-clause-lie : goal.improve_along-requires-clause-lie
+improve_along-requires-clause-lie c = λ block listed. All-contains (LiesIn c.args.die.now) c.args.index.now.raster block c.requires.lie listed
+
+pub improve_along-requires-clause-from : goal.improve_along-requires-clause-from
+improve_along-requires-clause-from c = c.requires.from
+
+pub improve_along-requires-clause-near : goal.improve_along-requires-clause-near
+improve_along-requires-clause-near c = c.requires.near
+
+pub improve_along-requires-clause-ordered : goal.improve_along-requires-clause-ordered
+improve_along-requires-clause-ordered c = c.edges_beyond-edges.ensures.ordered
+
+pub improve_along-requires-clause-beyond : goal.improve_along-requires-clause-beyond
+improve_along-requires-clause-beyond c = λ k d below. let further = c.edges_beyond-edges.ensures.beyond k d below in omega (arith, further)
+
+pub returns-clause-free : goal.returns-clause-free
+returns-clause-free c = c.improve_along.ensures.free
+
+pub returns-clause-ahead : goal.returns-clause-ahead
+returns-clause-ahead c = c.improve_along.ensures.ahead

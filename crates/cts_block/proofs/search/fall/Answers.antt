@@ -1,7 +1,7 @@
-use Rattle.std.proofs.Common.{rules, w64}
+use Rattle.std.proofs.Common.{rules, w64, refl, sym, ◌∙◌, arith}
 use Rattle.std.specs.Prelude.{FitsSigned}
-use Rattle.std.proofs.lemmas.Int.{to_z-of_z}
-use Rattle.cts_block.proofs.SearchLemmas.{range_in_die, under_is_nearer, under_in_die, under_below, none_above_under}
+use Rattle.std.proofs.lemmas.Int.{to_z-of_z, ints}
+use Rattle.cts_block.proofs.SearchLemmas.{range_in_die, point_in_range, under_is_nearer, under_in_die, under_below, none_above_under}
 use Rattle.cts_block.proofs.search.fall.Goals as goal
 
 pub half_of-requires : goal.half_of-requires
@@ -29,3 +29,21 @@ loop-block-preserved g c =
       in_die = under_in_die Counts _ _ counts lies c.loop-block.at inside old.in_die;
       first = λ q free column below. none_above_under Counts _ _ counts lies c.loop-block.at inside q free column (old.first q free column below);
     })
+
+pub loop-block-init : goal.loop-block-init
+loop-block-init g c = record { column = refl; below = omega (arith, ints); in_die = c.requires.in_die; first = λ q free column below. below }
+
+pub covering-requires : goal.covering-requires
+covering-requires g c = rw c.half_of.ensures.point (point_in_range _ c.requires.die _ c.loop-block.invariant.in_die)
+
+pub returns-clause-free : goal.returns-clause-free
+returns-clause-free g c = record { in_die = c.loop-block.invariant.in_die; clear = rw c.half_of.ensures.point at c.in_default.ensures.none }
+
+pub returns-clause-column : goal.returns-clause-column
+returns-clause-column g c = c.loop-block.invariant.column
+
+pub returns-clause-below : goal.returns-clause-below
+returns-clause-below g c = c.loop-block.invariant.below
+
+pub returns-clause-first : goal.returns-clause-first
+returns-clause-first g c = λ q free column below. c.loop-block.invariant.first q free (column ∙ sym c.loop-block.invariant.column) below

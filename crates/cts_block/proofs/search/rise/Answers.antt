@@ -1,7 +1,7 @@
-use Rattle.std.proofs.Common.{rules, w64}
+use Rattle.std.proofs.Common.{rules, w64, refl, sym, ◌∙◌, arith}
 use Rattle.std.specs.Prelude.{FitsSigned}
-use Rattle.std.proofs.lemmas.Int.{to_z-of_z}
-use Rattle.cts_block.proofs.SearchLemmas.{range_in_die, over_is_nearer, over_in_die, over_above, none_below_over}
+use Rattle.std.proofs.lemmas.Int.{to_z-of_z, ints}
+use Rattle.cts_block.proofs.SearchLemmas.{range_in_die, point_in_range, over_is_nearer, over_in_die, over_above, none_below_over}
 use Rattle.cts_block.proofs.search.rise.Goals as goal
 
 pub half_of-requires : goal.half_of-requires
@@ -29,3 +29,21 @@ loop-block-preserved g c =
       in_die = over_in_die Counts _ _ counts lies c.loop-block.at inside old.in_die;
       first = λ q free column above. none_below_over Counts _ _ counts lies c.loop-block.at inside q free column (old.first q free column above);
     })
+
+pub loop-block-init : goal.loop-block-init
+loop-block-init g c = record { column = refl; above = omega (arith, ints); in_die = c.requires.in_die; first = λ q free column above. above }
+
+pub covering-requires : goal.covering-requires
+covering-requires g c = rw c.half_of.ensures.point (point_in_range _ c.requires.die _ c.loop-block.invariant.in_die)
+
+pub returns-clause-free : goal.returns-clause-free
+returns-clause-free g c = record { in_die = c.loop-block.invariant.in_die; clear = rw c.half_of.ensures.point at c.in_default.ensures.none }
+
+pub returns-clause-column : goal.returns-clause-column
+returns-clause-column g c = c.loop-block.invariant.column
+
+pub returns-clause-above : goal.returns-clause-above
+returns-clause-above g c = c.loop-block.invariant.above
+
+pub returns-clause-first : goal.returns-clause-first
+returns-clause-first g c = λ q free column above. c.loop-block.invariant.first q free (column ∙ sym c.loop-block.invariant.column) above

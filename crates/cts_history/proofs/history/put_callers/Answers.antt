@@ -1,4 +1,4 @@
-use Rattle.std.proofs.Common.{◌+◌, ◌++◌, take, All, sym, ap, subst, ◌∙◌, arith}
+use Rattle.std.proofs.Common.{◌+◌, ◌++◌, take, take_all, All, sym, ap, subst, ◌∙◌, arith}
 use Rattle.cts_io.specs.Text.{Puts}
 use Rattle.cts_io.proofs.Chains.{◌▸◌, puts_nothing}
 use Rattle.cts_callers.specs.Turns.{lists_of}
@@ -29,3 +29,9 @@ loop-index-preserved g c =
     ∙ sym (numbered_before_more caller_text (lists_of c.args.replies.now) c.loop-index.index c.index-replies-index.result.items
     (omega (arith, length-lists c.args.replies.now, c.loop-index-test.true))))
     (c.loop-index.invariant ▸ c.put_caller.ensures)
+
+pub returns : goal.returns
+returns g c =
+    rw (sym (take_all c.loop-index.index (lists_of c.args.replies.now)
+    (omega (arith, length-lists c.args.replies.now, c.loop-index-test.false))))
+    c.loop-index.invariant

@@ -10,3 +10,6 @@ pub returns-in-Cut : goal.returns-in-Cut
 returns-in-Cut g c =
     rw c.in-Cut.is
     (c.put_word-in-Cut.ensures ▸ (c.put_count-in-Cut.ensures ▸ (c.put_word-in-Cut-2.ensures ▸ (c.put_count-in-Cut-2.ensures ▸ puts_nothing _ _ _ _))))
+
+pub returns-in-NoMemory : goal.returns-in-NoMemory
+returns-in-NoMemory g c = rw c.in-NoMemory.is (puts_nothing _ _ _ _)

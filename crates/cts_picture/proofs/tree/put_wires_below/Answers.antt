@@ -1,9 +1,36 @@
-use Rattle.std.proofs.Common.{map, subst, take_all, arith}
+use Rattle.std.proofs.Common.{map, subst, sym, take_all, arith}
 use Rattle.std.specs.List.{flat_map}
 use Rattle.cts_io.specs.Text.{Puts}
+use Rattle.cts_io.proofs.Chains.{◌▸◌, puts_nothing}
+use Rattle.cts_report.specs.Printed.{PrintedNode}
 use Rattle.cts_report_reader.specs.Nodes.{seen_node}
+use Rattle.cts_picture.specs.Drawable.{IsDrawableNode}
 use Rattle.cts_picture.specs.Wires.{wire_text, wires_below}
+use Rattle.cts_picture.proofs.Pieces.{lent_step}
 use Rattle.cts_picture.proofs.tree.put_wires_below.Goals as goal
+
+pub loop-node-init : goal.loop-node-init
+loop-node-init g c = puts_nothing _ _ _ _
+
+pub put_wires_from-requires-clause-scale : goal.put_wires_from-requires-clause-scale
+put_wires_from-requires-clause-scale g c = c.requires.scale
+
+pub put_wires_from-requires-clause-nodes : goal.put_wires_from-requires-clause-nodes
+put_wires_from-requires-clause-nodes g c = c.requires.nodes
+
+pub put_wires_from-requires-clause-place : goal.put_wires_from-requires-clause-place
+put_wires_from-requires-clause-place g c =
+    let node : IsDrawableNode c.node-item.result =
+    subst IsDrawableNode (sym c.node-item.is) (c.requires.nodes c.loop-node.node-index c.node-item.result c.loop-node-test.true) in
+    node.seen.place
+
+pub loop-node-preserved : goal.loop-node-preserved
+loop-node-preserved g c =
+    lent_step
+    (λ text. Puts g.K.ByteSink.held g.K.ByteSink.faults c.args.sink.now c.args.out.now c.put_wires_from.new.sink c.put_wires_from.new.out text)
+    (λ (node : PrintedNode). flat_map (wire_text c.args.scale.now) (wires_below (map seen_node c.args.nodes.now) node)) seen_node
+    c.args.nodes.now c.loop-node.node-index c.node-item.result c.loop-node-test.true c.node-item.is
+    (c.loop-node.invariant ▸ c.put_wires_from.ensures)
 
 pub returns : goal.returns
 returns g c =

@@ -25,3 +25,18 @@ returns-clause-text c =
     point_and_digits c.args.places c.from-2.result c.from-4.result c.from-3.result c.args.bytes.now c.split_at.result.0.now c.split_at.result.1.now
     (omega arith) c.split_at.ensures.front_len found.digits unit (c.from-4.ensures ∙ found.number)
     (c.in_ok-rest.ensures ∙ ap (λ t. 46 ∷ t) c.split_at.ensures.by_index.0)
+
+pub split_at-requires : goal.split_at-requires
+split_at-requires c = omega arith
+
+pub all_digits-requires : goal.all_digits-requires
+all_digits-requires c = omega arith
+
+pub offset_bounds-places : goal.offset_bounds-places
+offset_bounds-places c = omega arith
+
+pub bounds-places : goal.bounds-places
+bounds-places c = omega arith
+
+pub returns-then-places-eq0-clause-small : goal.returns-then-places-eq0-clause-small
+returns-then-places-eq0-clause-small c = omega arith

@@ -9,6 +9,7 @@ use Rattle.cts_report_reader.specs.Nodes.{IsSeenNode, seen_node, seen_nodes}
 use Rattle.cts_report_reader.specs.Seen.{fronted_lines, FindsIn}
 use Rattle.cts_report_reader.specs.Whole.{nodes_at}
 use Rattle.cts_report_reader.proofs.NodeLoops.{nodes_begin, nodes_step, nodes_none, nodes_done, found_lines, missed_line}
+use Rattle.cts_report_reader.proofs.PairReads.{err_passes, err_finds_lines}
 use Rattle.cts_report_reader.proofs.report.nodes.Goals as goal
 
 pub loop-number-init : goal.loop-number-init
@@ -55,3 +56,60 @@ returns-clause-found c =
     let e : l.number ≡ c.args.count = omega arith in
     found_lines (λ (ns : Vec ReportNode Global). seen_nodes ns.items) l.items l.rest _
     (nodes_done c.args.buffers c.args.count l.number (reverse l.stack.items) (seen_nodes l.items.items) _ l.rest.now e l.invariant.found)
+
+pub overflow_sub-todo : goal.overflow_sub-todo
+overflow_sub-todo c = omega arith
+
+pub overflow_sub-todo-in-loop-number : goal.overflow_sub-todo-in-loop-number
+overflow_sub-todo-in-loop-number c = omega arith
+
+pub overflow_cast-todo : goal.overflow_cast-todo
+overflow_cast-todo c = omega arith
+
+pub node-requires : goal.node-requires
+node-requires c = c.requires.buffers
+
+pub overflow_add-result : goal.overflow_add-result
+overflow_add-result c = omega arith
+
+pub returns-in_err-items-clause-found : goal.returns-in_err-items-clause-found
+returns-in_err-items-clause-found c = err_finds_lines (λ (ns : Vec ReportNode Global). seen_nodes ns.items) c.from_residual.result _ c.from_residual.ensures.0
+
+pub returns-in_err-items-clause-seen : goal.returns-in_err-items-clause-seen
+returns-in_err-items-clause-seen c = err_passes _ c.from_residual.result c.from_residual.ensures.0
+
+pub returns-in_err-items-clause-long : goal.returns-in_err-items-clause-long
+returns-in_err-items-clause-long c = err_passes _ c.from_residual.result c.from_residual.ensures.0
+
+pub returns-in_err-next-clause-found : goal.returns-in_err-next-clause-found
+returns-in_err-next-clause-found c = err_finds_lines (λ (ns : Vec ReportNode Global). seen_nodes ns.items) c.from_residual-in_err-next.result _ c.from_residual-in_err-next.ensures.0
+
+pub returns-in_err-next-clause-seen : goal.returns-in_err-next-clause-seen
+returns-in_err-next-clause-seen c = err_passes _ c.from_residual-in_err-next.result c.from_residual-in_err-next.ensures.0
+
+pub returns-in_err-next-clause-long : goal.returns-in_err-next-clause-long
+returns-in_err-next-clause-long c = err_passes _ c.from_residual-in_err-next.result c.from_residual-in_err-next.ensures.0
+
+pub returns-in_err-stack_node-clause-found : goal.returns-in_err-stack_node-clause-found
+returns-in_err-stack_node-clause-found c = err_finds_lines (λ (ns : Vec ReportNode Global). seen_nodes ns.items) c.from_residual-in_err-stack_node.result _ c.from_residual-in_err-stack_node.ensures.0
+
+pub returns-in_err-stack_node-clause-seen : goal.returns-in_err-stack_node-clause-seen
+returns-in_err-stack_node-clause-seen c = err_passes _ c.from_residual-in_err-stack_node.result c.from_residual-in_err-stack_node.ensures.0
+
+pub returns-in_err-stack_node-clause-long : goal.returns-in_err-stack_node-clause-long
+returns-in_err-stack_node-clause-long c = err_passes _ c.from_residual-in_err-stack_node.result c.from_residual-in_err-stack_node.ensures.0
+
+pub returns-in_err-push-clause-found : goal.returns-in_err-push-clause-found
+returns-in_err-push-clause-found c = err_finds_lines (λ (ns : Vec ReportNode Global). seen_nodes ns.items) c.from_residual-in_err-push.result _ c.from_residual-in_err-push.ensures.0
+
+pub returns-in_err-push-clause-seen : goal.returns-in_err-push-clause-seen
+returns-in_err-push-clause-seen c = err_passes _ c.from_residual-in_err-push.result c.from_residual-in_err-push.ensures.0
+
+pub returns-in_err-push-clause-long : goal.returns-in_err-push-clause-long
+returns-in_err-push-clause-long c = err_passes _ c.from_residual-in_err-push.result c.from_residual-in_err-push.ensures.0
+
+pub returns-clause-seen : goal.returns-clause-seen
+returns-clause-seen c = c.loop-number.invariant.seen
+
+pub returns-clause-long : goal.returns-clause-long
+returns-clause-long c = omega arith

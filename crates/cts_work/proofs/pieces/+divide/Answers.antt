@@ -1,5 +1,5 @@
 use Rattle.std.proofs.Common.{◌+◌, ◌-◌, ◌/◌, ◌++◌, sym, ap, ◌∙◌, arith, append_assoc}
-use Rattle.std.proofs.lemmas.Result.{IfOk-weaker}
+use Rattle.std.proofs.lemmas.Result.{IfOk-weaker, IfOk-from_err}
 use Rattle.cts_topo.specs.declared.shape.ShapeNode.TheVariants.{Leaf}
 use Rattle.cts_work.specs.Built.{tree_at}
 use Rattle.cts_work.specs.Pieces.{pieces_of}
@@ -57,3 +57,15 @@ returns-in_ok-divide-in-Pair t c =
     (sym (parts_pieces c.args.count c.args.nodes.now c.requires.shape c.args.first c.args.root c.requires.part _ c.in-Pair.left c.in-Pair.right
     c.in-Pair.is c.args.lots c.if-lots-lt2.false)))
     c.divide-in-Pair.ensures
+
+pub overflow_sub-lots : goal.overflow_sub-lots
+overflow_sub-lots t c = omega arith
+
+pub returns-in_err-push : goal.returns-in_err-push
+returns-in_err-push t c = IfOk-from_err _ _ (c.from_residual.ensures.0)
+
+pub returns-in_err-push-in-Leaf : goal.returns-in_err-push-in-Leaf
+returns-in_err-push-in-Leaf t c = IfOk-from_err _ _ (c.from_residual-in_err-push-in-Leaf.ensures.0)
+
+pub returns-in_err-divide-in-Pair : goal.returns-in_err-divide-in-Pair
+returns-in_err-divide-in-Pair t c = IfOk-from_err _ _ (c.from_residual-in_err-divide-in-Pair.ensures.0)

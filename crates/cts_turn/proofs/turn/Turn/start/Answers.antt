@@ -1,4 +1,4 @@
-use Rattle.std.proofs.Common.{ap, sym, ◌∙◌, subst, arith, List, length}
+use Rattle.std.proofs.Common.{refl, ap, sym, ◌∙◌, subst, arith, List, [], ◌∷◌, length, length-append, Some}
 use Rattle.cts_turn.proofs.Keeps.{opens}
 use Rattle.cts_turn.proofs.Prefixes.{prefix_same}
 use Rattle.cts_turn.proofs.turn.Turn.start.Goals as goal
@@ -31,3 +31,19 @@ returns-in-Ok-clause-own g c =
       sound = subst (λ (x : g.row.O.Denot × List g.row.O-Entry.Denot). g.O.Object.is_sound (g.O.Object.base x.0) x.1) (λ k. (sym key k, sym seen k)) (law.told_is_sound first);
       short = omega (arith, ap length seen, law.told_is_short first);
     }
+
+pub returns-in-Ok-clause-turn : goal.returns-in-Ok-clause-turn
+returns-in-Ok-clause-turn g c = ap (λ k. k.value) c.in-Ok.ensures.ok.5 ∙ c.of-first.ensures
+
+pub returns-in-Ok-clause-pass : goal.returns-in-Ok-clause-pass
+returns-in-Ok-clause-pass g c =
+    let me = c.in-Ok.ensures.ok.4 in
+    (ap (λ m. m.0.seen) me ∙ ap g.O.Object.told c.of-first.ensures, ap (λ m. m.0.made) me, refl)
+
+pub invariant_of-result : goal.invariant_of-result
+invariant_of-result g c =
+    let ok = c.in-Ok.ensures.ok in
+    let items = c.in_ok-push.ensures.items in
+    let one = ap length items in
+    let none = ap length c.in_ok-slots.ensures.items in
+    record { sized = (ok.0, omega (arith, ok.1, one, none, length-append c.in_ok-slots.slots.items (Some c.args.object ∷ []))) }
