@@ -16,20 +16,20 @@ abbrev entry : Edit → Entry
 entry edit = record { caller = 1; line = 13; edit = edit }
 
 abbrev first : Sink
-first = record { id = 1; x = pos 0; y = pos 0; cap = 5 }
+first = record { id = 1; x = pos 0; y = pos 0; cap = 5; offset = 0 }
 
 abbrev second : Sink
-second = record { id = 2; x = pos 10; y = pos 0; cap = 10 }
+second = record { id = 2; x = pos 10; y = pos 0; cap = 10; offset = 0 }
 
 abbrev two : List Sink
 two = first ∷ second ∷ []
 
 -- the first sink goes and comes back: it stands last then
-moved_back : after two (entry (Remove 1) ∷ entry (Add 1 (pos 3) (pos 4) 7) ∷ []) ≡ second ∷ record { id = 1; x = pos 3; y = pos 4; cap = 7 } ∷ []
+moved_back : after two (entry (Remove 1) ∷ entry (Add 1 (pos 3) (pos 4) 7) ∷ []) ≡ second ∷ record { id = 1; x = pos 3; y = pos 4; cap = 7; offset = 0 } ∷ []
 moved_back = refl
 
 -- a sink that is moved, or gets another capacitance, keeps its place in the list
-changed_in_place : after two (entry (Move 1 (pos 8) (pos 9)) ∷ entry (SetCap 1 6) ∷ []) ≡ record { id = 1; x = pos 8; y = pos 9; cap = 6 } ∷ second ∷ []
+changed_in_place : after two (entry (Move 1 (pos 8) (pos 9)) ∷ entry (SetCap 1 6) ∷ []) ≡ record { id = 1; x = pos 8; y = pos 9; cap = 6; offset = 0 } ∷ second ∷ []
 changed_in_place = refl
 
 abbrev die : Die

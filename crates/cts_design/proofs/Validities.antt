@@ -35,7 +35,7 @@ pub record IsOpen (blocks : List Block) (x y : ℤ) : Type 0 where
 
 -- a sink is valid, and stands in no block that stops wires
 record IsFit (base : Parts) (s : Sink) : Type 0 where
-  sink : IsSink base.die s
+  sink : IsSink base.version base.die s
   clear : IsOpen base.blocks s.x s.y
 
 -- the sinks are valid with the other parts
@@ -183,18 +183,18 @@ module _ (id : ℕ) (f : Sink → Sink) (keeps : (s : Sink) → (f s).id ≡ s.i
 edit_fit : (base : Parts) (sinks : List Sink) (edits : ℕ) (edit : Edit) → AreFit base sinks → IsEdit edit
     → Passes base.die (walls_of base.blocks) sinks edits edit → AreFit base (applied edit sinks)
 edit_fit base sinks edits (Add id x y c) fit within p =
-    added_fit base sinks (record { id = id; x = x; y = y; cap = c }) fit
-    (record { sink = record { id = within.0; cap = within.2; in_die = in_die base.die x y p.outside }; clear = open_place base.blocks x y p.in_block })
+    added_fit base sinks (record { id = id; x = x; y = y; cap = c; offset = 0 }) fit
+    (record { sink = record { id = within.0; cap = within.2; offset = omega arith; no_offset = λ _. refl; in_die = in_die base.die x y p.outside }; clear = open_place base.blocks x y p.in_block })
     p.known p.full
 edit_fit base sinks edits (Remove id) fit within p = removed_fit base sinks id fit p.last
 edit_fit base sinks edits (Move id x y) fit within p =
     changed_fit id (moved_to x y) (λ s. refl) base sinks fit (λ s was. record {
-      sink = record { id = was.sink.id; cap = was.sink.cap; in_die = in_die base.die x y p.outside };
+      sink = record { id = was.sink.id; cap = was.sink.cap; offset = was.sink.offset; no_offset = was.sink.no_offset; in_die = in_die base.die x y p.outside };
       clear = open_place base.blocks x y p.in_block;
     })
 edit_fit base sinks edits (SetCap id c) fit within p =
     changed_fit id (with_cap c) (λ s. refl) base sinks fit (λ s was. record {
-      sink = record { id = was.sink.id; cap = within.1; in_die = was.sink.in_die };
+      sink = record { id = was.sink.id; cap = within.1; offset = was.sink.offset; no_offset = was.sink.no_offset; in_die = was.sink.in_die };
       clear = was.clear;
     })
 

@@ -27,9 +27,9 @@ moved_to x y sink = record sink { x = x; y = y }
 abbrev pub with_cap : ℕ → Sink → Sink
 with_cap c sink = record sink { cap = c }
 
--- the sinks after an edit
+-- the sinks after an edit: an added one wants no offset, and a changed one keeps its own
 abbrev pub applied : Edit → List Sink → List Sink
-applied (Add id x y c) sinks = sinks ++ record { id = id; x = x; y = y; cap = c } ∷ []
+applied (Add id x y c) sinks = sinks ++ record { id = id; x = x; y = y; cap = c; offset = 0 } ∷ []
 applied (Remove id) sinks = without id sinks
 applied (Move id x y) sinks = changed id (moved_to x y) sinks
 applied (SetCap id c) sinks = changed id (with_cap c) sinks

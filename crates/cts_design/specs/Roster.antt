@@ -11,7 +11,7 @@ is_present slot = not (nat_eq slot.id 4294967295)
 
 -- what stands there then
 abbrev pub vacancy : Sink
-vacancy = record { id = 4294967295; x = pos 0; y = pos 0; cap = 0 }
+vacancy = record { id = 4294967295; x = pos 0; y = pos 0; cap = 0; offset = 0 }
 
 -- the sinks in their order
 abbrev pub present : List Sink → List Sink

@@ -45,7 +45,13 @@ fn apply(sinks: &mut Roster, edit: Edit) -> Result<(), NoMemory>
     ensures err { OnErr result (sinks.new ≡ sinks.old) }
 {
     match edit {
-        Edit::Add { id, x, y, cap } => sinks.add(Sink { id, x, y, cap }),
+        Edit::Add { id, x, y, cap } => sinks.add(Sink {
+            id,
+            x,
+            y,
+            cap,
+            offset: 0,
+        }),
         Edit::Remove { id } => {
             sinks.remove(id);
             Ok(())

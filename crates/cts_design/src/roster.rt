@@ -21,6 +21,7 @@ const VACANCY: Sink = Sink {
     x: 0,
     y: 0,
     cap: 0,
+    offset: 0,
 };
 
 /// Sinks with distinct ids, in their order. Contracts see the list of them.

@@ -6,6 +6,7 @@ use Rattle.cts_units.specs.declared.params.Buffer.{Buffer}
 use Rattle.cts_units.specs.declared.params.Sink.{Sink}
 use Rattle.cts_block.specs.declared.blocks.Block.{Block}
 use Rattle.cts_instance.specs.declared.counts.BlockCounts.{BlockCounts}
+use Rattle.cts_instance.specs.declared.version.Version.{Version}
 use Rattle.cts_instance.specs.FirstFault.{buffer_line, buffer_fault, sink_line, sink_fault, block_line, block_fault, first_of, counts_of}
 
 pub buffer_line-at : (buffers : List Buffer) (number : ℕ) (buffer : Buffer) → number ≤ length buffers
@@ -13,10 +14,10 @@ pub buffer_line-at : (buffers : List Buffer) (number : ℕ) (buffer : Buffer) �
 unfolding buffer_line
 buffer_line-at buffers number buffer inside = rw (length-take-le number buffers inside) refl
 
-pub sink_line-at : (die : Die) (before : List Sink) (ids : List ℕ) (sink : Sink) → ids ≡ map (λ s. s.id) before
-    → sink_fault die ids sink ≡ sink_line die before sink
+pub sink_line-at : (version : Version) (die : Die) (before : List Sink) (ids : List ℕ) (sink : Sink) → ids ≡ map (λ s. s.id) before
+    → sink_fault version die ids sink ≡ sink_line version die before sink
 unfolding sink_line
-sink_line-at die before ids sink same = ap (λ seen. sink_fault die seen sink) same
+sink_line-at version die before ids sink same = ap (λ seen. sink_fault version die seen sink) same
 
 pub block_line-at : (die : Die) (x y : ℤ) (sinks : List Sink) (before : List Block) (counts : BlockCounts) (block : Block)
     → counts ≡ counts_of before → block_fault die x y sinks counts block ≡ block_line die x y sinks before block

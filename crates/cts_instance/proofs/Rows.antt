@@ -1,12 +1,14 @@
 -- Faults that no text can spell, worked by hand: numbers below 0, numbers of 10^18 and more, and blocks past the last.
-use Rattle.std.proofs.Common.{◌≡◌, ◌^◌, [], None, Some, pos, negsuc, refl}
+use Rattle.std.proofs.Common.{◌≡◌, ℕ, ◌-◌, ◌^◌, [], None, Some, pos, negsuc, refl}
 use Rattle.cts_geom.specs.declared.bounds.Die.{Die}
+use Rattle.cts_units.specs.declared.params.Sink.{Sink}
 use Rattle.cts_block.specs.declared.blocks.Block.{Block}
 use Rattle.cts_block.specs.declared.blocks.Kind.TheVariants as kind
 use Rattle.cts_instance.specs.declared.fault.Fault.TheVariants.{Outside, Range, TooMany}
 use Rattle.cts_instance.specs.declared.fault.Item.TheVariants as item
-use Rattle.cts_instance.specs.FirstFault.{block_fault, buffer_fault, die_fault, limits_fault, source_fault}
-use Rattle.cts_instance.specs.Tests.{has_room, is_between, is_block_in_die, is_buffer, is_clear, is_die, is_in_die, is_limits, is_side, is_upright}
+use Rattle.cts_instance.specs.declared.version.Version.TheVariants.{One, Two}
+use Rattle.cts_instance.specs.FirstFault.{block_fault, buffer_fault, die_fault, limits_fault, sink_fault, source_fault}
+use Rattle.cts_instance.specs.Tests.{has_room, is_between, is_block_in_die, is_buffer, is_clear, is_die, is_in_die, is_limits, is_offset, is_side, is_sink, is_upright}
 
 die_west_of_0 : die_fault (record { x1 = negsuc 0; y1 = pos 0; x2 = pos 5; y2 = pos 5 }) ≡ Some (Range item.Die)
 unfolding die_fault is_die is_side is_between
@@ -51,6 +53,26 @@ great_resistance = refl
 great_delay : buffer_fault 3 (record { cin = 0; rout = 0; intrinsic = 10 ^ 18 }) ≡ Some (Range (item.Buffer 3))
 unfolding buffer_fault is_buffer
 great_delay = refl
+
+-- offsets of a sink, in both versions
+abbrev wanting : ℕ → Sink
+wanting offset = record { id = 1; x = pos 50; y = pos 100; cap = 5; offset = offset }
+
+offset_in_version_1 : sink_fault One die [] (wanting 1) ≡ Some (Range (item.Sink 0))
+unfolding sink_fault is_sink is_offset
+offset_in_version_1 = refl
+
+no_offset_in_version_1 : sink_fault One die [] (wanting 0) ≡ None
+unfolding sink_fault is_sink is_offset is_in_die is_between
+no_offset_in_version_1 = refl
+
+greatest_offset : sink_fault Two die [] (wanting (10 ^ 18 - 1)) ≡ None
+unfolding sink_fault is_sink is_offset is_in_die is_between
+greatest_offset = refl
+
+great_offset : sink_fault Two die [] (wanting (10 ^ 18)) ≡ Some (Range (item.Sink 0))
+unfolding sink_fault is_sink is_offset
+great_offset = refl
 
 -- a block on the west edge, of either kind
 abbrev edge_of_buffers : Block

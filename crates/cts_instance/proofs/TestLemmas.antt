@@ -1,5 +1,5 @@
 -- Each test of a line is true exactly where what it tests holds.
-use Rattle.std.proofs.Common.{◌≡◌, ◌≢◌, ℕ, ◌^◌, ◌≤◌, Bool, true, false, not, ◌||◌, T, nat_eq, nat_le, ℤ, pos, ◌≤ℤ◌, ◌<ℤ◌, int_le, int_lt, List, All, Decides, refl, sym, ◌∙◌}
+use Rattle.std.proofs.Common.{◌≡◌, ◌≢◌, ℕ, ◌^◌, ◌≤◌, Bool, true, false, not, ◌||◌, T, nat_eq, nat_le, ℤ, pos, ◌≤ℤ◌, ◌<ℤ◌, int_le, int_lt, List, All, Decides, refl, sym, subst, ◌∙◌, arith}
 use Rattle.std.specs.List.{list_any, list_all}
 use Rattle.std.proofs.lemmas.Bool.{leb-true, le-leb}
 use Rattle.std.proofs.lemmas.Bool.Decides.{Decides-eqb, Decides-like, Decides-not, Decides-and, Decides-ltb, Decides-by_and, Decides-by_or}
@@ -14,9 +14,11 @@ use Rattle.cts_block.specs.declared.blocks.Block.{Block}
 use Rattle.cts_block.specs.declared.blocks.Kind.{Kind}
 use Rattle.cts_block.specs.declared.blocks.Kind.TheVariants.{Buffer as of_buffers, All as of_all}
 use Rattle.cts_block.specs.FreePoints.{StopsWires}
+use Rattle.cts_instance.specs.declared.version.Version.{Version}
+use Rattle.cts_instance.specs.declared.version.Version.TheVariants.{One, Two}
 use Rattle.cts_instance.specs.Places.{IsInDie, IsInside}
 use Rattle.cts_instance.specs.Validity.{IsDie, IsBounded, IsClear}
-use Rattle.cts_instance.specs.Tests.{is_between, is_strictly_between, is_in_die, is_inside, is_side, is_die, is_bounded, is_wire, is_limits, is_buffer, is_sink, is_upright, is_block_in_die, is_empty, is_clear, is_kind_all}
+use Rattle.cts_instance.specs.Tests.{is_between, is_strictly_between, is_in_die, is_inside, is_side, is_die, is_bounded, is_wire, is_limits, is_buffer, is_offset, is_sink, is_upright, is_block_in_die, is_empty, is_clear, is_kind_all}
 
 pub Decides-int_le : (a b : ℤ) → Decides (int_le a b) (a ≤ℤ b)
 Decides-int_le a b = (λ e. record { le = T_from_true _ e }, λ h. by (int_le a b) h.le)
@@ -111,9 +113,27 @@ Decides-is_buffer buffer =
     (λ b. ((b.cin, b.rout), b.intrinsic))
     (Decides-and _ _ (Decides-and _ _ (Decides-nat_le buffer.cin (10 ^ 12)) (Decides-is_bounded buffer.rout)) (Decides-is_bounded buffer.intrinsic))
 
-pub Decides-is_sink : (sink : Sink) → Decides (is_sink sink) ((sink.id ≤ 999999999) × (sink.cap ≤ 10 ^ 12))
+-- an offset that a sink of this version may want
+abbrev pub IsOffset : Version → ℕ → Type 0
+IsOffset version offset = IsBounded offset × (version ≡ One → offset ≡ 0)
+
+abbrev IsFirst : Version → Type 0
+IsFirst One = Unit {0}
+IsFirst Two = ⊥
+
+pub Decides-is_offset : (version : Version) (offset : ℕ) → Decides (is_offset version offset) (IsOffset version offset)
+unfolding is_offset
+Decides-is_offset One offset =
+    let d = Decides-eqb offset 0 in (λ e. let none : offset ≡ 0 = d.0 e in (omega (arith, none), λ _. none), λ h. d.1 (h.1 refl))
+Decides-is_offset Two offset =
+    let d = Decides-is_bounded offset in (λ e. (d.0 e, λ first. absurd (subst IsFirst (sym first) tt)), λ h. d.1 h.0)
+
+pub Decides-is_sink : (version : Version) (sink : Sink)
+    → Decides (is_sink version sink) (((sink.id ≤ 999999999) × (sink.cap ≤ 10 ^ 12)) × IsOffset version sink.offset)
 unfolding is_sink
-Decides-is_sink sink = Decides-and _ _ (Decides-nat_le sink.id 999999999) (Decides-nat_le sink.cap (10 ^ 12))
+Decides-is_sink version sink =
+    Decides-and _ _ (Decides-and _ _ (Decides-nat_le sink.id 999999999) (Decides-nat_le sink.cap (10 ^ 12)))
+    (Decides-is_offset version sink.offset)
 
 pub Decides-is_upright : (block : Block) → Decides (is_upright block) ((block.x1 ≤ℤ block.x2) × (block.y1 ≤ℤ block.y2))
 unfolding is_upright

@@ -14,11 +14,12 @@ use Rattle.cts_block.specs.declared.blocks.Kind.{Kind}
 use Rattle.cts_block.specs.declared.blocks.Kind.TheVariants.{Buffer as of_buffers, All as of_all}
 use Rattle.cts_instance.specs.declared.counts.BlockCounts.{BlockCounts}
 use Rattle.cts_instance.specs.declared.parts.Parts.{Parts}
+use Rattle.cts_instance.specs.declared.version.Version.{Version}
 use Rattle.cts_instance.specs.Places.{IsInDie}
 use Rattle.cts_instance.specs.Validity.{IsDie, IsBounded, IsSink, IsBlock, IsClear, IsValid}
 use Rattle.cts_instance.specs.Tests.{has_room, is_kind_buffer, is_kind_all}
 use Rattle.cts_instance.specs.FirstFault.{die_fault, source_fault, wire_fault, limits_fault, buffer_count_fault, buffer_fault, buffer_line, buffers_fault, sink_count_fault, sink_fault, sink_line, sinks_fault, block_count_fault, block_fault, block_line, blocks_fault, counts_of, first_of, first_fault}
-use Rattle.cts_instance.proofs.TestLemmas.{Decides-nat_le, Decides-absent, Decides-is_bounded, Decides-is_die, Decides-is_in_die, Decides-is_wire, Decides-is_limits, Decides-is_buffer, Decides-is_sink, Decides-is_upright, Decides-is_block_in_die, Decides-is_clear}
+use Rattle.cts_instance.proofs.TestLemmas.{IsOffset, Decides-nat_le, Decides-absent, Decides-is_bounded, Decides-is_die, Decides-is_in_die, Decides-is_wire, Decides-is_limits, Decides-is_buffer, Decides-is_sink, Decides-is_upright, Decides-is_block_in_die, Decides-is_clear}
 use Rattle.cts_instance.proofs.AllowLemmas.{Allows, Allows-like, Allows-unless, Allows-last, Allows-or, Allows-first_of, pairs_from_lines, lines_from_pairs, count_from_lines, lines_from_count}
 
 pub Allows-die_fault : (die : Die) → Allows (die_fault die) (IsDie die)
@@ -58,15 +59,16 @@ unfolding sink_count_fault
 Allows-sink_count_fault count = Allows-unless _ _ _ (Decides-ltb 0 count) (Allows-last _ _ (Decides-nat_le count 65536))
 
 -- a sink line given the ids before it
-abbrev SinkRules : Die → List ℕ → Sink → Type 0
-SinkRules die ids sink =
-    ((sink.id ≤ 999999999) × (sink.cap ≤ 10 ^ 12)) × (All (λ id. id ≢ sink.id) ids × IsInDie die sink.x sink.y)
+abbrev pub SinkRules : Version → Die → List ℕ → Sink → Type 0
+SinkRules version die ids sink =
+    (((sink.id ≤ 999999999) × (sink.cap ≤ 10 ^ 12)) × IsOffset version sink.offset)
+    × (All (λ id. id ≢ sink.id) ids × IsInDie die sink.x sink.y)
 
-pub Allows-sink_fault : (die : Die) (ids : List ℕ) (sink : Sink)
-    → Allows (sink_fault die ids sink) (((sink.id ≤ 999999999) × (sink.cap ≤ 10 ^ 12)) × (All (λ id. id ≢ sink.id) ids × IsInDie die sink.x sink.y))
+pub Allows-sink_fault : (version : Version) (die : Die) (ids : List ℕ) (sink : Sink)
+    → Allows (sink_fault version die ids sink) (SinkRules version die ids sink)
 unfolding sink_fault
-Allows-sink_fault die ids sink =
-    Allows-unless _ _ _ (Decides-is_sink sink)
+Allows-sink_fault version die ids sink =
+    Allows-unless _ _ _ (Decides-is_sink version sink)
     (Allows-unless _ _ _ (Decides-absent sink.id ids) (Allows-last _ _ (Decides-is_in_die die sink.x sink.y)))
 
 -- the ids of sinks, and the sinks
@@ -77,21 +79,21 @@ ids_apart sink before h k d inside same =
 sinks_apart : (sink : Sink) (before : List Sink) → All (λ s. s.id ≢ sink.id) before → All (λ id. id ≢ sink.id) (map (λ s. s.id) before)
 sinks_apart sink before h = All-map (λ id. id ≢ sink.id) (λ s. s.id) before h
 
-pub Allows-sinks_fault : (die : Die) (sinks : List Sink)
-    → Allows (sinks_fault die sinks)
-    (((1 ≤ length sinks) × (length sinks ≤ 65536)) × (All (IsSink die) sinks × AllPairs (λ a b. a.id ≢ b.id) sinks))
+pub Allows-sinks_fault : (version : Version) (die : Die) (sinks : List Sink)
+    → Allows (sinks_fault version die sinks)
+    (((1 ≤ length sinks) × (length sinks ≤ 65536)) × (All (IsSink version die) sinks × AllPairs (λ a b. a.id ≢ b.id) sinks))
 unfolding sinks_fault sink_line
-Allows-sinks_fault die sinks =
+Allows-sinks_fault version die sinks =
     Allows-or _ _ (Allows-sink_count_fault (length sinks))
-    (Allows-like (first_of (sink_line die) [] sinks)
+    (Allows-like (first_of (sink_line version die) [] sinks)
     (λ h. (
-      λ k d inside. let r = h k d inside in record { id = r.0.0; cap = r.0.1; in_die = r.1.1 },
+      λ k d inside. let r = h k d inside in record { id = r.0.0.0; cap = r.0.0.1; offset = r.0.1.0; no_offset = r.0.1.1; in_die = r.1.1 },
       pairs_from_lines (λ a b. a.id ≢ b.id) sinks (λ k d inside. ids_apart (get_or sinks k d) (take k sinks) (h k d inside).1.0),
     ))
     (λ p k d inside. let s = p.0 k d inside in
-    ((s.id, s.cap), (sinks_apart (get_or sinks k d) (take k sinks) (lines_from_pairs (λ a b. a.id ≢ b.id) sinks p.1 k d inside), s.in_die)))
-    (Allows-first_of (sink_line die) (λ before sink. SinkRules die (map (λ s. s.id) before) sink)
-    (λ before sink. Allows-sink_fault die (map (λ s. s.id) before) sink) [] sinks))
+    (((s.id, s.cap), (s.offset, s.no_offset)), (sinks_apart (get_or sinks k d) (take k sinks) (lines_from_pairs (λ a b. a.id ≢ b.id) sinks p.1 k d inside), s.in_die)))
+    (Allows-first_of (sink_line version die) (λ before sink. SinkRules version die (map (λ s. s.id) before) sink)
+    (λ before sink. Allows-sink_fault version die (map (λ s. s.id) before) sink) [] sinks))
 
 pub Allows-block_count_fault : (count : ℕ) → Allows (block_count_fault count) (count ≤ 4160)
 unfolding block_count_fault
@@ -202,7 +204,7 @@ Allows-first_fault parts =
     (Allows-wire_fault parts.params.wire))
     (Allows-limits_fault parts.params.insert_at parts.load_limit parts.slew_limit))
     (Allows-buffers_fault parts.params.library))
-    (Allows-sinks_fault parts.die parts.sinks))
+    (Allows-sinks_fault parts.version parts.die parts.sinks))
     (Allows-blocks_fault parts.die parts.source_x parts.source_y parts.sinks parts.blocks))
 
 -- what a loop over a list asks of its length

@@ -13,6 +13,7 @@ use Rattle.cts_block.specs.declared.blocks.Kind.{Kind}
 use Rattle.cts_block.specs.declared.blocks.Kind.TheVariants.{Buffer as of_buffers, All as of_all}
 use Rattle.cts_instance.specs.declared.parts.Parts.{Parts}
 use Rattle.cts_instance.specs.declared.counts.BlockCounts.{BlockCounts}
+use Rattle.cts_instance.specs.declared.version.Version.{Version}
 use Rattle.cts_instance.specs.declared.fault.Fault.{Fault}
 use Rattle.cts_instance.specs.declared.fault.Fault.TheVariants.{NoSink, TwiceSink, Outside, InBlock, Range, TooMany}
 use Rattle.cts_instance.specs.declared.fault.CheckEnd.{CheckEnd}
@@ -59,9 +60,9 @@ unfoldable pub sink_count_fault : ℕ → Option Fault
 sink_count_fault count = unless (nat_lt 0 count) NoSink (unless (nat_le count 65536) (TooMany item.Sinks) None)
 
 -- ids are those of the sinks before this one, in order
-unfoldable pub sink_fault : Die → List ℕ → Sink → Option Fault
-sink_fault die ids sink =
-    unless (is_sink sink) (Range (item.Sink (length ids))) (
+unfoldable pub sink_fault : Version → Die → List ℕ → Sink → Option Fault
+sink_fault version die ids sink =
+    unless (is_sink version sink) (Range (item.Sink (length ids))) (
     unless (not (list_any (nat_eq sink.id) ids)) (TwiceSink sink.id) (
     unless (is_in_die die sink.x sink.y) (Outside (item.Sink (length ids))) None))
 
@@ -94,8 +95,8 @@ counts_with counts of_all = record counts { all = counts.all + 1 }
 unfoldable pub buffer_line : List Buffer → Buffer → Option Fault
 buffer_line before buffer = buffer_fault (length before) buffer
 
-unfoldable pub sink_line : Die → List Sink → Sink → Option Fault
-sink_line die before sink = sink_fault die (map (λ s. s.id) before) sink
+unfoldable pub sink_line : Version → Die → List Sink → Sink → Option Fault
+sink_line version die before sink = sink_fault version die (map (λ s. s.id) before) sink
 
 unfoldable pub block_line : Die → ℤ → ℤ → List Sink → List Block → Block → Option Fault
 block_line die x y sinks before block = block_fault die x y sinks (counts_of before) block
@@ -104,8 +105,8 @@ block_line die x y sinks before block = block_fault die x y sinks (counts_of bef
 unfoldable pub buffers_fault : List Buffer → Option Fault
 buffers_fault buffers = buffer_count_fault (length buffers) or first_of buffer_line [] buffers
 
-unfoldable pub sinks_fault : Die → List Sink → Option Fault
-sinks_fault die sinks = sink_count_fault (length sinks) or first_of (sink_line die) [] sinks
+unfoldable pub sinks_fault : Version → Die → List Sink → Option Fault
+sinks_fault version die sinks = sink_count_fault (length sinks) or first_of (sink_line version die) [] sinks
 
 unfoldable pub blocks_fault : Die → ℤ → ℤ → List Sink → List Block → Option Fault
 blocks_fault die x y sinks blocks =
@@ -118,7 +119,7 @@ first_fault parts =
     or wire_fault parts.params.wire
     or limits_fault parts.params.insert_at parts.load_limit parts.slew_limit
     or buffers_fault parts.params.library
-    or sinks_fault parts.die parts.sinks
+    or sinks_fault parts.version parts.die parts.sinks
     or blocks_fault parts.die parts.source_x parts.source_y parts.sinks parts.blocks
 
 -- a check of parts with this first fault may end so: with that fault, or for want of memory

@@ -1,5 +1,5 @@
 -- The rules of the lines of an instance, as tests.
-use Rattle.std.specs.Prelude.{ℕ, ◌^◌, Bool, true, false, not, ◌&&◌, ◌||◌, nat_le, nat_lt, ℤ, pos, int_le, int_lt, List}
+use Rattle.std.specs.Prelude.{ℕ, ◌^◌, Bool, true, false, not, ◌&&◌, ◌||◌, nat_eq, nat_le, nat_lt, ℤ, pos, int_le, int_lt, List}
 use Rattle.std.specs.List.{list_all}
 use Rattle.cts_geom.specs.declared.bounds.Die.{Die}
 use Rattle.cts_units.specs.declared.params.Sink.{Sink}
@@ -9,6 +9,8 @@ use Rattle.cts_block.specs.declared.blocks.Block.{Block}
 use Rattle.cts_block.specs.declared.blocks.Kind.{Kind}
 use Rattle.cts_block.specs.declared.blocks.Kind.TheVariants.{Buffer as of_buffers, All as of_all}
 use Rattle.cts_instance.specs.declared.counts.BlockCounts.{BlockCounts}
+use Rattle.cts_instance.specs.declared.version.Version.{Version}
+use Rattle.cts_instance.specs.declared.version.Version.TheVariants.{One, Two}
 
 -- from low to high, both included
 unfoldable pub is_between : ℤ → ℤ → ℤ → Bool
@@ -47,9 +49,14 @@ is_limits insert_at load slew = is_bounded insert_at && is_bounded load && is_bo
 unfoldable pub is_buffer : Buffer → Bool
 is_buffer buffer = nat_le buffer.cin (10 ^ 12) && is_bounded buffer.rout && is_bounded buffer.intrinsic
 
--- the id is at most 999,999,999 and the capacitance at most 10^12 zF
-unfoldable pub is_sink : Sink → Bool
-is_sink sink = nat_le sink.id 999999999 && nat_le sink.cap (10 ^ 12)
+-- in version 1 no sink wants an offset
+unfoldable pub is_offset : Version → ℕ → Bool
+is_offset One offset = nat_eq offset 0
+is_offset Two offset = is_bounded offset
+
+-- the id is at most 999,999,999, the capacitance at most 10^12 zF, and the offset one of the version
+unfoldable pub is_sink : Version → Sink → Bool
+is_sink version sink = nat_le sink.id 999999999 && nat_le sink.cap (10 ^ 12) && is_offset version sink.offset
 
 -- the corners are lower left and upper right
 unfoldable pub is_upright : Block → Bool

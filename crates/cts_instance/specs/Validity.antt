@@ -1,5 +1,5 @@
 -- What a valid instance is.
-use Rattle.std.specs.Prelude.{ℕ, ◌^◌, ◌≤◌, ◌<◌, ℤ, pos, ◌≤ℤ◌, List, length, All, count_by}
+use Rattle.std.specs.Prelude.{◌≡◌, ℕ, ◌^◌, ◌≤◌, ◌<◌, ℤ, pos, ◌≤ℤ◌, List, length, All, count_by}
 use Rattle.cts_geom.specs.declared.bounds.Die.{Die}
 use Rattle.cts_units.specs.declared.params.Sink.{Sink}
 use Rattle.cts_units.specs.Ids.{HasDistinctIds}
@@ -7,6 +7,8 @@ use Rattle.cts_units.specs.Limits.{IsParams}
 use Rattle.cts_block.specs.declared.blocks.Block.{Block}
 use Rattle.cts_block.specs.FreePoints.{StopsWires}
 use Rattle.cts_instance.specs.declared.parts.Parts.{Parts}
+use Rattle.cts_instance.specs.declared.version.Version.{Version}
+use Rattle.cts_instance.specs.declared.version.Version.TheVariants.{One}
 use Rattle.cts_instance.specs.Places.{IsInDie, IsInside}
 use Rattle.cts_instance.specs.Tests.{is_kind_buffer, is_kind_all}
 
@@ -23,9 +25,12 @@ pub record IsDie (die : Die) : Type 0 where
 abbrev pub IsBounded : ℕ → Type 0
 IsBounded n = n < 10 ^ 18
 
-pub record IsSink (die : Die) (sink : Sink) : Type 0 where
+-- a sink of an instance of this version: in version 1 none wants an offset
+pub record IsSink (version : Version) (die : Die) (sink : Sink) : Type 0 where
   pub id : sink.id ≤ 999999999
   pub cap : sink.cap ≤ 10 ^ 12
+  pub offset : IsBounded sink.offset
+  pub no_offset : version ≡ One → sink.offset ≡ 0
   pub in_die : IsInDie die sink.x sink.y
 
 -- the corners are lower left and upper right, and both lie in the die
@@ -49,7 +54,7 @@ pub record IsValid (parts : Parts) : Type 0 where
   pub slew_limit : IsBounded parts.slew_limit
   pub some_sink : 1 ≤ length parts.sinks
   pub sink_count : length parts.sinks ≤ 65536
-  pub sinks : All (IsSink parts.die) parts.sinks
+  pub sinks : All (IsSink parts.version parts.die) parts.sinks
   pub ids : HasDistinctIds (λ s. s.id) parts.sinks
   pub blocks : All (IsBlock parts.die) parts.blocks
   pub block_count : length parts.blocks ≤ 4160

@@ -13,6 +13,7 @@ use crate::lines::{
     sink_count_fault, sink_fault, source_fault, wire_fault,
 };
 use crate::parts::Parts;
+use crate::version::Version;
 use cts_block::Block;
 use cts_geom::Die;
 use cts_num::NoMemory;
@@ -31,13 +32,18 @@ fn faulty_buffer(buffers: &[Buffer]) -> Option<Fault>
     None
 }
 
-fn faulty_sink(alloc: Global, die: &Die, sinks: &[Sink]) -> Result<Option<Fault>, NoMemory>
+fn faulty_sink(
+    alloc: Global,
+    version: Version,
+    die: &Die,
+    sinks: &[Sink],
+) -> Result<Option<Fault>, NoMemory>
     requires { length sinks.now ≤ 65536 }
-    ensures { IfOk result (λ fault. fault ≡ first_of (sink_line die.now) [] sinks.now) }
+    ensures { IfOk result (λ fault. fault ≡ first_of (sink_line version die.now) [] sinks.now) }
 {
     let mut ids = SinkIds::with_capacity(alloc, sinks.len())?;
     for sink in sinks {
-        if let Some(fault) = sink_fault(die, &mut ids, sink)? {
+        if let Some(fault) = sink_fault(version, die, &mut ids, sink)? {
             return Ok(Some(fault));
         }
     }
@@ -69,12 +75,17 @@ fn buffers_fault(buffers: &[Buffer]) -> Option<Fault>
 }
 
 #[tactic(auto, using(crate::proofs::ValidityLemmas::sink_count), unfolding(crate::specs::FirstFault::sinks_fault))]
-fn sinks_fault(alloc: Global, die: &Die, sinks: &[Sink]) -> Result<Option<Fault>, NoMemory>
-    ensures { IfOk result (λ fault. fault ≡ sinks_fault die.now sinks.now) }
+fn sinks_fault(
+    alloc: Global,
+    version: Version,
+    die: &Die,
+    sinks: &[Sink],
+) -> Result<Option<Fault>, NoMemory>
+    ensures { IfOk result (λ fault. fault ≡ sinks_fault version die.now sinks.now) }
 {
     match sink_count_fault(sinks.len()) {
         Some(fault) => Ok(Some(fault)),
-        None => faulty_sink(alloc, die, sinks),
+        None => faulty_sink(alloc, version, die, sinks),
     }
 }
 
@@ -114,7 +125,7 @@ fn first_fault(alloc: Global, parts: &Parts) -> Result<Option<Fault>, NoMemory>
     }
     let die = &parts.die;
     let sinks = parts.sinks.items();
-    if let Some(fault) = sinks_fault(alloc, die, sinks)? {
+    if let Some(fault) = sinks_fault(alloc, parts.version, die, sinks)? {
         return Ok(Some(fault));
     }
     Ok(blocks_fault(

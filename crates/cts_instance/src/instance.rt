@@ -3,6 +3,7 @@
 ghost use Rattle.std.specs.Prelude.{◌≡◌, IfOk};
 
 use crate::parts::{Blocks, Parts, Sinks};
+use crate::version::Version;
 use cts_block::Block;
 use cts_geom::Die;
 use cts_num::NoMemory;
@@ -41,6 +42,14 @@ impl Instance {
         ensures valid { IsValid result }
     {
         Instance { parts }
+    }
+
+    /// The version of the instance.
+    pub fn version(&self) -> Version
+        ensures part { result ≡ self.now.version }
+        ensures valid { IsValid self.now }
+    {
+        self.parts.version
     }
 
     /// The outline of the chip, in nm.
@@ -124,6 +133,7 @@ impl Instance {
         let parts = &self.parts;
         Ok(Instance {
             parts: Parts {
+                version: parts.version,
                 die: parts.die,
                 source_x: parts.source_x,
                 source_y: parts.source_y,

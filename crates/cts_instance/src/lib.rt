@@ -18,6 +18,7 @@ pub mod laws;
 pub mod lines;
 mod parts;
 mod rules;
+mod version;
 
 pub use check::check_instance;
 pub use counts::BlockCounts;
@@ -26,3 +27,4 @@ pub use ids::SinkIds;
 pub use instance::Instance;
 pub use parts::{Blocks, Parts, Sinks};
 pub use rules::{is_in_die, is_inside};
+pub use version::Version;

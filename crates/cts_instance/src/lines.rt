@@ -12,6 +12,7 @@ use crate::rules::{
     has_room, is_block_in_die, is_bounded, is_buffer, is_clear, is_die, is_in_die, is_limits,
     is_sink, is_upright, is_wire,
 };
+use crate::version::Version;
 use cts_block::Block;
 use cts_geom::Die;
 use cts_num::NoMemory;
@@ -121,18 +122,24 @@ pub fn sink_count_fault(count: usize) -> Option<Fault>
     }
 }
 
-/// `Range{Sink(k)}` where the id is above 999,999,999 or the capacitance above 10^12 zF, then
+/// `Range{Sink(k)}` where the id is above 999,999,999, the capacitance above 10^12 zF or the offset
+/// 10^18 of 10^-27 s or more, or where the offset is not 0 in version 1, then
 /// `TwiceSink{id}` where an earlier sink has the id, then `Outside{Sink(k)}` where the place, in nm,
 /// is not in the closed die. The k earlier sinks have the ids `ids`, to which the call adds this
 /// sink's id where it has no fault. After a fault it may have added it too.
 #[tactic(auto, unfolding(crate::specs::FirstFault::sink_fault))]
-pub fn sink_fault(die: &Die, ids: &mut SinkIds, sink: &Sink) -> Result<Option<Fault>, NoMemory>
+pub fn sink_fault(
+    version: Version,
+    die: &Die,
+    ids: &mut SinkIds,
+    sink: &Sink,
+) -> Result<Option<Fault>, NoMemory>
     requires { length ids.old < 2 ^ 32 }
-    ensures fault { IfOk result (λ fault. fault ≡ sink_fault die.now ids.old sink.now) }
+    ensures fault { IfOk result (λ fault. fault ≡ sink_fault version die.now ids.old sink.now) }
     ensures added { IfOk result (λ fault. fault ≡ None → ids.new ≡ ids.old ++ sink.now.id ∷ []) }
 {
     let item = Item::Sink(ids.len() as u32);
-    if !is_sink(sink) {
+    if !is_sink(version, sink) {
         return Ok(Some(Fault::Range { item }));
     }
     if !ids.insert(sink.id)? {

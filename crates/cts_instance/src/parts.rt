@@ -1,5 +1,6 @@
 //! The parts of an instance, valid or not.
 
+use crate::version::Version;
 use cts_block::Block;
 use cts_geom::Die;
 use cts_list::Items;
@@ -14,6 +15,8 @@ pub type Blocks = Items<Block>;
 /// The parts of an instance. Any values make `Parts`; `check_instance` says whether they are valid.
 #[derive(Drop)]
 pub struct Parts {
+    /// The version of the instance, which says whether sinks may want offsets.
+    pub version: Version,
     /// The outline of the chip.
     pub die: Die,
     /// The place of the clock source, in nm.

@@ -2,9 +2,10 @@
 
 ghost use Rattle.std.specs.Prelude.{◌≡◌, not};
 ghost use Rattle.std.specs.List.{list_all};
-ghost use Rattle.cts_instance.specs.Tests.{is_between, is_strictly_between, is_side, is_die, is_in_die, is_inside, is_bounded, is_wire, is_limits, is_buffer, is_sink, is_upright, is_block_in_die, has_room, is_empty, is_clear};
+ghost use Rattle.cts_instance.specs.Tests.{is_between, is_strictly_between, is_side, is_die, is_in_die, is_inside, is_bounded, is_wire, is_limits, is_buffer, is_offset, is_sink, is_upright, is_block_in_die, has_room, is_empty, is_clear};
 
 use crate::counts::BlockCounts;
+use crate::version::Version;
 use cts_block::{Block, Kind};
 use cts_geom::Die;
 use cts_units::{Buffer, Sink, Wire};
@@ -100,12 +101,23 @@ pub fn is_buffer(buffer: &Buffer) -> bool
     buffer.cin <= GREATEST_CAPACITANCE && is_bounded(buffer.rout) && is_bounded(buffer.intrinsic)
 }
 
-/// The id is at most 999,999,999 and the capacitance at most 10^12 zF.
-#[tactic(auto, unfolding(crate::specs::Tests::is_sink))]
-pub fn is_sink(sink: &Sink) -> bool
-    ensures { result ≡ is_sink sink.now }
+/// An offset, in 10^-27 s, is below 10^18, and 0 in version 1.
+#[tactic(auto, unfolding(crate::specs::Tests::is_offset))]
+fn is_offset(version: Version, offset: u64) -> bool
+    ensures { result ≡ is_offset version offset }
 {
-    sink.id <= GREATEST_ID && sink.cap <= GREATEST_CAPACITANCE
+    match version {
+        Version::One => offset == 0,
+        Version::Two => is_bounded(offset),
+    }
+}
+
+/// The id is at most 999,999,999, the capacitance at most 10^12 zF, and the offset one of the version.
+#[tactic(auto, unfolding(crate::specs::Tests::is_sink))]
+pub fn is_sink(version: Version, sink: &Sink) -> bool
+    ensures { result ≡ is_sink version sink.now }
+{
+    sink.id <= GREATEST_ID && sink.cap <= GREATEST_CAPACITANCE && is_offset(version, sink.offset)
 }
 
 /// The first corner is the lower left one and the second the upper right one, or they share a side.

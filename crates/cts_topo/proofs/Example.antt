@@ -6,7 +6,7 @@ use Rattle.cts_topo.specs.declared.shape.ShapeNode.TheVariants.{Leaf, Pair}
 use Rattle.cts_topo.specs.Topology.{greatest, extent, is_wide, left_size, is_early, left_part, right_part, division, topology_of, shape_of}
 
 abbrev sink : ℕ → ℕ → ℕ → Sink
-sink id x y = record { id = id; x = pos x; y = pos y; cap = 1 }
+sink id x y = record { id = id; x = pos x; y = pos y; cap = 1; offset = 0 }
 
 -- at one place the axis is x, and the ids decide
 at_one_place : shape_of (sink 4 0 0 ∷ sink 3 0 0 ∷ sink 2 0 0 ∷ sink 1 0 0 ∷ [])

@@ -13,6 +13,9 @@ pub struct Sink {
     pub y: i64,
     /// Its input capacitance in zF, at most 10^12.
     pub cap: u64,
+    /// How much earlier than the others its edge is wanted, in 10^-27 s, not doubled, below 10^18. Delay and offset
+    /// together are what the tree balances (useful skew).
+    pub offset: u64,
 }
 
 /// The wire of every edge of the tree.
