@@ -13,27 +13,31 @@ use Rattle.cts_memo.specs.Keys.{entry}
 use Rattle.cts_memo.specs.Numbers.{number_of, is_missing, missing}
 
 abbrev first : Sink
-first = record { id = 1; x = pos 0; y = pos 0; cap = 5 }
+first = record { id = 1; x = pos 0; y = pos 0; cap = 5; offset = 0 }
 
 abbrev second : Sink
-second = record { id = 2; x = pos 10; y = pos 0; cap = 10 }
+second = record { id = 2; x = pos 10; y = pos 0; cap = 10; offset = 0 }
 
 -- the second sink with another capacitance
 abbrev heavier : Sink
-heavier = record { id = 2; x = pos 10; y = pos 0; cap = 12 }
+heavier = record { id = 2; x = pos 10; y = pos 0; cap = 12; offset = 0 }
+
+-- the second sink with an offset
+abbrev earlier : Sink
+earlier = record { id = 2; x = pos 10; y = pos 0; cap = 10; offset = 40 }
 
 -- what an entry has plays no part in its number
 abbrev some_finished : Finished
 some_finished = sink_leaf first
 
 abbrev leaves : List MemoEntry
-leaves = entry (Leaf (pos 10) (pos 0) 10) some_finished ∷ entry (Leaf (pos 0) (pos 0) 5) some_finished ∷ []
+leaves = entry (Leaf (pos 10) (pos 0) 10 0) some_finished ∷ entry (Leaf (pos 0) (pos 0) 5 0) some_finished ∷ []
 
 abbrev all : List MemoEntry
-all = entry (Leaf (pos 10) (pos 0) 10) some_finished ∷ entry (Leaf (pos 0) (pos 0) 5) some_finished ∷ entry (Pair 1 0) some_finished ∷ []
+all = entry (Leaf (pos 10) (pos 0) 10 0) some_finished ∷ entry (Leaf (pos 0) (pos 0) 5 0) some_finished ∷ entry (Pair 1 0) some_finished ∷ []
 
 abbrev turned : List MemoEntry
-turned = entry (Leaf (pos 10) (pos 0) 10) some_finished ∷ entry (Leaf (pos 0) (pos 0) 5) some_finished ∷ entry (Pair 0 1) some_finished ∷ []
+turned = entry (Leaf (pos 10) (pos 0) 10 0) some_finished ∷ entry (Leaf (pos 0) (pos 0) 5 0) some_finished ∷ entry (Pair 0 1) some_finished ∷ []
 
 abbrev pair : BinaryTree ShapeNode
 pair = fork (tip (shape.Leaf 0)) (tip (shape.Leaf 1)) (shape.Pair 0 1)
@@ -55,7 +59,7 @@ not_turned : number_of turned (first ∷ second ∷ []) pair ≡ None
 unfolding number_of
 not_turned = refl
 
--- so nothing is missing, one pair where the list is shorter, and one after a change of a capacitance
+-- so nothing is missing, one pair where the list is shorter, and one after a change of a capacitance or of an offset
 nothing_missing : missing all (first ∷ second ∷ []) nodes ≡ 0
 unfolding number_of is_missing trees_of grow tree_over
 nothing_missing = refl
@@ -67,3 +71,7 @@ one_missing = refl
 one_changed : missing all (first ∷ heavier ∷ []) nodes ≡ 1
 unfolding number_of is_missing trees_of grow tree_over
 one_changed = refl
+
+one_earlier : missing all (first ∷ earlier ∷ []) nodes ≡ 1
+unfolding number_of is_missing trees_of grow tree_over
+one_earlier = refl

@@ -57,7 +57,7 @@ number_stays seen longer sinks (fork l r k) n more at =
     ∙ position_stays (λ e. same_key e.key (Pair (parts.0) (parts.1))) seen longer n more (parts.4)
 
 -- a sink's leaf, whatever its id
-pub leaf_of : (s : Sink) (f : Finished) → IsLeaf (sink_at s.x s.y s.cap) f → IsLeaf s f
+pub leaf_of : (s : Sink) (f : Finished) → IsLeaf (sink_at s.x s.y s.cap s.offset) f → IsLeaf s f
 leaf_of s f is = record {
   greatest = is.greatest;
   load = is.load;

@@ -39,7 +39,7 @@ merged_same params f g (Some a) (Some b) p q = merged_one params a.finished.side
 
 -- of a key one thing is made
 pub made_one : (params : Params) (seen : List MemoEntry) (key : Key) (f g : Finished) → IsMadeOf params seen key f → IsMadeOf params seen key g → f ≡ g
-made_one params seen (Leaf x y cap) f g p q = leaf_one (sink_at x y cap) f g p q
+made_one params seen (Leaf x y cap offset) f g p q = leaf_one (sink_at x y cap offset) f g p q
 made_one params seen (Pair left right) f g p q = merged_same params f g (slice_get seen left) (slice_get seen right) p q
 
 pub front_of : {A : Type 0} (n : ℕ) (xs : List A) → IsPrefix (take n xs) xs

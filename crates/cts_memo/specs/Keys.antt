@@ -9,14 +9,15 @@ use Rattle.cts_memo.specs.declared.entry.MemoEntry.{MemoEntry}
 
 -- the key of a sink's leaf: the id has no part in it
 abbrev pub leaf_key : Sink → Key
-leaf_key sink = Leaf sink.x sink.y sink.cap
+leaf_key sink = Leaf sink.x sink.y sink.cap sink.offset
 
 -- whether two keys are one
 abbrev pub same_key : Key → Key → Bool
-same_key (Leaf x y cap) (Leaf x' y' cap') = int_eq x x' && (int_eq y y' && (cap == cap'))
+same_key (Leaf x y cap offset) (Leaf x' y' cap' offset') =
+    int_eq x x' && (int_eq y y' && ((cap == cap') && (offset == offset')))
 same_key (Pair left right) (Pair left' right') = (left == left') && (right == right')
-same_key (Leaf x y cap) (Pair left right) = false
-same_key (Pair left right) (Leaf x y cap) = false
+same_key (Leaf x y cap offset) (Pair left right) = false
+same_key (Pair left right) (Leaf x y cap offset) = false
 
 abbrev pub entry : Key → Finished → MemoEntry
 entry key f = record { key = key; finished = f }

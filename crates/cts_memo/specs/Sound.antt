@@ -13,9 +13,9 @@ use Rattle.cts_memo.specs.declared.entry.MemoEntry.{MemoEntry}
 abbrev pub max_entries : ℕ
 max_entries = 2 ^ 21
 
--- a sink at this place with this capacitance
-abbrev pub sink_at : ℤ → ℤ → ℕ → Sink
-sink_at x y cap = record { id = 0; x = x; y = y; cap = cap }
+-- a sink at this place with this capacitance in zF and this offset in 10^-27 s, not doubled
+abbrev pub sink_at : ℤ → ℤ → ℕ → ℕ → Sink
+sink_at x y cap offset = record { id = 0; x = x; y = y; cap = cap; offset = offset }
 
 -- there is an entry of this number, and P holds of it
 abbrev pub EntryAt : List MemoEntry → ℕ → (MemoEntry → Type 0) → Type 0
@@ -24,7 +24,7 @@ EntryAt seen n P = MatchOption (slice_get seen n) ⊥ P
 -- What is made of a key: at a leaf what its sink gives, whatever the sink's id, and at a pair what the sides of the two
 -- entries give that the key names, the left one first.
 abbrev pub IsMadeOf : Params → List MemoEntry → Key → Finished → Type 0
-IsMadeOf params seen (Leaf x y cap) f = IsLeaf (sink_at x y cap) f
+IsMadeOf params seen (Leaf x y cap offset) f = IsLeaf (sink_at x y cap offset) f
 IsMadeOf params seen (Pair left right) f =
     EntryAt seen left (λ a. EntryAt seen right (λ b. IsMerged params a.finished.side b.finished.side f))
 
@@ -35,5 +35,5 @@ pub record IsSound (params : Params) (seen : List MemoEntry) : Type 0 where
 
 -- a pair's numbers are those of entries
 abbrev pub NamesEntries : List MemoEntry → Key → Type 0
-NamesEntries seen (Leaf x y cap) = Unit {0}
+NamesEntries seen (Leaf x y cap offset) = Unit {0}
 NamesEntries seen (Pair left right) = (left < length seen) × (right < length seen)

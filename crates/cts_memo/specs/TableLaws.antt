@@ -1,11 +1,12 @@
 -- What the rules of a table are proved from.
-use Rattle.std.specs.Prelude.{◌≡◌, ◌≢◌, ℕ, ℤ, ◌<◌, ◌⊎◌, Bool, true, false, nat_lt, cond, List, [], ◌∷◌, ◌++◌, length, take, slice_get, Option, Some, None, MatchOption, AllPairs}
+use Rattle.std.specs.Prelude.{◌≡◌, ◌≢◌, ℕ, ◌<◌, ◌⊎◌, Bool, true, false, nat_lt, cond, List, [], ◌∷◌, ◌++◌, length, take, slice_get, Option, Some, None, MatchOption, AllPairs}
 use Rattle.std.proofs.Common.{refl, sym, ap, ◌∙◌, subst, inl, inr, arith, get_or, length-append}
 use Rattle.std.proofs.Math.ListN.{get_or-append}
 use Rattle.std.proofs.Props.{props}
 use Rattle.std.proofs.lemmas.Option.{slice_get_within, get_or_from_slice_get, slice_get-get_or}
 use Rattle.std.proofs.Math.Logic.{∥∥₁_elim, ∥∥₁_prop}
 use mathlib.Core.List.{IsPrefix}
+use Rattle.cts_units.specs.declared.params.Sink.{Sink}
 use Rattle.cts_units.specs.declared.params.Params.{Params}
 use Rattle.cts_units.specs.Limits.{IsParams}
 use Rattle.cts_merge.specs.declared.side.Finished.{Finished}
@@ -61,7 +62,7 @@ entry_at seen n P (Some e) is p = (e, is, p)
 -- so what is made of a key is the same in longer lists
 pub made_stays : (params : Params) (seen longer : List MemoEntry) (key : Key) (f : Finished) → IsPrefix seen longer
     → IsMadeOf params seen key f → IsMadeOf params longer key f
-made_stays params seen longer (Leaf x y cap) f more made = made
+made_stays params seen longer (Leaf x y cap offset) f more made = made
 made_stays params seen longer (Pair left right) f more made =
     let a = entry_at seen left (λ a. EntryAt seen right (λ b. IsMerged params a.finished.side b.finished.side f)) (slice_get seen left) refl made in
     let b = entry_at seen right (λ b. IsMerged params a.0.finished.side b.finished.side f) (slice_get seen right) refl (a.2) in
@@ -75,11 +76,11 @@ fits_stays params seen longer (Put key f) more fits = made_stays params seen lon
 finished_set : (f g : Finished) → IsProp (f ≡ g)
 finished_set f g = hlevel props
 
-untold_leaf : (x y : ℤ) (cap : ℕ) (f : Finished) → ∥ IsLeaf (sink_at x y cap) f ∥₁ → IsLeaf (sink_at x y cap) f
-untold_leaf x y cap f made =
-    let there = leaf_there (sink_at x y cap) in
-    let same : there.0 ≡ f = ∥∥₁_elim made (finished_set _ _) (λ is. leaf_one (sink_at x y cap) _ _ (there.1) is) in
-    subst (IsLeaf (sink_at x y cap)) same (there.1)
+untold_leaf : (sink : Sink) (f : Finished) → ∥ IsLeaf sink f ∥₁ → IsLeaf sink f
+untold_leaf sink f made =
+    let there = leaf_there sink in
+    let same : there.0 ≡ f = ∥∥₁_elim made (finished_set _ _) (λ is. leaf_one sink _ _ (there.1) is) in
+    subst (IsLeaf sink) same (there.1)
 
 untold_merged : (params : Params) (a b : Side) (f : Finished) → IsParams params → ∥ IsMerged params a b f ∥₁ → IsMerged params a b f
 untold_merged params a b f within made =
@@ -99,7 +100,7 @@ untold_pair params f (Some a) (Some b) within made = untold_merged params (a.fin
 
 untold_key : (params : Params) (seen : List MemoEntry) (key : Key) (f : Finished) → IsParams params
     → ∥ IsMadeOf params seen key f ∥₁ → IsMadeOf params seen key f
-untold_key params seen (Leaf x y cap) f within made = untold_leaf x y cap f made
+untold_key params seen (Leaf x y cap offset) f within made = untold_leaf (sink_at x y cap offset) f made
 untold_key params seen (Pair left right) f within made =
     untold_pair params f (slice_get seen left) (slice_get seen right) within made
 

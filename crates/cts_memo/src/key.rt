@@ -2,14 +2,22 @@
 
 use cts_units::Sink;
 
-/// What a subtree is known by: a leaf by its sink's place and capacitance, a pair by the numbers of its
-/// two parts.
+/// What a subtree is known by: a leaf by its sink's place, capacitance and wanted offset, a pair by the
+/// numbers of its two parts.
 #[derive(Clone, Copy, Debug, PartialEq, Eq, Hash)]
 pub enum Key {
-    /// A sink's place in nm and its capacitance in zF.
-    Leaf { x: i64, y: i64, cap: u64 },
+    /// A sink's place in nm, its capacitance in zF and its wanted offset in 10^-27 s, not doubled.
+    Leaf {
+        x: i64,
+        y: i64,
+        cap: u64,
+        offset: u64,
+    },
     /// The numbers of a pair's left and right part.
-    Pair { left: u32, right: u32 },
+    Pair {
+        left: u32,
+        right: u32,
+    },
 }
 
 impl Key {
@@ -24,6 +32,7 @@ impl Key {
             x: sink.x,
             y: sink.y,
             cap: sink.cap,
+            offset: sink.offset,
         }
     }
 }

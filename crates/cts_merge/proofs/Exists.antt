@@ -1,5 +1,5 @@
 -- Every sink has a leaf, and any two sides have a pair or are beyond.
-use Rattle.std.proofs.Common.{◌≡◌, ℕ, ◌+◌, ◌≤◌, ◌⊎◌, inl, inr, Option, None, refl, ap, arith}
+use Rattle.std.proofs.Common.{◌≡◌, ℕ, ◌+◌, ◌*◌, ◌≤◌, ◌⊎◌, inl, inr, Option, None, refl, ap, arith}
 use Rattle.std.proofs.lemmas.Bool.{cases_lt}
 use Rattle.std.proofs.lemmas.Int.{ints}
 use Rattle.cts_geom.specs.declared.points.Spot.{Spot}
@@ -50,7 +50,7 @@ own_spot at p is =
 -- the leaf of a sink
 abbrev pub sink_leaf : Sink → Finished
 sink_leaf sink = record {
-  side = record { greatest = 0; load = sink.cap; region = spot_region (spot_at sink.x sink.y) };
+  side = record { greatest = 2 * sink.offset; load = sink.cap; region = spot_region (spot_at sink.x sink.y) };
   ea = 0;
   eb = 0;
   buffer = None;

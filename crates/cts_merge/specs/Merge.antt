@@ -14,9 +14,10 @@ use Rattle.cts_merge.specs.declared.side.Beyond.{Beyond}
 use Rattle.cts_merge.specs.LeastPair.{IsLeastPair, Spans}
 use Rattle.cts_merge.specs.Side.{IsSideInRange, delay_through}
 
--- a leaf: no delay, the sink's capacitance, its one point, and no wires or buffer below it
+-- a leaf: twice the sink's offset as greatest delay, both in 10^-27 s, its capacitance, its one point, and no wires or
+-- buffer below it
 pub record IsLeaf (sink : Sink) (leaf : Finished) : Type 0 where
-  pub greatest : leaf.side.greatest ≡ 0
+  pub greatest : leaf.side.greatest ≡ 2 * sink.offset
   pub load : leaf.side.load ≡ sink.cap
   pub region : (p : Spot) → ContainsSpot leaf.side.region p ↔ (p ≡ spot_at sink.x sink.y)
   pub ea : leaf.ea ≡ 0

@@ -8,7 +8,8 @@
 //! that they have one answer, bounds the difference of delays that is left, and says how a merging region
 //! lies to the two regions.
 //!
-//! Lengths are in nm, loads in zF, and delays are doubled, in 10^-27 s. No call takes memory.
+//! Lengths are in nm, loads in zF, and delays are doubled, in 10^-27 s. A leaf begins with twice its sink's wanted
+//! offset as delay, so that a merge balances delay and offset together. No call takes memory.
 #![tactic(auto)]
 
 mod balance;

@@ -1,6 +1,6 @@
 //! One step of the upward pass: a sink, and a pair of sides.
 
-ghost use Rattle.std.specs.Prelude.{◌≡◌, ◌+◌, ◌-◌, ◌*◌, ◌^◌, ◌≤◌, ◌+ℤ◌, ◌-ℤ◌, ◌↔◌};
+ghost use Rattle.std.specs.Prelude.{◌≡◌, ◌+◌, ◌-◌, ◌*◌, ◌^◌, ◌<◌, ◌≤◌, ◌+ℤ◌, ◌-ℤ◌, ◌↔◌};
 ghost use Rattle.cts_geom.specs.Coordinate.{IsCoordinate};
 ghost use Rattle.cts_geom.specs.declared.points.Spot.{Spot};
 ghost use Rattle.cts_geom.specs.Regions.{ContainsSpot};
@@ -15,6 +15,14 @@ use crate::steps::Steps;
 use cts_geom::{Region, Spot, gap, meet, spot_of};
 use cts_units::{MAX_DELAY, MAX_LOAD, Params, Sink, Wire, buffer_delay, choose_buffer};
 use std::sync::ledger::Ledger;
+
+/// Twice an offset in 10^-27 s, as delays are doubled.
+fn doubled(offset: u64) -> u128
+    ensures value { result ≡ 2 * offset }
+    ensures bound { result < 2 ^ 65 }
+{
+    2 * u128::from(offset)
+}
 
 /// The region of one spot.
 fn point(at: Spot) -> Region
@@ -32,7 +40,8 @@ fn point(at: Spot) -> Region
     }
 }
 
-/// The node of a sink: no delay, its capacitance as load, and its own point as region.
+/// The node of a sink: twice its wanted offset as greatest delay in 10^-27 s, its capacitance in zF as load, and its
+/// own point as region.
 pub fn leaf(sink: &Sink) -> Finished
     requires x { IsCoordinate sink.now.x }
     requires y { IsCoordinate sink.now.y }
@@ -46,7 +55,7 @@ pub fn leaf(sink: &Sink) -> Finished
 {
     Finished {
         side: Side {
-            greatest: 0,
+            greatest: doubled(sink.offset),
             load: sink.cap,
             region: point(spot_of(sink.x, sink.y)),
         },

@@ -6,7 +6,8 @@ use thiserror::Error;
 /// A subtree as a merge above it sees it.
 #[derive(Clone, Copy)]
 pub struct Side {
-    /// Its greatest doubled delay from its node to a leaf, in 10^-27 s.
+    /// The greatest, over its leaves, of the doubled delay from its node to the leaf and twice the leaf's wanted
+    /// offset, in 10^-27 s.
     pub greatest: u128,
     /// Its load as seen from above its node, in zF.
     pub load: u64,

@@ -22,10 +22,10 @@ abbrev params : Params
 params = record { wire = record { r = 1; c = 1 }; library = []; insert_at = 0 }
 
 abbrev first : Sink
-first = record { id = 1; x = pos 0; y = pos 0; cap = 5 }
+first = record { id = 1; x = pos 0; y = pos 0; cap = 5; offset = 0 }
 
 abbrev second : Sink
-second = record { id = 2; x = pos 10; y = pos 0; cap = 10 }
+second = record { id = 2; x = pos 10; y = pos 0; cap = 10; offset = 0 }
 
 -- the region of the point (x, 0)
 abbrev at : ℕ → Region

@@ -17,7 +17,7 @@ use Rattle.cts_up.proofs.Node.{leaf_next, pair_merged, pair_over}
 
 -- values past the end of a list
 no_sink : Sink
-no_sink = record { id = 0; x = pos 0; y = pos 0; cap = 0 }
+no_sink = record { id = 0; x = pos 0; y = pos 0; cap = 0; offset = 0 }
 
 no_node : Finished
 no_node = sink_leaf no_sink

@@ -50,7 +50,7 @@ sides_in_range params sinks (tip n) f p ok are =
     let leaf : LeafOf sinks n f = leaf_of sinks n f p in
     let s : IsSinkInRange leaf.sink = sink_has IsSinkInRange sinks n leaf.sink are.each leaf.named in
     record {
-      greatest = omega (arith, leaf.leaf.greatest);
+      greatest = omega (arith, leaf.leaf.greatest, s.offset);
       load = omega (arith, leaf.leaf.load, s.cap);
     }
 sides_in_range params sinks (fork l r n) f p ok are = pair_in_range params p.0.side p.1.side f ok p.4

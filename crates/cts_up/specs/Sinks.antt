@@ -1,13 +1,14 @@
 -- The sinks that the pass goes up from.
-use Rattle.std.specs.Prelude.{◌^◌, ◌≤◌, ◌≤ℤ◌, List, length, All}
+use Rattle.std.specs.Prelude.{◌^◌, ◌<◌, ◌≤◌, ◌≤ℤ◌, List, length, All}
 use Rattle.cts_geom.specs.declared.bounds.Die.{Die}
 use Rattle.cts_units.specs.declared.params.Sink.{Sink}
 use Rattle.cts_topo.specs.Sinks.{IsPlaced}
 
--- a place and a capacitance within the limits of an instance
+-- a place, a capacitance in zF and an offset in 10^-27 s, not doubled, within the limits of an instance
 pub record IsSinkInRange (sink : Sink) : Type 0 where
   pub placed : IsPlaced sink
   pub cap : sink.cap ≤ 10 ^ 12
+  pub offset : sink.offset < 10 ^ 18
 
 pub record AreSinksInRange (sinks : List Sink) : Type 0 where
   pub few : length sinks ≤ 65536

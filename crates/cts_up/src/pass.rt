@@ -17,8 +17,9 @@ use std::sync::ledger::Ledger;
 
 /// The plan of a shape over sinks: what each of its nodes is made of, by number.
 ///
-/// A leaf has no delay, its sink's capacitance as load and its point as region. A pair has the least
-/// pair of wire lengths over the gap of its two parts, its merging region, and its buffer. Answers
+/// A leaf has twice its sink's wanted offset as greatest delay, in 10^-27 s, its sink's capacitance as load and
+/// its point as region. A pair has the least pair of wire lengths over the gap of its two parts, its merging
+/// region, and its buffer. Answers
 /// `Beyond` with the least number of a node that is over the limits of wires, loads or delays while
 /// its two children are finished, and `NoMemory` where an allocation fails. Each pair that is tried
 /// counts one merge. The rule is the upward pass of deferred-merge embedding.

@@ -19,7 +19,7 @@ leaf_names seen sink key is = subst (NamesEntries seen) (sym is) tt
 leaf_of_key : (params : Params) (seen : List MemoEntry) (sink : Sink) (key : Key) (f : Finished) → key ≡ leaf_key sink → IsLeaf sink f
     → IsMadeOf params seen key f
 leaf_of_key params seen sink key f is leaf =
-    let made : IsLeaf (sink_at sink.x sink.y sink.cap) f = record {
+    let made : IsLeaf (sink_at sink.x sink.y sink.cap sink.offset) f = record {
       greatest = leaf.greatest;
       load = leaf.load;
       region = leaf.region;

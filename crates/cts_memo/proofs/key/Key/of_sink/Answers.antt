@@ -7,4 +7,4 @@ pub returns : goal.returns
 returns c =
     let x : SFits w64 c.args.sink.now.x = search rules in
     let y : SFits w64 c.args.sink.now.y = search rules in
-    λ i. Leaf (to_z-of_z w64 c.args.sink.now.x x i) (to_z-of_z w64 c.args.sink.now.y y i) c.args.sink.now.cap
+    λ i. Leaf (to_z-of_z w64 c.args.sink.now.x x i) (to_z-of_z w64 c.args.sink.now.y y i) c.args.sink.now.cap c.args.sink.now.offset
