@@ -26,9 +26,9 @@ use Rattle.cts_elmore.specs.Outputs.{stage_after, IsOutput, IsPartFigure, IsSour
 use Rattle.cts_elmore.specs.Subtrees.{IsKnownBelow}
 use Rattle.cts_elmore.proofs.Paths.{delay_at_root, delay_at_part, stage_at_root, stage_at_part}
 use Rattle.cts_elmore.proofs.Below.{greatest_at_pair}
-use Rattle.cts_elmore.proofs.Rising.{not_above, added_at_pair, through_is}
+use Rattle.cts_elmore.proofs.Rising.{not_above, added_at_pair, through_is, offset_le}
 
--- A node's figures, and what bounds its delays: those down to the leaves are within the limits.
+-- A node's figures, and what bounds its delays: the arrivals at the leaves below it are within the limits.
 pub record IsRight (i : Parts) (root : BinaryTree TreeNode) (o : Occurrence TreeNode) (f : NodeFigure) : Type 0 where
   pub figure : IsNodeFigure i root o f
   pub soon : f.delay + greatest_below i o.here ≤ max_delay
@@ -54,6 +54,7 @@ figure_in_range i root o f right = record {
   residue_within = omega (arith, right.figure.residue_is, residue_le i o.here, right.soon);
   delay_within = omega (arith, right.soon);
   stage_within = omega (arith, right.stage_le, right.soon);
+  arrival_within = omega (arith, right.figure.offset, offset_le i o.here, right.soon);
 }
 
 -- the stage below a pair
@@ -118,6 +119,7 @@ module _ (i : Parts) (root : BinaryTree TreeNode) where
                 residue_is = part.residue ∙ known.residue_is;
                 delay = delay ∙ sym (delay_at_root i root);
                 stage = stage ∙ sym (stage_at_root i root);
+                offset = part.offset ∙ known.offset;
               };
               soon = not_above _ max_delay (λ above. not_over (great_leaf_delay (omega (arith, above, delay))));
               stage_le = omega (arith, stage, delay);
@@ -150,6 +152,7 @@ module _ (i : Parts) (root : BinaryTree TreeNode) where
             residue_is = part.residue ∙ is.residue_is;
             delay = delay ∙ ap (λ x. x + buffer_delay i top + wire_delay i t) right.figure.delay ∙ sym (delay_at_part i root top t above);
             stage = part.stage ∙ ap₂ (λ x y. x + y) after through ∙ sym (stage_at_part i root top t above);
+            offset = part.offset ∙ is.offset;
           };
           soon = omega (arith, delay, deepest, right.soon);
           stage_le = omega (

@@ -24,7 +24,7 @@ module _ (i : Parts) (nodes : List TreeNode) (ok : IsPostOrder (map tree_childre
   module _ (figures : List NodeFigure) (all : AllZip (IsKnownBelow i) (trees_of tree_children nodes) figures) where
     no_pair_over : All (λ t. ¬ IsPairOver i t) (trees_of tree_children nodes)
     no_pair_over = λ k d h.
-        let e : NodeFigure = record { below = 0; residue = 0; delay = 0; stage = 0 } in
+        let e : NodeFigure = record { below = 0; residue = 0; delay = 0; stage = 0; offset = 0 } in
         (all_zip-at (IsKnownBelow i) (trees_of tree_children nodes) figures k d e all h).not_over
 
     root_told : (P : BinaryTree TreeNode → Type 0) → IfSome (root_of tree_children nodes) P

@@ -10,15 +10,17 @@ use Rattle.cts_tree.specs.declared.nodes.NodeKind.{NodeKind}
 use Rattle.cts_tree.specs.declared.nodes.NodeKind.TheVariants.{Leaf, Pair}
 use Rattle.cts_tree.specs.declared.nodes.TreeNode.{TreeNode}
 use Rattle.cts_instance.specs.declared.parts.Parts.{Parts}
-use Rattle.cts_elmore.specs.Loads.{load_below, reached, source_load}
+use Rattle.cts_instance.specs.declared.version.Version.TheVariants.{Two}
+use Rattle.cts_elmore.specs.Loads.{load_below, reached, source_load, leaf_pins}
 use Rattle.cts_elmore.specs.Delays.{delay_at, stage_at}
-use Rattle.cts_elmore.specs.Skew.{greatest_of, least_of, greatest_below, residue, skew, bound}
+use Rattle.cts_elmore.specs.Skew.{greatest_of, least_of, greatest_below, greatest_delay_below, leaf_delays, leaf_arrivals, residue, skew, bound}
 
-abbrev sink : ℕ → ℕ → Sink
-sink id cap = record { id = id; x = pos 0; y = pos 0; cap = cap }
+abbrev sink : ℕ → ℕ → ℕ → Sink
+sink id cap offset = record { id = id; x = pos 0; y = pos 0; cap = cap; offset = offset }
 
 abbrev instance : Parts
 instance = record {
+  version = Two;
   die = record { x1 = pos 0; y1 = pos 0; x2 = pos 20; y2 = pos 20 };
   source_x = pos 0;
   source_y = pos 0;
@@ -30,7 +32,7 @@ instance = record {
   };
   load_limit = 100;
   slew_limit = 100;
-  sinks = sink 7 5 ∷ sink 8 6 ∷ sink 9 4 ∷ [];
+  sinks = sink 7 5 0 ∷ sink 8 6 0 ∷ sink 9 4 0 ∷ [];
   blocks = [];
 }
 
@@ -89,3 +91,47 @@ example_skew = refl
 example_bound : bound instance whole ≡ 56
 unfolding bound residue greatest_below greatest_of load_below reached tips label wire_delay_of buffer_delay_of
 example_bound = refl
+
+-- Where an offset is wanted, delays and arrivals differ: leaves of 5 zF each under wires of 3 and 7 nm, of which the first
+-- wants its edge earlier by 40, below 3 nm of wire from a source without resistance.
+abbrev early : Parts
+early = record instance { source_r = 0; sinks = sink 1 5 40 ∷ sink 2 5 0 ∷ [] }
+
+abbrev two : BinaryTree TreeNode
+two = fork (tip (node (Leaf 1 0) 3)) (tip (node (Leaf 2 1) 7)) (node (Pair 0 1 None) 3)
+
+early_pins : leaf_pins early (node (Leaf 1 0) 3 ∷ node (Leaf 2 1) 7 ∷ node (Pair 0 1 None) 3 ∷ [])
+    ≡ record { cap = 5; offset = 40 } ∷ record { cap = 5; offset = 0 } ∷ []
+early_pins = refl
+
+-- 129 of the root's wire, and 39 or 119
+early_delays : leaf_delays early two ≡ 168 ∷ 248 ∷ []
+unfolding delay_at load_below reached tips label wire_delay_of buffer_delay_of
+early_delays = refl
+
+-- 168 + 2 * 40, and 248
+early_arrivals : leaf_arrivals early two ≡ 248 ∷ 248 ∷ []
+unfolding delay_at load_below reached tips label wire_delay_of buffer_delay_of
+early_arrivals = refl
+
+-- 80 + 39, or 119; of delays alone 119 is the greatest too
+early_greatest : map (λ o. greatest_below early o.here) (occurrences [] two) ≡ 80 ∷ 0 ∷ 119 ∷ []
+unfolding greatest_below greatest_of load_below reached occurrences tips label wire_delay_of buffer_delay_of
+early_greatest = refl
+
+early_greatest_delays : map (λ o. greatest_delay_below early o.here) (occurrences [] two) ≡ 0 ∷ 0 ∷ 119 ∷ []
+unfolding greatest_delay_below greatest_of load_below reached occurrences tips label wire_delay_of buffer_delay_of
+early_greatest_delays = refl
+
+-- 119 - 119, where the delays differ by 80
+early_residue : residue early two ≡ 0
+unfolding residue greatest_below greatest_of load_below reached tips label wire_delay_of buffer_delay_of
+early_residue = refl
+
+early_skew : skew early two ≡ 0
+unfolding skew greatest_of least_of delay_at load_below reached tips label wire_delay_of buffer_delay_of
+early_skew = refl
+
+early_bound : bound early two ≡ 0
+unfolding bound residue greatest_below greatest_of load_below reached tips label wire_delay_of buffer_delay_of
+early_bound = refl

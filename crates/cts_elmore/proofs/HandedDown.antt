@@ -104,9 +104,9 @@ module _ (i : Parts) (valid : IsValid i) (nodes : List TreeNode) (ok : IsPostOrd
   -- what is known of a node's figures stays where its delays alone are written
   still_known : (number : ℕ) (old new : NodeFigure) (figures : List NodeFigure)
       → AllZip (IsKnownBelow i) (trees_of tree_children nodes) figures → number < length nodes → get_or figures number old ≡ old
-      → new.below ≡ old.below → new.residue ≡ old.residue
+      → new.below ≡ old.below → new.residue ≡ old.residue → new.offset ≡ old.offset
       → AllZip (IsKnownBelow i) (trees_of tree_children nodes) (set figures number new)
-  still_known number old new figures known h is below residue_is =
+  still_known number old new figures known h is below residue_is offset_is =
       let here : IsKnownBelow i (get_or (trees_of tree_children nodes) number top.tree) old =
       subst (IsKnownBelow i (get_or (trees_of tree_children nodes) number top.tree)) is
       (all_zip-at (IsKnownBelow i) (trees_of tree_children nodes) figures number top.tree old known
@@ -114,6 +114,7 @@ module _ (i : Parts) (valid : IsValid i) (nodes : List TreeNode) (ok : IsPostOrd
       all_zip-set (IsKnownBelow i) (trees_of tree_children nodes) figures number top.tree new known (record {
         below = below ∙ here.below;
         residue_is = residue_is ∙ here.residue_is;
+        offset = offset_is ∙ here.offset;
         seen = ap (seen_load_of i.params.library (buffer_of (label (get_or (trees_of tree_children nodes) number top.tree)).kind)) below ∙ here.seen;
         not_over = here.not_over;
       })
@@ -199,7 +200,7 @@ module _ (i : Parts) (valid : IsValid i) (nodes : List TreeNode) (ok : IsPostOrd
 
         -- what is known from below stays
         pub known_next : AllZip (IsKnownBelow i) (trees_of tree_children nodes) (set figures (m - 1) here)
-        known_next = still_known (m - 1) g here figures known inside (sym g_is) here_is.below here_is.residue
+        known_next = still_known (m - 1) g here figures known inside (sym g_is) here_is.below here_is.residue here_is.offset
 
         all_right : AllZip (IsRight i top.tree) (drop (m - 1) (occurrences_of tree_children nodes)) (drop (m - 1) (set figures (m - 1) here))
         all_right =

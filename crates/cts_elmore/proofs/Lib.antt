@@ -8,8 +8,9 @@ pub mod Ends
 pub mod Down
 pub mod HandedDown
 pub mod Limited
-pub mod LeafLoads
+pub mod LeafPins
 pub mod TreeFigures
 pub mod AddUp
+pub mod NoOffsets
 pub mod Unique
 mod Example

@@ -10,9 +10,9 @@ use Rattle.cts_instance.specs.declared.parts.Parts.{Parts}
 use Rattle.cts_elmore.specs.declared.figures.Figures.{Figures}
 use Rattle.cts_elmore.specs.Figures.{AreFigures}
 use Rattle.cts_elmore.specs.Limits.{IsRootOver, IsWithinLimits, great_leaf_delay}
-use Rattle.cts_elmore.specs.Skew.{skew, greatest_of, least_of, leaf_delays}
-use Rattle.cts_elmore.proofs.Below.{greatest_delay, least_delay}
-use Rattle.cts_elmore.proofs.Rising.{least_le_greatest, not_above}
+use Rattle.cts_elmore.specs.Skew.{skew, greatest_of, least_of, leaf_delays, leaf_arrivals}
+use Rattle.cts_elmore.proofs.Below.{greatest_delay, least_delay, greatest_arrival, least_arrival}
+use Rattle.cts_elmore.proofs.Rising.{least_le_greatest, least_delay_le_greatest, delay_le_arrival, not_above}
 
 -- its root is not over them
 pub root_within : (i : Parts) (nodes : List TreeNode) (root : BinaryTree TreeNode) → IsWithinLimits i nodes
@@ -24,24 +24,34 @@ root_within i nodes root within is = λ over.
     within (length nodes - 1) root (slice_get_within trees (length nodes - 1) root is)
     (inr (is ∙ ap Some (sym same), subst (IsRootOver i) (sym same) over))
 
--- so no delay of a leaf is, and neither is the skew
+-- so no arrival and no delay of a leaf is, and neither is the skew
 module _ (i : Parts) (root : BinaryTree TreeNode) (within : ¬ IsRootOver i root) where
+  greatest_arrival_within : greatest_of (leaf_arrivals i root) ≤ max_delay
+  greatest_arrival_within = omega (arith, greatest_arrival i root, not_above _ max_delay (λ above. within (great_leaf_delay above)))
+
+  least_arrival_within : least_of (leaf_arrivals i root) ≤ max_delay
+  least_arrival_within =
+      omega (arith, greatest_arrival_within, greatest_arrival i root, least_arrival i root, least_le_greatest i root)
+
   greatest_within : greatest_of (leaf_delays i root) ≤ max_delay
-  greatest_within = omega (arith, greatest_delay i root, not_above _ max_delay (λ above. within (great_leaf_delay above)))
+  greatest_within = omega (arith, greatest_arrival_within, greatest_arrival i root, greatest_delay i root, delay_le_arrival i root)
 
   least_within : least_of (leaf_delays i root) ≤ max_delay
-  least_within = omega (arith, greatest_within, greatest_delay i root, least_delay i root, least_le_greatest i root)
+  least_within = omega (arith, greatest_within, greatest_delay i root, least_delay i root, least_delay_le_greatest i root)
 
   small_skew : skew i root ≤ max_delay
   unfolding skew
-  small_skew = omega (arith, greatest_within)
+  small_skew = omega (arith, greatest_arrival_within)
 
--- its greatest delay, its least and its skew are at most the limit of delays
+-- its greatest delay, its least, its skew, and its greatest and its least arrival are at most the limit of delays
 pub totals_within : (i : Parts) (nodes : List TreeNode) (figures : Figures) → IsWithinLimits i nodes → AreFigures i nodes figures
     → (figures.greatest ≤ max_delay) × (figures.least ≤ max_delay) × (figures.skew ≤ max_delay)
+    × (figures.arrival_greatest ≤ max_delay) × (figures.arrival_least ≤ max_delay)
 totals_within i nodes figures within are =
     let root : ¬ IsRootOver i are.root = root_within i nodes are.root within are.root_is in (
       omega (arith, are.figures_of.greatest, greatest_within i are.root root),
       omega (arith, are.figures_of.least, least_within i are.root root),
       omega (arith, are.figures_of.skew_is, small_skew i are.root root),
+      omega (arith, are.figures_of.arrival_greatest, greatest_arrival_within i are.root root),
+      omega (arith, are.figures_of.arrival_least, least_arrival_within i are.root root),
     )

@@ -22,12 +22,13 @@ use Rattle.cts_instance.specs.Validity.{IsValid}
 use Rattle.cts_elmore.specs.declared.subtree.Subtree.{Subtree}
 use Rattle.cts_elmore.specs.declared.subtree.Branch.{Branch}
 use Rattle.cts_elmore.specs.Fits.{FitsInstance, NamesSink}
-use Rattle.cts_elmore.specs.Loads.{sink_load, leaf_loads}
+use Rattle.cts_elmore.specs.Loads.{leaf_pins}
 use Rattle.cts_elmore.specs.Limits.{IsOverAtPair, long_left, long_right, IsPairOver}
 use Rattle.cts_elmore.specs.declared.figures.NodeFigure.{NodeFigure}
+use Rattle.cts_elmore.specs.declared.pin_list.Pin.{Pin}
 use Rattle.cts_postorder.specs.Waiting.{StandsAt, AreWaiting}
-use Rattle.cts_elmore.specs.Subtrees.{IsSubtree, IsSubtreeInRange, IsKnownBelow, IsBranch, PairOrOver}
-use Rattle.cts_elmore.proofs.LeafLoads.{taken_leaf}
+use Rattle.cts_elmore.specs.Subtrees.{IsLeafOf, IsSubtree, IsSubtreeInRange, IsKnownBelow, IsBranch, PairOrOver}
+use Rattle.cts_elmore.proofs.LeafPins.{sink_pin, taken_leaf}
 use Rattle.cts_elmore.proofs.Rising.{subtree_in_range, leaf_is, pair_is, pair_over}
 use Rattle.cts_postorder.proofs.Waiting.{AtPair, waiting_at_leaf, waiting_at_pair, two_wait}
 
@@ -70,24 +71,23 @@ module _ (i : Parts) (valid : IsValid i) (nodes : List TreeNode) (ok : IsPostOrd
 
   -- a leaf
   module _ (id sink : ℕ) (e : TreeNode) (here : (get_or nodes k e).kind ≡ Leaf id sink) where
-    -- takes the next of the capacitances that are left
-    module _ (loads rest : List ℕ) (cap : ℕ) (taken : loads ≡ cap ∷ rest) (are : loads ≡ leaf_loads i (drop k nodes)) where
-      same : cap ∷ rest ≡ sink_load i (get_or nodes k e) ∷ leaf_loads i (drop (k + 1) nodes)
+    -- takes the next of the pins that are left
+    module _ (pins rest : List Pin) (pin : Pin) (taken : pins ≡ pin ∷ rest) (are : pins ≡ leaf_pins i (drop k nodes)) where
+      same : pin ∷ rest ≡ sink_pin i (get_or nodes k e) ∷ leaf_pins i (drop (k + 1) nodes)
       same =
           let named : NamesSink i.sinks (Leaf id sink) = subst (NamesSink i.sinks) here (fits.sinks k e h) in
-          sym taken ∙ taken_leaf i nodes k e h loads are id sink here
+          sym taken ∙ taken_leaf i nodes k e h pins are id sink here
           (named_within i.sinks sink (λ (of : Sink). of.id ≡ id) (slice_get i.sinks sink) refl named)
 
-      pub leaf_here_is : (s : Subtree)
-          → s ≡ record { below = cap; seen = cap; wires = 0; greatest = 0; least = 0; residue = 0; bound = 0 } → Here s
+      pub leaf_here_is : (s : Subtree) → IsLeafOf pin s → Here s
       leaf_here_is s is =
-          let all : cap ∷ rest ≡ sink_load i (get_or nodes k e) ∷ leaf_loads i (drop (k + 1) nodes) = same in
-          let load : cap ≡ sink_load i (get_or nodes k e) = cc in
+          let all : pin ∷ rest ≡ sink_pin i (get_or nodes k e) ∷ leaf_pins i (drop (k + 1) nodes) = same in
+          let pin_is : pin ≡ sink_pin i (get_or nodes k e) = cc in
           let tree : get_or trees k (tip e) ≡ tip (get_or nodes k e) =
           leaf_here tree_children (IsSubtree i) nodes k e (tip e) h (ap children_of here) in
           stands tree_children (IsSubtree i) nodes k (tip (get_or nodes k e)) s
           (slice_get-get_or trees k (tip e) (omega (arith, h, length-trees_of tree_children nodes)) ∙ ap Some tree)
-          (leaf_is i (get_or nodes k e) s cap load (ap buffer_of here) is)
+          (leaf_is i (get_or nodes k e) s pin (ap (λ (p : Pin). p.cap) pin_is) (ap (λ (p : Pin). p.offset) pin_is) (ap buffer_of here) is)
 
     pub leaf_next : (s : Subtree) → Here s → AreWaiting tree_children nodes (IsSubtree i) (k + 1) (waiting ++ s ∷ [])
     leaf_next s is = waiting_at_leaf tree_children nodes (IsSubtree i) k e h waiting before (ap children_of here) s is
@@ -201,9 +201,9 @@ module _ (i : Parts) (valid : IsValid i) (nodes : List TreeNode) (ok : IsPostOrd
 module _ (i : Parts) (nodes : List TreeNode) (k : ℕ) (h : k < length nodes) (figures : List NodeFigure)
     (known : AllZip (IsKnownBelow i) (take k (trees_of tree_children nodes)) figures) where
   pub known_next : (s : Subtree) → StandsAt tree_children nodes (IsSubtree i) k s → (f : NodeFigure) → f.below ≡ s.below
-      → f.residue ≡ s.residue
+      → f.residue ≡ s.residue → f.offset ≡ s.offset
       → AllZip (IsKnownBelow i) (take (k + 1) (trees_of tree_children nodes)) (figures ++ f ∷ [])
-  known_next s here f below residue_is = by_found (slice_get (trees_of tree_children nodes) k) refl here
+  known_next s here f below residue_is offset_is = by_found (slice_get (trees_of tree_children nodes) k) refl here
     where
       by_found : (o : Option (BinaryTree TreeNode)) → slice_get (trees_of tree_children nodes) k ≡ o
           → IfSome o (λ t. IsSubtree i t s)
@@ -216,6 +216,7 @@ module _ (i : Parts) (nodes : List TreeNode) (k : ℕ) (h : k < length nodes) (f
           (record {
             below = below ∙ is.below;
             residue_is = residue_is ∙ is.residue_is;
+            offset = offset_is ∙ is.offset;
             seen = ap (seen_load_of i.params.library (buffer_of (label t).kind)) below ∙ sym is.seen_by_kind ∙ is.seen;
             not_over = is.not_over;
           })

@@ -20,13 +20,14 @@ use Rattle.cts_instance.specs.declared.parts.Parts.{Parts}
 use Rattle.cts_instance.specs.Validity.{IsValid, IsSink}
 use Rattle.cts_elmore.specs.declared.subtree.Subtree.{Subtree}
 use Rattle.cts_elmore.specs.declared.subtree.Branch.{Branch}
-use Rattle.cts_elmore.specs.Loads.{sink_load, buffer_at, wire_load, load_below, load_seen}
+use Rattle.cts_elmore.specs.declared.pin_list.Pin.{Pin}
+use Rattle.cts_elmore.specs.Loads.{sink_load, sink_offset, offset_at, buffer_at, wire_load, load_below, load_seen}
 use Rattle.cts_elmore.specs.Delays.{wire_delay, buffer_delay}
-use Rattle.cts_elmore.specs.Skew.{greatest_below, least_below, residue, bound}
+use Rattle.cts_elmore.specs.Skew.{greatest_below, least_below, greatest_delay_below, least_delay_below, residue, bound}
 use Rattle.cts_elmore.specs.Limits.{IsOverAtPair, long_left, long_right, great_load, great_delay, IsPairOver}
-use Rattle.cts_elmore.specs.Subtrees.{IsSubtree, IsSubtreeInRange, IsBranch, IsPair}
+use Rattle.cts_elmore.specs.Subtrees.{IsLeafOf, IsSubtree, IsSubtreeInRange, IsBranch, IsPair}
 use Rattle.cts_elmore.proofs.Paths.{load_at_pair}
-use Rattle.cts_elmore.proofs.Below.{greatest_at_tip, greatest_at_pair, least_at_tip, least_at_pair, bound_at_tip, bound_at_pair}
+use Rattle.cts_elmore.proofs.Below.{greatest_at_tip, greatest_at_pair, least_at_tip, least_at_pair, greatest_delay_at_tip, greatest_delay_at_pair, least_delay_at_tip, least_delay_at_pair, bound_at_tip, bound_at_pair}
 
 -- what is not above a limit is within it
 pub not_above : (x limit : ℕ) → ¬ (limit < x) → x ≤ limit
@@ -52,11 +53,26 @@ module _ (i : Parts) (l r : BinaryTree TreeNode) (n : TreeNode) where
       by_buffer None = refl
       by_buffer (Some index) = ap (λ d. option_map_or (λ (x : Buffer). buffer_delay_of x d) (slice_get i.params.library index) 0) is
 
--- the least delay is at most the greatest
+-- the least arrival is at most the greatest, and so is the least delay, which is at most an arrival
 pub least_le_greatest : (i : Parts) (t : BinaryTree TreeNode) → least_below i t ≤ greatest_below i t
-least_le_greatest i (tip n) = omega (arith, least_at_tip i n)
+least_le_greatest i (tip n) = omega (arith, least_at_tip i n, greatest_at_tip i n)
 least_le_greatest i (fork l r n) =
     omega (arith, least_at_pair i l r n, greatest_at_pair i l r n, least_le_greatest i l, least_le_greatest i r)
+
+pub least_delay_le_greatest : (i : Parts) (t : BinaryTree TreeNode) → least_delay_below i t ≤ greatest_delay_below i t
+least_delay_le_greatest i (tip n) = omega (arith, least_delay_at_tip i n)
+least_delay_le_greatest i (fork l r n) =
+    omega (arith, least_delay_at_pair i l r n, greatest_delay_at_pair i l r n, least_delay_le_greatest i l, least_delay_le_greatest i r)
+
+pub delay_le_arrival : (i : Parts) (t : BinaryTree TreeNode) → greatest_delay_below i t ≤ greatest_below i t
+delay_le_arrival i (tip n) = omega (arith, greatest_delay_at_tip i n)
+delay_le_arrival i (fork l r n) =
+    omega (arith, greatest_delay_at_pair i l r n, greatest_at_pair i l r n, delay_le_arrival i l, delay_le_arrival i r)
+
+-- twice the offset at a subtree's root is at most the greatest arrival
+pub offset_le : (i : Parts) (t : BinaryTree TreeNode) → 2 * offset_at i t ≤ greatest_below i t
+offset_le i (tip n) = omega (arith, greatest_at_tip i n)
+offset_le i (fork l r n) = omega arith
 
 -- pins of a valid instance are small
 module _ (i : Parts) (valid : IsValid i) where
@@ -71,8 +87,23 @@ module _ (i : Parts) (valid : IsValid i) where
       by_kind (Pair left right buffer) = omega arith
       by_kind (Leaf id sink) =
           sink_small (slice_get i.sinks sink) (λ s found.
-          let ok : IsSink i.die (get_or i.sinks sink s) = valid.sinks sink s (slice_get_within i.sinks sink s found) in
+          let ok : IsSink i.version i.die (get_or i.sinks sink s) = valid.sinks sink s (slice_get_within i.sinks sink s found) in
           subst (λ (x : Sink). x.cap ≤ 10 ^ 12) (get_or_from_slice_get i.sinks sink s s found) ok.cap)
+
+  offset_small : (sink : Option Sink) → ((s : Sink) → sink ≡ Some s → s.offset < 10 ^ 18)
+      → option_map_or (λ (s : Sink). s.offset) sink 0 < 10 ^ 18
+  offset_small None small = omega arith
+  offset_small (Some s) small = small s refl
+
+  pub sink_offset_small : (n : TreeNode) → sink_offset i n < 10 ^ 18
+  sink_offset_small n = by_kind n.kind
+    where
+      by_kind : (k : NodeKind) → option_map_or (λ (s : Sink). s.offset) (option_and_then (slice_get i.sinks) (leaf_sink k)) 0 < 10 ^ 18
+      by_kind (Pair left right buffer) = omega arith
+      by_kind (Leaf id sink) =
+          offset_small (slice_get i.sinks sink) (λ s found.
+          let ok : IsSink i.version i.die (get_or i.sinks sink s) = valid.sinks sink s (slice_get_within i.sinks sink s found) in
+          subst (λ (x : Sink). x.offset < 10 ^ 18) (get_or_from_slice_get i.sinks sink s s found) ok.offset)
 
   cin_small : (b : Option Buffer) (rest limit : ℕ) → ((x : Buffer) → b ≡ Some x → x.cin ≤ limit) → rest ≤ limit
       → option_map_or (λ (x : Buffer). x.cin) b rest ≤ limit
@@ -96,7 +127,7 @@ module _ (i : Parts) (valid : IsValid i) where
           omega (arith, small)
 
   greatest_le : (t : BinaryTree TreeNode) → ¬ IsPairOver i t → greatest_below i t ≤ max_delay
-  greatest_le (tip n) sound = omega (arith, greatest_at_tip i n)
+  greatest_le (tip n) sound = omega (arith, greatest_at_tip i n, sink_offset_small n)
   greatest_le (fork l r n) sound = not_above _ max_delay (λ above. sound (great_delay above))
 
   -- the values of a subtree of a tree with few nodes are in range
@@ -106,28 +137,31 @@ module _ (i : Parts) (valid : IsValid i) where
     wires = omega (arith, is.few_wires);
     greatest = omega (arith, is.greatest, greatest_le t is.not_over);
     least = omega (arith, is.least, least_le_greatest i t, greatest_le t is.not_over);
+    delay_greatest = omega (arith, is.delay_greatest, delay_le_arrival i t, greatest_le t is.not_over);
+    delay_least = omega (arith, is.delay_least, least_delay_le_greatest i t, delay_le_arrival i t, greatest_le t is.not_over);
     bound = omega (arith, is.small_bound);
   }
 
 module _ (i : Parts) where
   -- a leaf
-  pub leaf_is : (n : TreeNode) (s : Subtree) (cap : ℕ) → cap ≡ sink_load i n → buffer_of n.kind ≡ None
-      → s ≡ record { below = cap; seen = cap; wires = 0; greatest = 0; least = 0; residue = 0; bound = 0 }
-      → IsSubtree i (tip n) s
+  pub leaf_is : (n : TreeNode) (s : Subtree) (pin : Pin) → pin.cap ≡ sink_load i n → pin.offset ≡ sink_offset i n
+      → buffer_of n.kind ≡ None → IsLeafOf pin s → IsSubtree i (tip n) s
   unfolding load_below residue labels label size
-  leaf_is n s cap load_is unbuffered is = record {
-    below = ap (λ (x : Subtree). x.below) is ∙ load_is;
-    seen = ap (λ (x : Subtree). x.seen) is ∙ load_is;
-    seen_by_kind = ap (λ (x : Subtree). x.seen) is ∙ ap (λ (x : Subtree). x.below) (sym is)
-        ∙ ap (λ b. seen_load_of i.params.library b s.below) (sym unbuffered);
-    wires = ap (λ (x : Subtree). x.wires + n.wire) is;
-    greatest = ap (λ (x : Subtree). x.greatest) is ∙ sym (greatest_at_tip i n);
-    least = ap (λ (x : Subtree). x.least) is ∙ sym (least_at_tip i n);
-    residue_is = ap (λ (x : Subtree). x.residue) is;
-    bound_is = ap (λ (x : Subtree). x.bound) is ∙ sym (bound_at_tip i n);
+  leaf_is n s pin load_is offset_is unbuffered is = record {
+    below = is.below ∙ load_is;
+    seen = is.seen ∙ load_is;
+    seen_by_kind = is.seen ∙ sym is.below ∙ ap (λ b. seen_load_of i.params.library b s.below) (sym unbuffered);
+    wires = ap (λ x. x + n.wire) is.wires;
+    offset = is.offset ∙ offset_is;
+    greatest = is.greatest ∙ ap (λ x. 2 * x) offset_is ∙ sym (greatest_at_tip i n);
+    least = is.least ∙ ap (λ x. 2 * x) offset_is ∙ sym (least_at_tip i n);
+    delay_greatest = is.delay_greatest ∙ sym (greatest_delay_at_tip i n);
+    delay_least = is.delay_least ∙ sym (least_delay_at_tip i n);
+    residue_is = is.residue;
+    bound_is = is.bound ∙ sym (bound_at_tip i n);
     not_over = λ never. never;
-    few_wires = omega (arith, ap (λ (x : Subtree). x.wires) is);
-    small_bound = omega (arith, ap (λ (x : Subtree). x.bound) is);
+    few_wires = omega (arith, is.wires);
+    small_bound = omega (arith, is.bound);
   }
 
 -- the delay of a wire whose length and load are told
@@ -160,6 +194,20 @@ module _ (i : Parts) (l r : BinaryTree TreeNode) (n : TreeNode) (a b : Subtree) 
     q_is.least ∙ ap₂ (λ g w. g + w) b_is.least (through_is i r right b.seen right_is b_is.seen),
   )
 
+  branch_delay_greatest : (p.delay_greatest ≡ greatest_delay_below i l + wire_delay i l)
+      × (q.delay_greatest ≡ greatest_delay_below i r + wire_delay i r)
+  branch_delay_greatest = (
+    p_is.delay_greatest ∙ ap₂ (λ g w. g + w) a_is.delay_greatest (through_is i l left a.seen left_is a_is.seen),
+    q_is.delay_greatest ∙ ap₂ (λ g w. g + w) b_is.delay_greatest (through_is i r right b.seen right_is b_is.seen),
+  )
+
+  branch_delay_least : (p.delay_least ≡ least_delay_below i l + wire_delay i l)
+      × (q.delay_least ≡ least_delay_below i r + wire_delay i r)
+  branch_delay_least = (
+    p_is.delay_least ∙ ap₂ (λ g w. g + w) a_is.delay_least (through_is i l left a.seen left_is a_is.seen),
+    q_is.delay_least ∙ ap₂ (λ g w. g + w) b_is.delay_least (through_is i r right b.seen right_is b_is.seen),
+  )
+
   branch_residue : abs_diff p.greatest q.greatest ≡ residue i (fork l r n)
   unfolding residue
   branch_residue = ap₂ abs_diff (branch_greatest.0) (branch_greatest.1)
@@ -172,10 +220,15 @@ module _ (i : Parts) (l r : BinaryTree TreeNode) (n : TreeNode) (a b : Subtree) 
       ≡ sum_by (λ (node : TreeNode). node.wire) (labels l) + sum_by (λ (node : TreeNode). node.wire) (labels r) + n.wire =
       sum_by_push (λ (node : TreeNode). node.wire) (labels l ++ labels r) n
       ∙ ap (λ x. x + n.wire) (sum_by-append (λ (node : TreeNode). node.wire) (labels l) (labels r)) in
+      let added : added_delay_of i.params.library (buffer_of n.kind) (p.load + q.load) ≡ buffer_delay i (fork l r n) =
+      added_at_pair i l r n (p.load + q.load) branch_load in
       let greatest : s.greatest ≡ max p.greatest q.greatest + buffer_delay i (fork l r n) =
-      s_is.greatest ∙ ap (λ d. max p.greatest q.greatest + d) (added_at_pair i l r n (p.load + q.load) branch_load) in
-      let least : s.least ≡ min p.least q.least + buffer_delay i (fork l r n) =
-      s_is.least ∙ ap (λ d. min p.least q.least + d) (added_at_pair i l r n (p.load + q.load) branch_load) in
+      s_is.greatest ∙ ap (λ d. max p.greatest q.greatest + d) added in
+      let least : s.least ≡ min p.least q.least + buffer_delay i (fork l r n) = s_is.least ∙ ap (λ d. min p.least q.least + d) added in
+      let delay_greatest : s.delay_greatest ≡ max p.delay_greatest q.delay_greatest + buffer_delay i (fork l r n) =
+      s_is.delay_greatest ∙ ap (λ d. max p.delay_greatest q.delay_greatest + d) added in
+      let delay_least : s.delay_least ≡ min p.delay_least q.delay_least + buffer_delay i (fork l r n) =
+      s_is.delay_least ∙ ap (λ d. min p.delay_least q.delay_least + d) added in
       let greatest_is : s.greatest ≡ greatest_below i (fork l r n) =
       greatest ∙ ap₂ (λ x y. max x y + buffer_delay i (fork l r n)) (branch_greatest.0) (branch_greatest.1)
       ∙ sym (greatest_at_pair i l r n) in
@@ -185,9 +238,15 @@ module _ (i : Parts) (l r : BinaryTree TreeNode) (n : TreeNode) (a b : Subtree) 
         seen = s_is.seen ∙ seen_at_pair i l r n (p.load + q.load) branch_load;
         seen_by_kind = s_is.seen ∙ ap (seen_load_of i.params.library (buffer_of n.kind)) (sym s_is.below);
         wires = omega (arith, wires, s_is.wires, p_is.wires, q_is.wires, a_is.wires, b_is.wires, left_is, right_is);
+        offset = s_is.offset;
         greatest = greatest_is;
         least = least ∙ ap₂ (λ x y. min x y + buffer_delay i (fork l r n)) (branch_least.0) (branch_least.1)
             ∙ sym (least_at_pair i l r n);
+        delay_greatest = delay_greatest
+            ∙ ap₂ (λ x y. max x y + buffer_delay i (fork l r n)) (branch_delay_greatest.0) (branch_delay_greatest.1)
+            ∙ sym (greatest_delay_at_pair i l r n);
+        delay_least = delay_least ∙ ap₂ (λ x y. min x y + buffer_delay i (fork l r n)) (branch_delay_least.0) (branch_delay_least.1)
+            ∙ sym (least_delay_at_pair i l r n);
         residue_is = s_is.residue ∙ branch_residue;
         bound_is = s_is.bound ∙ ap₂ (λ x y. max x y + abs_diff p.greatest q.greatest) (p_is.bound ∙ a_is.bound_is) (q_is.bound ∙ b_is.bound_is)
             ∙ ap (λ x. max (bound i l) (bound i r) + x) branch_residue ∙ sym (bound_at_pair i l r n);

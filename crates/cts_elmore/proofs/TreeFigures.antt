@@ -21,8 +21,8 @@ use Rattle.cts_elmore.specs.Limits.{long_root, great_leaf_delay}
 use Rattle.cts_elmore.specs.Figures.{IsNodeFigure, AreFigures, IsFigureInRange, AreFiguresInRange}
 use Rattle.cts_elmore.specs.Subtrees.{IsSubtree, IsDrive, DriveOrOver}
 use Rattle.cts_elmore.specs.Outputs.{IsDescent}
-use Rattle.cts_elmore.proofs.Below.{greatest_delay, least_delay}
-use Rattle.cts_elmore.proofs.Rising.{not_above, least_le_greatest}
+use Rattle.cts_elmore.proofs.Below.{greatest_delay, least_delay, greatest_arrival, least_arrival}
+use Rattle.cts_elmore.proofs.Rising.{not_above, least_le_greatest, least_delay_le_greatest, delay_le_arrival}
 use Rattle.cts_elmore.proofs.Root.{AtRoot, at_root}
 
 module _ (i : Parts) (nodes : List TreeNode) (ok : IsPostOrder (map tree_children nodes)) where
@@ -69,6 +69,12 @@ module _ (i : Parts) (nodes : List TreeNode) (ok : IsPostOrder (map tree_childre
     pub least_small : s.least ≤ s.greatest
     least_small = omega (arith, value.greatest, value.least, least_le_greatest i at.root)
 
+    pub delays_small : (s.delay_least ≤ s.delay_greatest) × (s.delay_greatest ≤ s.greatest)
+    delays_small = (
+      omega (arith, value.delay_greatest, value.delay_least, least_delay_le_greatest i at.root),
+      omega (arith, value.delay_greatest, value.greatest, delay_le_arrival i at.root),
+    )
+
     -- the figures of the whole tree, over the nodes under another name
     pub figures_are : (tree : List TreeNode) → nodes ≡ tree → (descent : Descent)
         → IfSome (root_of tree_children nodes) (λ root. IsDescent i root descent) → (listed : List NodeFigure)
@@ -77,8 +83,10 @@ module _ (i : Parts) (nodes : List TreeNode) (ok : IsPostOrder (map tree_childre
           nodes = listed;
           source_load = drive.load;
           wire_total = s.wires + wire;
-          greatest = drive.delay + s.greatest;
-          least = drive.delay + s.least;
+          greatest = drive.delay + s.delay_greatest;
+          least = drive.delay + s.delay_least;
+          arrival_greatest = drive.delay + s.greatest;
+          arrival_least = drive.delay + s.least;
           skew = s.greatest - s.least;
           bound = s.bound;
           load_met = descent.load_met;
@@ -94,9 +102,11 @@ module _ (i : Parts) (nodes : List TreeNode) (ok : IsPostOrder (map tree_childre
             each_node = subst (AllZip (IsNodeFigure i at.root) (occurrences [] at.root)) (sym listed_is) down.each_node;
             source_load_is = drive_is.load;
             wire_total = ap (λ w. s.wires + w) (sym wire_is) ∙ value.wires;
-            greatest = omega (arith, drive_is.delay, value.greatest, greatest_delay i at.root);
-            least = omega (arith, drive_is.delay, value.least, least_delay i at.root);
-            skew_is = omega (arith, value.greatest, value.least, greatest_delay i at.root, least_delay i at.root);
+            greatest = omega (arith, drive_is.delay, value.delay_greatest, greatest_delay i at.root);
+            least = omega (arith, drive_is.delay, value.delay_least, least_delay i at.root);
+            arrival_greatest = omega (arith, drive_is.delay, value.greatest, greatest_arrival i at.root);
+            arrival_least = omega (arith, drive_is.delay, value.least, least_arrival i at.root);
+            skew_is = omega (arith, value.greatest, value.least, greatest_arrival i at.root, least_arrival i at.root);
             bound_is = value.bound_is;
             load_met = down.load_met;
             slew_met = down.slew_met;
@@ -110,8 +120,10 @@ module _ (i : Parts) (nodes : List TreeNode) (ok : IsPostOrder (map tree_childre
           nodes = listed;
           source_load = drive.load;
           wire_total = s.wires + wire;
-          greatest = drive.delay + s.greatest;
-          least = drive.delay + s.least;
+          greatest = drive.delay + s.delay_greatest;
+          least = drive.delay + s.delay_least;
+          arrival_greatest = drive.delay + s.greatest;
+          arrival_least = drive.delay + s.least;
           skew = s.greatest - s.least;
           bound = s.bound;
           load_met = descent.load_met;
@@ -121,8 +133,10 @@ module _ (i : Parts) (nodes : List TreeNode) (ok : IsPostOrder (map tree_childre
         let down : IsDescent i at.root descent = subst (λ o. IfSome o (λ root. IsDescent i root descent)) at.root_is told_of in
         record {
           each_in_range = subst (All IsFigureInRange) (sym listed_is) down.in_range;
-          greatest_within = greatest_small;
-          least_within = omega (arith, greatest_small, least_small);
+          greatest_within = omega (arith, greatest_small, delays_small.1);
+          least_within = omega (arith, greatest_small, delays_small.0, delays_small.1);
+          arrival_greatest_within = greatest_small;
+          arrival_least_within = omega (arith, greatest_small, least_small);
           skew_within = omega (arith, greatest_small);
           bound_within = omega (arith, value.small_bound, at.size_is, fits.few);
         }

@@ -1,5 +1,5 @@
 -- What holds of the figures of every tree.
-use Rattle.std.specs.Prelude.{◌≡◌, ◌+◌, ◌≤◌, max, List, [], ◌∷◌, if◌then◌else◌}
+use Rattle.std.specs.Prelude.{◌≡◌, ◌+◌, ◌≤◌, max, List, All, [], ◌∷◌, if◌then◌else◌}
 use Rattle.cts_postorder.specs.BinaryTree.{BinaryTree, fork}
 use Rattle.cts_postorder.specs.Occurrence.{occurrence}
 use Rattle.cts_tree.specs.declared.nodes.TreeNode.{TreeNode}
@@ -7,20 +7,25 @@ use Rattle.cts_instance.specs.declared.parts.Parts.{Parts}
 use Rattle.cts_elmore.specs.declared.figures.Figures.{Figures}
 use Rattle.cts_elmore.specs.Loads.{is_buffered, wire_load, load_below, load_seen}
 use Rattle.cts_elmore.specs.Delays.{wire_delay, buffer_delay, output_delay, source_delay, delay_at, stage_at}
-use Rattle.cts_elmore.specs.Skew.{greatest_below, residue, skew, bound}
+use Rattle.cts_elmore.specs.Skew.{greatest_below, leaf_arrivals, leaf_delays, residue, skew, bound}
 use Rattle.cts_elmore.specs.Figures.{AreFigures}
 
 -- the skew is at most the bound
 abbrev pub SkewIsAtMostBound : Type 0
 SkewIsAtMostBound = (i : Parts) (root : BinaryTree TreeNode) → skew i root ≤ bound i root
 
+-- where no sink wants an offset, the arrivals of the leaves are their delays
+abbrev pub ArrivalsAreDelays : Type 0
+ArrivalsAreDelays =
+    (i : Parts) (root : BinaryTree TreeNode) → All (λ sink. sink.offset ≡ 0) i.sinks → leaf_arrivals i root ≡ leaf_delays i root
+
 -- a tree has one set of figures
 abbrev pub FiguresAreOne : Type 0
 FiguresAreOne =
     (i : Parts) (nodes : List TreeNode) (f g : Figures) → AreFigures i nodes f → AreFigures i nodes g → f ≡ g
 
--- What a pair adds to its two parts: its load is what is seen of them, and their wires; its greatest delay is the greater of
--- theirs, each through its wire, and then its buffer's; and its residue comes to the greater of their bounds.
+-- What a pair adds to its two parts: its load is what is seen of them, and their wires; the greatest arrival below it is the
+-- greater of theirs, each through its wire, and then its buffer's delay; and its residue comes to the greater of their bounds.
 pub record AddsUp (i : Parts) (l r : BinaryTree TreeNode) (n : TreeNode) : Type 0 where
   pub load : load_below i (fork l r n) ≡ load_seen i l + wire_load i l + (load_seen i r + wire_load i r)
   pub greatest : greatest_below i (fork l r n)

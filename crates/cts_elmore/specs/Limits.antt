@@ -17,7 +17,7 @@ use Rattle.cts_elmore.specs.Skew.{greatest_below}
 abbrev pub IsLong : BinaryTree TreeNode → Type 0
 IsLong t = max_length < (label t).wire
 
--- a pair is over the limits: by a child's wire, by its load, or by its greatest delay down to a leaf
+-- a pair is over the limits: by a child's wire, by its load, or by the greatest arrival at a leaf below it, told from the pair on
 pub data IsOverAtPair (i : Parts) (l r : BinaryTree TreeNode) (n : TreeNode) : Type 0 where
   long_left : IsLong l → IsOverAtPair i l r n
   long_right : IsLong r → IsOverAtPair i l r n
@@ -28,7 +28,7 @@ abbrev pub IsPairOver : Parts → BinaryTree TreeNode → Type 0
 IsPairOver i (tip n) = ⊥
 IsPairOver i (fork l r n) = IsOverAtPair i l r n
 
--- a root is over the limits: by its own wire, by the source's load, or by the greatest delay from the source to a leaf
+-- a root is over the limits: by its own wire, by the source's load, or by the greatest arrival at a leaf
 pub data IsRootOver (i : Parts) (root : BinaryTree TreeNode) : Type 0 where
   long_root : IsLong root → IsRootOver i root
   great_source_load : max_load < source_load i root → IsRootOver i root

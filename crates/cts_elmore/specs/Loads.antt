@@ -1,23 +1,38 @@
--- Loads of a clock tree, in zF: the sums of the capacitances that a point drives.
+-- Loads of a clock tree, in zF: the sums of the capacitances that a point drives. And its pins: what each sink has.
 use Rattle.std.specs.Prelude.{ℕ, ◌+◌, ◌*◌, Bool, List, [], ◌∷◌, ◌++◌, sum_by, filter_map, slice_get, Option, None, is_some, if◌then◌else◌}
 use Rattle.std.specs.Option.{option_and_then, option_map, option_map_or}
 use Rattle.cts_units.specs.declared.params.Buffer.{Buffer}
+use Rattle.cts_units.specs.declared.params.Sink.{Sink}
 use Rattle.cts_postorder.specs.BinaryTree.{BinaryTree, tip, fork, label}
 use Rattle.cts_tree.specs.declared.nodes.TreeNode.{TreeNode}
 use Rattle.cts_tree.specs.Nodes.{leaf_sink, buffer_of}
 use Rattle.cts_instance.specs.declared.parts.Parts.{Parts}
+use Rattle.cts_elmore.specs.declared.pin_list.Pin.{Pin}
+
+-- the pin of a sink
+abbrev pub pin_of : Sink → Pin
+pin_of sink = record { cap = sink.cap; offset = sink.offset }
 
 module _ (i : Parts) where
   -- the capacitance of a leaf's sink
   abbrev pub sink_load : TreeNode → ℕ
   sink_load node = option_map_or (λ sink. sink.cap) (option_and_then (slice_get i.sinks) (leaf_sink node.kind)) 0
 
-  -- the same where a node is a leaf, and of a list of nodes those of its leaves, in their order
-  abbrev pub leaf_load : TreeNode → Option ℕ
-  leaf_load node = option_map (λ sink. sink.cap) (option_and_then (slice_get i.sinks) (leaf_sink node.kind))
+  -- and the offset that it wants, in 10^-27 s, not doubled
+  abbrev pub sink_offset : TreeNode → ℕ
+  sink_offset node = option_map_or (λ sink. sink.offset) (option_and_then (slice_get i.sinks) (leaf_sink node.kind)) 0
 
-  abbrev pub leaf_loads : List TreeNode → List ℕ
-  leaf_loads nodes = filter_map leaf_load nodes
+  -- the offset that is wanted at a subtree's root: that of a leaf's sink, and none at a pair
+  abbrev pub offset_at : BinaryTree TreeNode → ℕ
+  offset_at (tip n) = sink_offset n
+  offset_at (fork l r n) = 0
+
+  -- the pin of a node that is a leaf, and of a list of nodes those of its leaves, in their order
+  abbrev pub leaf_pin : TreeNode → Option Pin
+  leaf_pin node = option_map pin_of (option_and_then (slice_get i.sinks) (leaf_sink node.kind))
+
+  abbrev pub leaf_pins : List TreeNode → List Pin
+  leaf_pins nodes = filter_map leaf_pin nodes
 
   -- the buffer at a pair, of those in the library
   abbrev pub buffer_at : BinaryTree TreeNode → Option Buffer

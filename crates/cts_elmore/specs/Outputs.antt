@@ -41,6 +41,7 @@ pub record IsPartFigure (params : Params) (kind : NodeKind) (length : ℕ) (part
     (figure : NodeFigure) : Type 0 where
   pub below : figure.below ≡ part.below
   pub residue : figure.residue ≡ part.residue
+  pub offset : figure.offset ≡ part.offset
   pub delay : figure.delay
       ≡ output.delay
       + wire_delay_of params.wire.r params.wire.c length (seen_load_of params.library (buffer_of kind) part.below)

@@ -14,14 +14,15 @@ use Rattle.cts_tree.specs.declared.nodes.TreeNode.{TreeNode}
 use Rattle.cts_tree.specs.Nodes.{buffer_of, tree_children}
 use Rattle.cts_instance.specs.declared.parts.Parts.{Parts}
 use Rattle.cts_elmore.specs.declared.figures.NodeFigure.{NodeFigure}
+use Rattle.cts_elmore.specs.declared.pin_list.Pin.{Pin}
 use Rattle.cts_elmore.specs.declared.subtree.Subtree.{Subtree}
 use Rattle.cts_elmore.specs.declared.drive.Drive.{Drive}
 use Rattle.cts_elmore.specs.declared.subtree.Branch.{Branch}
 use Rattle.cts_elmore.specs.declared.subtree.Gathered.{Gathered}
 use Rattle.cts_elmore.specs.declared.subtree.Gathered.TheVariants.{Within, Over}
-use Rattle.cts_elmore.specs.Loads.{load_below, load_seen, source_load}
+use Rattle.cts_elmore.specs.Loads.{load_below, load_seen, offset_at, source_load}
 use Rattle.cts_elmore.specs.Delays.{wire_delay, source_delay}
-use Rattle.cts_elmore.specs.Skew.{greatest_below, least_below, residue, bound}
+use Rattle.cts_elmore.specs.Skew.{greatest_below, least_below, greatest_delay_below, least_delay_below, residue, bound}
 use Rattle.cts_elmore.specs.Limits.{IsPairOver, IsRootOver}
 
 -- The values of a subtree that is not over the limits. The lengths of all wires come with the one above it.
@@ -30,8 +31,11 @@ pub record IsSubtree (i : Parts) (t : BinaryTree TreeNode) (s : Subtree) : Type 
   pub seen : s.seen ≡ load_seen i t
   pub seen_by_kind : s.seen ≡ seen_load_of i.params.library (buffer_of (label t).kind) s.below
   pub wires : s.wires + (label t).wire ≡ sum_by (λ node. node.wire) (labels t)
+  pub offset : s.offset ≡ offset_at i t
   pub greatest : s.greatest ≡ greatest_below i t
   pub least : s.least ≡ least_below i t
+  pub delay_greatest : s.delay_greatest ≡ greatest_delay_below i t
+  pub delay_least : s.delay_least ≡ least_delay_below i t
   pub residue_is : s.residue ≡ residue i t
   pub bound_is : s.bound ≡ bound i t
   pub not_over : ¬ IsPairOver i t
@@ -44,14 +48,31 @@ pub record IsSubtreeInRange (s : Subtree) : Type 0 where
   pub wires : s.wires ≤ 2 ^ 48
   pub greatest : s.greatest ≤ max_delay
   pub least : s.least ≤ max_delay
+  pub delay_greatest : s.delay_greatest ≤ max_delay
+  pub delay_least : s.delay_least ≤ max_delay
   pub bound : s.bound ≤ 2 ^ 121
 
--- a subtree through the wire above it: the load and the delays that the pair above it sees
+-- a leaf whose sink has this pin: its arrival is twice the offset, and there is no delay
+pub record IsLeafOf (pin : Pin) (s : Subtree) : Type 0 where
+  pub below : s.below ≡ pin.cap
+  pub seen : s.seen ≡ pin.cap
+  pub wires : s.wires ≡ 0
+  pub offset : s.offset ≡ pin.offset
+  pub greatest : s.greatest ≡ 2 * pin.offset
+  pub least : s.least ≡ 2 * pin.offset
+  pub delay_greatest : s.delay_greatest ≡ 0
+  pub delay_least : s.delay_least ≡ 0
+  pub residue : s.residue ≡ 0
+  pub bound : s.bound ≡ 0
+
+-- a subtree through the wire above it: the load, the arrivals and the delays that the pair above it sees
 pub record IsBranch (wire : Wire) (length : ℕ) (s : Subtree) (b : Branch) : Type 0 where
   pub load : b.load ≡ s.seen + wire.c * length
   pub wires : b.wires ≡ s.wires + length
   pub greatest : b.greatest ≡ s.greatest + wire_delay_of wire.r wire.c length s.seen
   pub least : b.least ≡ s.least + wire_delay_of wire.r wire.c length s.seen
+  pub delay_greatest : b.delay_greatest ≡ s.delay_greatest + wire_delay_of wire.r wire.c length s.seen
+  pub delay_least : b.delay_least ≡ s.delay_least + wire_delay_of wire.r wire.c length s.seen
   pub bound : b.bound ≡ s.bound
 
 pub record IsBranchInRange (b : Branch) : Type 0 where
@@ -59,6 +80,8 @@ pub record IsBranchInRange (b : Branch) : Type 0 where
   pub wires : b.wires ≤ 2 ^ 49
   pub greatest : b.greatest ≤ 2 ^ 111
   pub least : b.least ≤ 2 ^ 111
+  pub delay_greatest : b.delay_greatest ≤ 2 ^ 111
+  pub delay_least : b.delay_least ≤ 2 ^ 111
   pub bound : b.bound ≤ 2 ^ 121
 
 -- a pair of two branches, with the buffer of this index in the library, if it has one
@@ -66,8 +89,12 @@ pub record IsPair (library : List Buffer) (buffer : Option ℕ) (a b : Branch) (
   pub below : s.below ≡ a.load + b.load
   pub seen : s.seen ≡ seen_load_of library buffer (a.load + b.load)
   pub wires : s.wires ≡ a.wires + b.wires
+  pub offset : s.offset ≡ 0
   pub greatest : s.greatest ≡ max a.greatest b.greatest + added_delay_of library buffer (a.load + b.load)
   pub least : s.least ≡ min a.least b.least + added_delay_of library buffer (a.load + b.load)
+  pub delay_greatest : s.delay_greatest
+      ≡ max a.delay_greatest b.delay_greatest + added_delay_of library buffer (a.load + b.load)
+  pub delay_least : s.delay_least ≡ min a.delay_least b.delay_least + added_delay_of library buffer (a.load + b.load)
   pub residue : s.residue ≡ abs_diff a.greatest b.greatest
   pub bound : s.bound ≡ max a.bound b.bound + abs_diff a.greatest b.greatest
   pub load_within : s.below ≤ max_load
@@ -85,6 +112,7 @@ PairOrOver library buffer a b result =
 pub record IsKnownBelow (i : Parts) (t : BinaryTree TreeNode) (figure : NodeFigure) : Type 0 where
   pub below : figure.below ≡ load_below i t
   pub residue_is : figure.residue ≡ residue i t
+  pub offset : figure.offset ≡ offset_at i t
   pub seen : seen_load_of i.params.library (buffer_of (label t).kind) figure.below ≡ load_seen i t
   pub not_over : ¬ IsPairOver i t
 

@@ -79,7 +79,7 @@ fn seen_load(library: &[Buffer], kind: NodeKind, below: u64) -> u64
 }
 
 /// The figures of a node that takes this output from above, below a wire of `length` nm, of which the pass upward
-/// has known the load and the residue.
+/// has known the load, the residue and the offset.
 fn part_figure(
     params: &Params,
     kind: NodeKind,
@@ -102,6 +102,7 @@ fn part_figure(
         residue: part.residue,
         delay: output.delay + through,
         stage: output.stage + through,
+        offset: part.offset,
     }
 }
 

@@ -1,4 +1,4 @@
-//! The figures of a tree and of its nodes. Loads are in zF, lengths in nm, and delays doubled, in
+//! The figures of a tree and of its nodes. Loads are in zF, lengths in nm, and delays and arrivals doubled, in
 //! 10^-27 s.
 
 use cts_list::Items;
@@ -8,7 +8,10 @@ use cts_list::Items;
 pub struct NodeFigure {
     /// The load at the node, below its buffer if it has one.
     pub below: u64,
-    /// The distance of the greatest delays of a pair's two parts through their wires, 0 at a leaf.
+    /// The offset that a leaf's sink wants, not doubled, 0 at a pair. A leaf's arrival is its delay and twice this.
+    // Beside the load it takes no room, since what follows begins at a multiple of 16 bytes.
+    pub offset: u64,
+    /// The distance of the greatest arrivals of a pair's two parts through their wires, 0 at a leaf.
     pub residue: u128,
     /// The delay from the source.
     pub delay: u128,
@@ -32,7 +35,11 @@ pub struct Figures {
     pub greatest: u128,
     /// The least delay of a leaf.
     pub least: u128,
-    /// The greatest delay of a leaf less the least.
+    /// The greatest arrival of a leaf: its delay and twice the offset that its sink wants.
+    pub arrival_greatest: u128,
+    /// The least arrival of a leaf.
+    pub arrival_least: u128,
+    /// The greatest arrival of a leaf less the least.
     pub skew: u128,
     /// The greatest sum of residues on the path to a leaf.
     pub bound: u128,

@@ -1,8 +1,8 @@
 //! What holds of the figures of every tree, as laws: each is the contract of a function that does nothing.
 
-ghost use Rattle.cts_elmore.specs.Laws.{FiguresAreOne, PairsAddUp, PathsAddUp, SkewIsAtMostBound};
+ghost use Rattle.cts_elmore.specs.Laws.{ArrivalsAreDelays, FiguresAreOne, PairsAddUp, PathsAddUp, SkewIsAtMostBound};
 
-/// The skew of a tree is at most its bound.
+/// The skew of a tree, the spread of its arrivals, is at most its bound.
 pub fn skew_is_at_most_bound()
     ensures { SkewIsAtMostBound }
 {}
@@ -12,7 +12,7 @@ pub fn figures_are_one()
     ensures { FiguresAreOne }
 {}
 
-/// The load, the greatest delay and the bound of a pair, from those of its two parts.
+/// The load, the greatest arrival and the bound of a pair, from those of its two parts.
 pub fn pairs_add_up()
     ensures { PairsAddUp }
 {}
@@ -20,4 +20,9 @@ pub fn pairs_add_up()
 /// The delay and the stage at the root, and at a part of a pair from those at the pair.
 pub fn paths_add_up()
     ensures { PathsAddUp }
+{}
+
+/// Where no sink wants an offset, the arrivals of the leaves are their delays.
+pub fn arrivals_are_delays()
+    ensures { ArrivalsAreDelays }
 {}

@@ -1,25 +1,29 @@
 //! The figures of a clock tree: loads, Elmore delays, slews, skew and bound.
 //!
 //! A layer above takes the [`Figures`] of a tree that is within the limits of wires, loads and delays by
-//! [`measure`], and asks by [`try_measure`] of a tree that anybody made whether it is, and for its figures.
+//! [`measure`], and asks by [`within`] or [`try_measure`] of a tree that anybody made whether it is, the latter for its figures too.
 //! Both ask for a tree that names the instance's sinks and buffers, `specs/Fits.antt`. Where a layer needs
-//! the [`capacitances`] of the leaves itself, it lists them once, and measures by [`measure_with`]. A layer above
+//! the [`pins`] of the leaves itself, it lists them once, and measures by [`measure_with`]. A layer above
 //! cites `specs/Figures.antt` for what figures are: `Loads` has the sums over what a point drives, `Delays`
 //! the sums over a node's path from the source, `Skew` residues, skew and bound over the leaves, and
 //! `Limits` what is over the limits of a tree and what meets those of an instance.
 //!
 //! All of these are told of a tree and of the path of each node. The laws of [`laws`] say what a pair
 //! adds to its parts and hands down to them, and that the skew is at most the bound.
+//!
+//! Delays and arrivals are two things: the arrival of a leaf is its delay and twice the offset that its sink wants (useful
+//! skew). Residues, limits, skew and bound go by arrivals; loads, stages and slews know no offset. Where no sink wants one,
+//! arrivals are delays (`laws::arrivals_are_delays`).
 #![tactic(auto)]
 
-mod capacitance;
 mod descent;
 mod drive;
 mod figures;
 pub mod laws;
 mod measurement;
+mod pin_list;
 mod subtree;
 
-pub use capacitance::capacitances;
 pub use figures::{Figures, NodeFigure, NodeFigures};
-pub use measurement::{Measured, measure, measure_with, try_measure};
+pub use measurement::{Measured, measure, measure_with, try_measure, within};
+pub use pin_list::{Pin, pins};

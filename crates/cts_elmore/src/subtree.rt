@@ -6,12 +6,13 @@ ghost use Rattle.cts_units.specs.Limits.{IsParams, IsWire, max_length};
 ghost use Rattle.cts_postorder.specs.PostOrder.{IsPostOrder, trees_of};
 ghost use Rattle.cts_tree.specs.Nodes.{tree_children};
 ghost use Rattle.cts_elmore.specs.Fits.{FitsInstance};
-ghost use Rattle.cts_elmore.specs.Loads.{leaf_loads};
+ghost use Rattle.cts_elmore.specs.Loads.{leaf_pins};
 ghost use Rattle.cts_elmore.specs.Limits.{IsPairOver};
-ghost use Rattle.cts_elmore.specs.Subtrees.{IsBranch, IsBranchInRange, IsSubtree, IsSubtreeInRange, IsGathered, PairOrOver};
+ghost use Rattle.cts_elmore.specs.Subtrees.{IsBranch, IsBranchInRange, IsLeafOf, IsSubtree, IsSubtreeInRange, IsGathered, PairOrOver};
 ghost use Rattle.cts_postorder.specs.Waiting.{AreWaiting, StandsAt};
 
 use crate::figures::NodeFigure;
+use crate::pin_list::Pin;
 use cts_instance::Instance;
 use cts_num::NoMemory;
 use cts_tree::{NodeKind, TreeNode};
@@ -19,7 +20,8 @@ use cts_units::{MAX_DELAY, MAX_LENGTH, MAX_LOAD, Params, Wire, buffer_delay, wir
 use std::alloc::Global;
 use std::slice;
 
-/// What is known of a subtree. Loads are in zF, lengths in nm, and delays doubled, in 10^-27 s.
+/// What is known of a subtree. Loads are in zF, lengths in nm, and delays and arrivals doubled, in 10^-27 s. An arrival at a
+/// leaf is told from the subtree's root on, with a buffer there: the delay down to the leaf, and twice its wanted offset.
 #[derive(Clone, Copy)]
 pub struct Subtree {
     /// The load at its root, below a buffer there.
@@ -28,11 +30,17 @@ pub struct Subtree {
     pub seen: u64,
     /// The lengths of the wires below its root together.
     pub wires: u64,
-    /// The greatest delay from its root, with a buffer there, down to a leaf.
+    /// The offset that a leaf's sink wants, not doubled, 0 at a pair.
+    pub offset: u64,
+    /// The greatest arrival at a leaf.
     pub greatest: u128,
-    /// The least such delay.
+    /// The least arrival.
     pub least: u128,
-    /// The distance of the greatest delays of its two parts.
+    /// The greatest delay down to a leaf.
+    pub delay_greatest: u128,
+    /// The least such delay.
+    pub delay_least: u128,
+    /// The distance of the greatest arrivals of its two parts.
     pub residue: u128,
     /// The greatest sum of residues on the path to a leaf.
     pub bound: u128,
@@ -45,6 +53,8 @@ pub struct Branch {
     pub wires: u64,
     pub greatest: u128,
     pub least: u128,
+    pub delay_greatest: u128,
+    pub delay_least: u128,
     pub bound: u128,
 }
 
@@ -65,26 +75,32 @@ fn through_wire(wire: Wire, length: u64, part: &Subtree) -> Option<Branch>
         wires: part.wires + length,
         greatest: part.greatest + delay,
         least: part.least + delay,
+        delay_greatest: part.delay_greatest + delay,
+        delay_least: part.delay_least + delay,
         bound: part.bound,
     })
 }
 
-/// The subtree of a leaf whose sink has this capacitance.
-fn leaf(cap: u64) -> Subtree
-    ensures { result ≡ record { below = cap; seen = cap; wires = 0; greatest = 0; least = 0; residue = 0; bound = 0 } }
+/// The subtree of a leaf whose sink has this pin.
+fn leaf(pin: Pin) -> Subtree
+    ensures { IsLeafOf pin result }
 {
+    let arrival = pin.doubled_offset();
     Subtree {
-        below: cap,
-        seen: cap,
+        below: pin.cap,
+        seen: pin.cap,
         wires: 0,
-        greatest: 0,
-        least: 0,
+        offset: pin.offset,
+        greatest: arrival,
+        least: arrival,
+        delay_greatest: 0,
+        delay_least: 0,
         residue: 0,
         bound: 0,
     }
 }
 
-/// The subtree of a pair of two branches, or `None` exactly where its load or its delay is too great.
+/// The subtree of a pair of two branches, or `None` exactly where its load or its greatest arrival is too great.
 fn pair(params: &Params, a: &Branch, b: &Branch, buffer: Option<u16>) -> Option<Subtree>
     requires params { IsParams params.now }
     requires buffer { IfSome buffer (λ index. index < length params.now.library) }
@@ -112,8 +128,11 @@ fn pair(params: &Params, a: &Branch, b: &Branch, buffer: Option<u16>) -> Option<
         below,
         seen,
         wires: a.wires + b.wires,
+        offset: 0,
         greatest,
         least: a.least.min(b.least) + added,
+        delay_greatest: a.delay_greatest.max(b.delay_greatest) + added,
+        delay_least: a.delay_least.min(b.delay_least) + added,
         residue,
         bound: a.bound.max(b.bound) + residue,
     })
@@ -131,33 +150,33 @@ fn take_pair(waiting: &mut Vec<Subtree>) -> (Subtree, Subtree)
 }
 
 /// The subtree at a number, by those that wait for the pair above them, or `None` exactly where it is a
-/// pair that is over the limits. A pair's parts no longer wait. The capacitances are those of the leaves'
-/// sinks that are left, in zF; a leaf takes the next one.
+/// pair that is over the limits. A pair's parts no longer wait. The pins are those of the leaves' sinks that
+/// are left; a leaf takes the next one.
 fn subtree_at(
     instance: &Instance,
     nodes: &[TreeNode],
-    capacitances: &mut slice::Iter<'_, u64>,
+    pins: &mut slice::Iter<'_, Pin>,
     number: usize,
     waiting: &mut Vec<Subtree>,
 ) -> Option<Subtree>
     requires post_order { IsPostOrder (map tree_children nodes.now) }
     requires fits { FitsInstance instance.now nodes.now }
-    requires capacitances { iter_rest capacitances.old ≡ leaf_loads instance.now (drop number nodes.now) }
+    requires pins { iter_rest pins.old ≡ leaf_pins instance.now (drop number nodes.now) }
     requires number { number < length nodes.now }
     requires before { AreWaiting tree_children nodes.now (IsSubtree instance.now) number waiting.old.items }
     ensures here { IfSome result (StandsAt tree_children nodes.now (IsSubtree instance.now) number) }
     ensures next { IfSome result (λ s.
         AreWaiting tree_children nodes.now (IsSubtree instance.now) (number + 1) (waiting.new.items ++ s ∷ [])) }
-    ensures left { IfSome result (λ _. iter_rest capacitances.new ≡ leaf_loads instance.now (drop (number + 1) nodes.now)) }
+    ensures left { IfSome result (λ _. iter_rest pins.new ≡ leaf_pins instance.now (drop (number + 1) nodes.now)) }
     ensures over { IfNone result (IfSome (slice_get (trees_of tree_children nodes.now) number) (IsPairOver instance.now)) }
 {
     let params = instance.params();
     match nodes[number].kind {
         NodeKind::Leaf { .. } => {
-            let Some(capacitance) = capacitances.next() else {
+            let Some(pin) = pins.next() else {
                 unreachable!()
             };
-            Some(leaf(*capacitance))
+            Some(leaf(*pin))
         }
         NodeKind::Pair {
             left,
@@ -187,20 +206,20 @@ pub enum Gathered {
 }
 
 /// The figures of a tree that are known from below, or its first pair that is over the limits. The
-/// capacitances are those of the leaves' sinks, in zF, in the order of the leaves.
+/// pins are those of the leaves' sinks, in the order of the leaves.
 pub fn gather(
     alloc: Global,
     instance: &Instance,
     nodes: &[TreeNode],
-    capacitances: &[u64],
+    pins: &[Pin],
 ) -> Result<Gathered, NoMemory>
     requires post_order { IsPostOrder (map tree_children nodes.now) }
     requires fits { FitsInstance instance.now nodes.now }
-    requires capacitances { capacitances.now ≡ leaf_loads instance.now nodes.now }
+    requires pins { pins.now ≡ leaf_pins instance.now nodes.now }
     ensures { IfOk result (IsGathered instance.now nodes.now) }
 {
     let mut figures = Vec::with_capacity(alloc, nodes.len())?;
-    let mut left = capacitances.iter();
+    let mut left = pins.iter();
     let mut waiting = Vec::new(alloc);
     for number in 0..nodes.len() {
         let Some(subtree) = subtree_at(instance, nodes, &mut left, number, &mut waiting) else {
@@ -214,6 +233,7 @@ pub fn gather(
             residue: subtree.residue,
             delay: 0,
             stage: 0,
+            offset: subtree.offset,
         })?;
     }
     let Some(root) = waiting.pop() else {

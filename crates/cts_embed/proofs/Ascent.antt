@@ -18,16 +18,17 @@ use Rattle.cts_tree.specs.declared.nodes.TreeNode.{TreeNode}
 use Rattle.cts_tree.specs.Nodes.{tree_children}
 use Rattle.cts_instance.specs.declared.parts.Parts.{Parts}
 use Rattle.cts_instance.specs.Validity.{IsValid}
-use Rattle.cts_elmore.specs.Loads.{leaf_loads}
-use Rattle.cts_elmore.proofs.LeafLoads.{taken_pair}
+use Rattle.cts_elmore.specs.declared.pin_list.Pin.{Pin}
+use Rattle.cts_elmore.specs.Loads.{pin_of, leaf_pins}
+use Rattle.cts_elmore.proofs.LeafPins.{taken_pair}
 use Rattle.cts_embed.specs.declared.node.NodeBalance.{NodeBalance}
 use Rattle.cts_embed.specs.Balance.{IsBalance, IsBeyondBalance, IsLeafBalance, IsPairBalance, IsPairBeyond}
 use Rattle.cts_embed.specs.BalancedTree.{IsBalancedNode}
 use Rattle.cts_embed.specs.Fitting.{Fits}
 use Rattle.cts_embed.specs.Range.{IsInRange}
 use Rattle.cts_embed.proofs.Assembled.{assembled}
-use Rattle.cts_embed.proofs.Capacitances.{some_left, load_taken, loads_left, caps_small}
 use Rattle.cts_embed.proofs.HandedDown.{AreWired, wired_at_start, wired_at_leaf, wired_at_pair, wired_all}
+use Rattle.cts_embed.proofs.Pins.{some_left, pin_taken, pins_left, sinks_small}
 use Rattle.cts_embed.proofs.Steps as steps
 use Rattle.cts_embed.proofs.Steps.{tree_found, stood}
 use Rattle.cts_embed.proofs.Unique.{balanced_not_beyond}
@@ -96,26 +97,26 @@ module _ (parts : Parts) (nodes : List TreeNode) (ok : IsPostOrder (map tree_chi
           (λ t b. balanced_not_beyond parts.params parts.sinks t b) nodes ascent.balances k here ascent.balanced found
           (subst (λ o. IfSome o (IsBeyondBalance parts.params parts.sinks)) found beyond)
 
-      -- at a leaf, which takes the next of the capacitances that are left
-      module _ (fits : Fits parts nodes) (loads : List ℕ) (are : loads ≡ leaf_loads parts (drop k nodes)) (id s : ℕ) (e : TreeNode)
+      -- at a leaf, which takes the next of the pins that are left
+      module _ (fits : Fits parts nodes) (pins : List Pin) (are : pins ≡ leaf_pins parts (drop k nodes)) (id s : ℕ) (e : TreeNode)
           (read : (get_or now k e).kind ≡ Leaf id s) where
         leaf : (get_or nodes k e).kind ≡ Leaf id s
         leaf = kind_read nodes now ascent.same k e h (Leaf id s) read
 
-        pub load_waits : 1 ≤ length loads
-        load_waits = some_left parts nodes fits k e h loads are id s leaf
+        pub pin_waits : 1 ≤ length pins
+        pin_waits = some_left parts nodes fits k e h pins are id s leaf
 
-        module _ (load : ℕ) (rest : List ℕ) (taken : loads ≡ load ∷ rest) where
-          pub loads_after_leaf : rest ≡ leaf_loads parts (drop (k + 1) nodes)
-          loads_after_leaf = loads_left parts nodes fits k e h loads are id s leaf load rest taken
+        module _ (pin : Pin) (rest : List Pin) (taken : pins ≡ pin ∷ rest) where
+          pub pins_after_leaf : rest ≡ leaf_pins parts (drop (k + 1) nodes)
+          pins_after_leaf = pins_left parts nodes fits k e h pins are id s leaf pin rest taken
 
-          pub ascent_at_leaf : (d : Sink) (balance : NodeBalance) → ((sink : Sink) → sink.cap ≡ load → IsLeafBalance sink balance)
+          pub ascent_at_leaf : (d : Sink) (balance : NodeBalance) → ((sink : Sink) → pin_of sink ≡ pin → IsLeafBalance sink balance)
               → IsAscent parts nodes (k + 1) (waiting ++ balance ∷ []) now
           ascent_at_leaf d balance is =
               let within : s < length parts.sinks =
               steps.leaf_names (length parts.sinks) (length parts.params.library) id s _ leaf (fits.names k e h) in
               let of_sink : IsLeafBalance (get_or parts.sinks s d) balance =
-              is (get_or parts.sinks s d) (load_taken parts nodes fits k e h loads are id s leaf load rest taken d) in
+              is (get_or parts.sinks s d) (pin_taken parts nodes fits k e h pins are id s leaf pin rest taken d) in
               ascent_next waiting balance now
               (steps.leaf_stands parts.params parts.sinks nodes ok k h waiting ascent.waits id s e leaf within d balance of_sink)
               (steps.leaf_next parts.params parts.sinks nodes ok k h waiting ascent.waits id s e leaf within d balance of_sink)
@@ -126,9 +127,9 @@ module _ (parts : Parts) (nodes : List TreeNode) (ok : IsPostOrder (map tree_chi
         kind : (get_or nodes k e).kind ≡ Pair l r buffer
         kind = kind_read nodes now ascent.same k e h (Pair l r buffer) read
 
-        -- which takes none of the capacitances
-        pub loads_after_pair : (loads : List ℕ) → loads ≡ leaf_loads parts (drop k nodes) → loads ≡ leaf_loads parts (drop (k + 1) nodes)
-        loads_after_pair loads are = taken_pair parts nodes k e h loads are l r buffer kind
+        -- which takes none of the pins
+        pub pins_after_pair : (pins : List Pin) → pins ≡ leaf_pins parts (drop k nodes) → pins ≡ leaf_pins parts (drop (k + 1) nodes)
+        pins_after_pair pins are = taken_pair parts nodes k e h pins are l r buffer kind
 
         left_below : l < length nodes
         left_below = steps.left_within parts.params parts.sinks nodes ok k h waiting ascent.waits l r buffer e kind
@@ -159,12 +160,12 @@ module _ (parts : Parts) (nodes : List TreeNode) (ok : IsPostOrder (map tree_chi
           pub left_ready : IsValid parts → IsInRange a
           left_ready valid =
               steps.left_ready parts.params parts.sinks nodes ok k h waiting ascent.waits l r buffer e kind rest a b taken valid.params
-              (caps_small parts valid)
+              (sinks_small parts valid)
 
           pub right_ready : IsValid parts → IsInRange b
           right_ready valid =
               steps.right_ready parts.params parts.sinks nodes ok k h waiting ascent.waits l r buffer e kind rest a b taken valid.params
-              (caps_small parts valid)
+              (sinks_small parts valid)
 
           -- the lengths of their routes are read of the nodes as they are now
           module _ (lent : Params) (same : lent ≡ parts.params) (f g : TreeNode) where

@@ -31,7 +31,7 @@ abbrev params : Params
 params = record { wire = record { r = 1; c = 1 }; library = []; insert_at = 100 }
 
 abbrev sinks : List Sink
-sinks = record { id = 1; x = pos 0; y = pos 0; cap = 5 } ∷ record { id = 2; x = pos 5; y = pos 0; cap = 5 } ∷ []
+sinks = record { id = 1; x = pos 0; y = pos 0; cap = 5; offset = 0 } ∷ record { id = 2; x = pos 5; y = pos 0; cap = 5; offset = 0 } ∷ []
 
 -- the sink of this number, with its route of so many nm from the pair at (2, 0)
 abbrev leaf : ℕ → ℕ → ℕ → BinaryTree TreeNode
@@ -113,4 +113,48 @@ example_balance = (
   record { greatest = refl; load = refl; left_wire = refl; right_wire = refl },
   record { greatest = refl; load = refl; left_wire = refl; right_wire = refl },
   pair_is,
+)
+
+-- Where the first of two such sinks wants its edge earlier by 40, the balance begins with 80 there: over routes of 3 nm and 7 nm
+-- both sides have 80 + 39 = 119 = 7 * 17.
+abbrev early_sinks : List Sink
+early_sinks = record { id = 1; x = pos 0; y = pos 0; cap = 5; offset = 40 } ∷ record { id = 2; x = pos 10; y = pos 0; cap = 5; offset = 0 } ∷ []
+
+abbrev early : NodeBalance
+early = record { greatest = 80; load = 5; left_wire = 0; right_wire = 0 }
+
+abbrev early_pair : NodeBalance
+early_pair = record { greatest = 119; load = 20; left_wire = 3; right_wire = 7 }
+
+early_wires : IsWirePair params.wire early 3 below 7 3 7
+unfolding wire_delay_of
+early_wires = record {
+  admissible = inl (refl, omega arith);
+  no_later = λ x y ok. record {
+    by_difference = omega arith;
+    by_total = λ same. elim ok [ inl kept ↦ omega (arith, kept.0, kept.1) | inr kept ↦ omega (arith, kept.0, kept.1) ];
+    by_length = λ same total. elim ok [ inl kept ↦ omega (arith, kept.0) | inr kept ↦ omega (arith, kept.1) ];
+  };
+}
+
+early_pair_is : IsPairBalance params None early 3 below 7 early_pair
+unfolding wire_delay_of
+early_pair_is = record {
+  wires = early_wires;
+  load = refl;
+  greatest = refl;
+  left_within = omega arith;
+  right_within = omega arith;
+  load_within = omega arith;
+  greatest_within = omega arith;
+}
+
+early_balance : IsBalance params early_sinks (fork (leaf 0 0 3) (leaf 1 10 7) root) early_pair
+unfolding IsBalance label
+early_balance = (
+  early,
+  below,
+  record { greatest = refl; load = refl; left_wire = refl; right_wire = refl },
+  record { greatest = refl; load = refl; left_wire = refl; right_wire = refl },
+  early_pair_is,
 )

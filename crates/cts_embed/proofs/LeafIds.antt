@@ -59,7 +59,7 @@ module _ (sinks : List Sink) where
   own_id : (n : ShapeNode) → ((s : ℕ) → n ≡ Leaf s → s < length sinks) → OwnId n
   unfolding IsIdOf own_ids
   own_id (Leaf s) within =
-      let d : Sink = record { id = 0; x = pos 0; y = pos 0; cap = 0 } in
+      let d : Sink = record { id = 0; x = pos 0; y = pos 0; cap = 0; offset = 0 } in
       record {
         id = (get_or sinks s d).id;
         named = subst (λ o. MatchOption o ⊥ (λ (x : Sink). x.id ≡ (get_or sinks s d).id)) (sym (slice_get-get_or sinks s d (within s refl))) refl;

@@ -1,5 +1,5 @@
 -- The leaves of placed trees.
-use Rattle.std.proofs.Common.{◌≡◌, List, Option, Some, None, refl, subst}
+use Rattle.std.proofs.Common.{◌≡◌, ◌^◌, ◌<◌, ◌≤◌, List, Option, Some, None, refl, subst}
 use Rattle.std.specs.List.{All}
 use Rattle.std.specs.Option.{MatchOption}
 use Rattle.std.proofs.lemmas.Option.{slice_get_within, get_or_from_slice_get}
@@ -7,6 +7,10 @@ use Rattle.cts_units.specs.declared.params.Sink.{Sink}
 use Rattle.cts_tree.specs.declared.nodes.NodeKind.{NodeKind}
 use Rattle.cts_tree.specs.declared.nodes.NodeKind.TheVariants.{Leaf, Pair}
 use Rattle.cts_embed.specs.Balance.{sink_of}
+
+-- a capacitance and an offset within the limits of an instance
+abbrev pub IsSmallSink : Sink → Type 0
+IsSmallSink sink = (sink.cap ≤ 10 ^ 12) × (sink.offset < 10 ^ 18)
 
 -- the sink of a leaf, with what is said of it
 pub record SinkOf (sinks : List Sink) (kind : NodeKind) (P : Sink → Type 0) : Type 0 where

@@ -2,7 +2,7 @@ pub mod Leaves
 pub mod Range
 pub mod Unique
 pub mod Beyond
-pub mod Capacitances
+pub mod Pins
 pub mod Steps
 pub mod Root
 pub mod PartsOfPairs

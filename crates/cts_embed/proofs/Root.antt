@@ -9,11 +9,12 @@ use Rattle.cts_postorder.proofs.Lists.{Whole, whole_of, length_pos}
 use Rattle.cts_tree.specs.declared.nodes.TreeNode.{TreeNode}
 use Rattle.cts_tree.specs.Nodes.{tree_children}
 use Rattle.cts_instance.specs.declared.parts.Parts.{Parts}
-use Rattle.cts_instance.specs.Validity.{IsSink, IsValid}
+use Rattle.cts_instance.specs.Validity.{IsValid}
 use Rattle.cts_embed.specs.declared.node.NodeBalance.{NodeBalance}
 use Rattle.cts_embed.specs.Balance.{IsBalance, IsRootWithin}
 use Rattle.cts_embed.specs.BalancedTree.{IsBalancedWhole, IsBalancedWithin, IsBeyondRoot}
 use Rattle.cts_embed.specs.Range.{IsInRange}
+use Rattle.cts_embed.proofs.Pins.{sinks_small}
 use Rattle.cts_embed.proofs.Range.{in_range}
 use Rattle.cts_embed.proofs.Wired.{AreSameButWires, same_long, same_route}
 
@@ -52,7 +53,7 @@ module _ (parts : Parts) (nodes : List TreeNode) (ok : IsPostOrder (map tree_chi
 
   pub root_in_range : IsValid parts → IsInRange b
   root_in_range valid =
-      in_range parts.params parts.sinks w.tree b root_balance valid.params (λ k x h. let s : IsSink parts.die _ = valid.sinks k x h in s.cap)
+      in_range parts.params parts.sinks w.tree b root_balance valid.params (sinks_small parts valid)
 
   pub all_within : IsRootWithin parts len b → IsBalancedWithin parts nodes
   all_within within = record {

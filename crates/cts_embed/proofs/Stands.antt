@@ -94,7 +94,7 @@ sinks_in_range : (parts : Parts) → IsValid parts → AreSinksInRange parts.sin
 sinks_in_range parts ok = record {
   few = ok.sink_count;
   each = λ k d h.
-      let s : IsSink parts.die _ = ok.sinks k d h in
+      let s : IsSink parts.version parts.die _ = ok.sinks k d h in
       record {
         placed = record {
           x_low = omega (arith, ints, ok.die.x_low, s.in_die.west);
@@ -103,6 +103,7 @@ sinks_in_range parts ok = record {
           y_high = omega (arith, ints, ok.die.y_high, s.in_die.north);
         };
         cap = s.cap;
+        offset = s.offset;
       };
 }
 

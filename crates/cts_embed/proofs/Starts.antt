@@ -48,8 +48,8 @@ place_in_die parts (Leaf s) f from place ok is = by_sink (slice_get parts.sinks 
         → IsInDie parts.die (point_of place)
     by_sink None e is = absurd is
     by_sink (Some sink) e is =
-        let s_ok : IsSink parts.die sink =
-        subst (IsSink parts.die) (get_or_from_slice_get parts.sinks s sink sink e)
+        let s_ok : IsSink parts.version parts.die sink =
+        subst (IsSink parts.version parts.die) (get_or_from_slice_get parts.sinks s sink sink e)
         (ok.sinks s sink (slice_get_within parts.sinks s sink e)) in
         subst (λ q. IsInDie parts.die (point_of q)) (sym is) (spot_in_die parts sink.x sink.y s_ok.in_die)
 place_in_die parts (Pair l r) f from place ok is = nearest_in_die parts.blocks parts.die _ is.first place is.moved

@@ -1,5 +1,5 @@
 -- One step of the balance: what is known of the node at the next number.
-use Rattle.std.proofs.Common.{◌≡◌, ℕ, ◌+◌, ◌^◌, ◌<◌, ◌≤◌, ◌++◌, ◌∷◌, [], List, map, length, get_or, slice_get, Option, Some, None, IfSome, MatchOption, sym, ap, subst, ◌∙◌, arith}
+use Rattle.std.proofs.Common.{◌≡◌, ℕ, ◌+◌, ◌<◌, ◌≤◌, ◌++◌, ◌∷◌, [], List, map, length, get_or, slice_get, Option, Some, None, IfSome, MatchOption, sym, ap, subst, ◌∙◌, arith}
 use Rattle.std.specs.List.{All}
 use Rattle.std.proofs.lemmas.Option.{slice_get-get_or}
 use Rattle.cts_units.specs.declared.params.Sink.{Sink}
@@ -20,6 +20,7 @@ use Rattle.cts_embed.specs.declared.node.NodeBalance.{NodeBalance}
 use Rattle.cts_embed.specs.Balance.{IsBalance, IsBeyondBalance, IsLeafBalance, IsPairBalance, IsPairBeyond, sink_of}
 use Rattle.cts_embed.specs.Fitting.{NamesWithin}
 use Rattle.cts_embed.specs.Range.{IsInRange}
+use Rattle.cts_embed.proofs.Leaves.{IsSmallSink}
 use Rattle.cts_embed.proofs.Range.{in_range}
 
 -- what a leaf or a pair names, where its kind is known
@@ -111,11 +112,11 @@ module _ (params : Params) (sinks : List Sink) (nodes : List TreeNode) (ok : IsP
           stood tree_children (IsBalance params sinks) nodes right at_pair.right (tip e) b right_within (at_pair.right_tree (tip e))
           values.right_value
 
-      pub left_ready : IsParams params → All (λ sink. sink.cap ≤ 10 ^ 12) sinks → IsInRange a
-      left_ready ranged caps = in_range params sinks at_pair.left a left_is ranged caps
+      pub left_ready : IsParams params → All IsSmallSink sinks → IsInRange a
+      left_ready ranged small = in_range params sinks at_pair.left a left_is ranged small
 
-      pub right_ready : IsParams params → All (λ sink. sink.cap ≤ 10 ^ 12) sinks → IsInRange b
-      right_ready ranged caps = in_range params sinks at_pair.right b right_is ranged caps
+      pub right_ready : IsParams params → All IsSmallSink sinks → IsInRange b
+      right_ready ranged small = in_range params sinks at_pair.right b right_is ranged small
 
       -- the lengths of the routes to them
       module _ (f g : TreeNode) (la lb : ℕ) (first_route : la ≡ (get_or nodes left f).route.length)

@@ -1,5 +1,6 @@
 -- The balance of a placed tree: upward over the routes, each pair's two wires get the lengths by which the delays of its
--- two sides differ least. Buffers stay as they were chosen before, whatever the loads are now.
+-- two sides differ least, where a leaf begins with twice the offset that its sink wants. Buffers stay as they were chosen
+-- before, whatever the loads are now.
 -- After the exact zero-skew merge of Tsay; whole lengths over given routes are this project's own rule.
 use Rattle.std.specs.Prelude.{◌≡◌, ℕ, ◌+◌, ◌*◌, ◌<◌, ◌≤◌, ◌⊎◌, max, List, slice_get, Option, None, MatchOption}
 use Rattle.cts_units.specs.declared.params.Sink.{Sink}
@@ -32,9 +33,9 @@ load_below wire a b xa xb = a.load + b.load + wire.c * (xa + xb)
 abbrev pub delay_below : Wire → NodeBalance → NodeBalance → ℕ → ℕ → ℕ
 delay_below wire a b xa xb = max (delay_through wire a xa) (delay_through wire b xb)
 
--- a leaf: no delay, and the sink's capacitance
+-- a leaf: twice the sink's offset as greatest delay, since delays are doubled, and the sink's capacitance
 pub record IsLeafBalance (sink : Sink) (leaf : NodeBalance) : Type 0 where
-  pub greatest : leaf.greatest ≡ 0
+  pub greatest : leaf.greatest ≡ 2 * sink.offset
   pub load : leaf.load ≡ sink.cap
   pub left_wire : leaf.left_wire ≡ 0
   pub right_wire : leaf.right_wire ≡ 0

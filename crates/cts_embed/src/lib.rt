@@ -3,7 +3,7 @@
 //! A layer above hands the plan of a shape to [`embed`], or the sites of the plan alone to [`embed_sites`], and takes the
 //! placed tree; it cites `specs/Places.antt` for where a node stands and `specs/PlacedTree.antt` for the tree of the
 //! same form whose nodes are told one by one, each by its subtree and the pairs above it. It hands a placed tree to
-//! [`balance`], or to [`balance_with`] where it has listed the capacitances of the leaves (`cts_elmore::capacitances`),
+//! [`balance`], or to [`balance_with`] where it has listed the pins of the leaves (`cts_elmore::pins`),
 //! and takes the tree, or the least node that is beyond; it cites `specs/Balance.antt`, which tells by a recursion on
 //! the tree what the balance makes of each node, and `specs/BalancedTree.antt`, which tells the nodes of the balanced
 //! tree in the same way. The laws of [`laws`] say that there is one answer to each, and where places lie.

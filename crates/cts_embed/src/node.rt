@@ -3,7 +3,8 @@
 /// A node as the balance is done with it.
 #[derive(Clone, Copy)]
 pub struct NodeBalance {
-    /// The greatest doubled delay from the node to a leaf, its own buffer included, in 10^-27 s.
+    /// The greatest, over its leaves, of the doubled delay from the node to the leaf, its own buffer included, and twice
+    /// the leaf's wanted offset, in 10^-27 s.
     pub greatest: u128,
     /// The load as seen from above the node, in zF.
     pub load: u64,

@@ -5,10 +5,12 @@ ghost use Rattle.std.specs.Slice.Iter.{iter_rest};
 ghost use Rattle.cts_units.specs.Choice.{added_delay_of, seen_load_of};
 ghost use Rattle.cts_units.specs.Limits.{IsParams, max_length, max_load};
 ghost use Rattle.cts_merge.specs.LeastPair.{IsTooLong, Covers};
+ghost use Rattle.cts_elmore.specs.Loads.{pin_of};
 ghost use Rattle.cts_embed.specs.Balance.{IsLeafBalance, IsPairBalance, IsPairBeyond, IsRootWithin, IsWirePair, delay_through};
 ghost use Rattle.cts_embed.specs.Range.{IsInRange};
 
 use crate::node::NodeBalance;
+use cts_elmore::Pin;
 use cts_geom::Region;
 use cts_instance::Instance;
 use cts_merge::{Beyond, Side, choose};
@@ -52,7 +54,7 @@ fn wire_pair(
     choose(params, &side_of(a), la, &side_of(b), lb)
 }
 
-/// The greatest delay of a node through a wire of this length above it.
+/// The greatest arrival of a node through a wire of this length above it.
 fn delay_through(params: &Params, node: &NodeBalance, length: u64) -> u128
     requires params { IsParams params.now }
     requires node { IsInRange node.now }
@@ -118,18 +120,24 @@ pub(crate) fn pair_balance(
     })
 }
 
-/// A leaf over the sink whose capacitance in zF is the next of those that are left.
-pub(crate) fn take_leaf(capacitances: &mut slice::Iter<'_, u64>) -> NodeBalance
-    requires some { 1 ≤ length (iter_rest capacitances.old) }
-    ensures leaf { (sink : Sink) → sink.cap ≡ result.load → IsLeafBalance sink result }
-    ensures left { iter_rest capacitances.old ≡ result.load ∷ iter_rest capacitances.new }
+/// The next of the pins that are left.
+pub(crate) fn take_pin(pins: &mut slice::Iter<'_, Pin>) -> Pin
+    requires some { 1 ≤ length (iter_rest pins.old) }
+    ensures { iter_rest pins.old ≡ result ∷ iter_rest pins.new }
 {
-    let Some(capacitance) = capacitances.next() else {
+    let Some(pin) = pins.next() else {
         unreachable!()
     };
+    *pin
+}
+
+/// A leaf over the sink that has this pin.
+pub(crate) fn leaf_balance(pin: Pin) -> NodeBalance
+    ensures { (sink : Sink) → pin_of sink ≡ pin → IsLeafBalance sink result }
+{
     NodeBalance {
-        greatest: 0,
-        load: *capacitance,
+        greatest: pin.doubled_offset(),
+        load: pin.cap,
         left_wire: 0,
         right_wire: 0,
     }

@@ -3,20 +3,20 @@
 ghost use Rattle.std.specs.Prelude.{◌≡◌, map, IfOk, IfErr};
 ghost use Rattle.cts_postorder.specs.PostOrder.{IsPostOrder};
 ghost use Rattle.cts_tree.specs.Nodes.{tree_children};
-ghost use Rattle.cts_elmore.specs.Loads.{leaf_loads};
+ghost use Rattle.cts_elmore.specs.Loads.{leaf_pins};
 ghost use Rattle.cts_embed.specs.BalancedTree.{IsBalancedTree};
 ghost use Rattle.cts_embed.specs.Ends.{BalanceEnds};
 ghost use Rattle.cts_embed.specs.Fitting.{Fits};
 
 use crate::end::BalanceEnd;
-use crate::upward::{is_root_within, pair_balance, take_leaf, take_pair};
+use crate::upward::{is_root_within, leaf_balance, pair_balance, take_pair, take_pin};
+use cts_elmore::Pin;
 use cts_instance::Instance;
 use cts_tree::{NodeKind, TreeNode};
 use std::alloc::Global;
 
 /// Gives each placed node the length of its wire in nm: what the balance makes of the pair above it, and
-/// for the root the length of its route. The capacitances are those of the leaves' sinks, in zF, in the order
-/// of the leaves.
+/// for the root the length of its route. The pins are those of the leaves' sinks, in the order of the leaves.
 ///
 /// They are set in place, those of a pair's two children once the pair is balanced. Where a node is beyond, or
 /// memory runs out, some are set and the others are as they were.
@@ -24,20 +24,20 @@ pub(crate) fn set_wires(
     alloc: Global,
     instance: &Instance,
     nodes: &mut [TreeNode],
-    capacitances: &[u64],
+    pins: &[Pin],
 ) -> Result<(), BalanceEnd>
     requires post_order { IsPostOrder (map tree_children nodes.old) }
     requires fits { Fits instance.now nodes.old }
-    requires capacitances { capacitances.now ≡ leaf_loads instance.now nodes.old }
+    requires pins { pins.now ≡ leaf_pins instance.now nodes.old }
     ensures tree { IfOk result (λ _. IsBalancedTree instance.now nodes.old nodes.new) }
     ensures ends { IfErr result (BalanceEnds instance.now nodes.old) }
 {
     let params = instance.params();
-    let mut leaves = capacitances.iter();
+    let mut leaves = pins.iter();
     let mut waiting = Vec::new(alloc);
     for number in 0..nodes.len() {
         let balance = match nodes[number].kind {
-            NodeKind::Leaf { .. } => take_leaf(&mut leaves),
+            NodeKind::Leaf { .. } => leaf_balance(take_pin(&mut leaves)),
             NodeKind::Pair {
                 left,
                 right,

@@ -2,7 +2,7 @@ pub mod WithinLimits
 pub mod SinksOnce
 pub mod Reached
 pub mod Wires
-pub mod LeafLoads
+pub mod LeafPins
 pub mod Fitted
 pub mod Unique
 pub mod Sound
@@ -10,3 +10,5 @@ pub mod Valid
 pub mod Uncut
 pub mod Settled
 pub mod FewCorners
+pub mod Placing
+pub mod Counted

@@ -18,7 +18,7 @@ sinks_are i valid = record {
   some = omega (arith, valid.some_sink);
   few = valid.sink_count;
   placed = λ k d h.
-      let s : IsSink i.die (get_or i.sinks k d) = valid.sinks k d h in
+      let s : IsSink i.version i.die (get_or i.sinks k d) = valid.sinks k d h in
       record {
         x_low = omega (arith, ints, s.in_die.west, valid.die.x_low);
         x_high = omega (arith, ints, s.in_die.east, valid.die.x_high);

@@ -1,4 +1,5 @@
--- A balanced tree is within the limits: what the balance made of each node are the load and the delay of the tree there.
+-- A balanced tree is within the limits: what the balance made of each node are the load and the greatest arrival of the tree
+-- there.
 use Rattle.std.proofs.Common.{◌≡◌, ℕ, ◌+◌, ◌*◌, max, inl, inr, List, [], ◌∷◌, ◌++◌, map, slice_get, Option, Some, None, MatchOption, add_comm, refl, sym, ap, ap₂, subst, ◌∙◌, arith}
 use Rattle.std.specs.List.{All}
 use Rattle.std.specs.Option.{option_map_or}
@@ -20,7 +21,7 @@ use Rattle.cts_embed.specs.Balance.{IsBalance, IsLeafBalance, IsPairBalance, IsR
 use Rattle.cts_embed.specs.Balance.{load_below as balanced_load}
 use Rattle.cts_embed.specs.BalancedTree.{IsBalancedNode, IsBalancedTree, IsWireLength}
 use Rattle.cts_embed.proofs.Unique.{wire_one}
-use Rattle.cts_elmore.specs.Loads.{load_below, load_seen, sink_load, source_load}
+use Rattle.cts_elmore.specs.Loads.{load_below, load_seen, sink_load, sink_offset, source_load}
 use Rattle.cts_elmore.specs.Delays.{wire_delay, source_delay, buffer_delay}
 use Rattle.cts_elmore.specs.Skew.{greatest_below}
 use Rattle.cts_elmore.specs.Limits.{long_left, long_right, great_load, great_delay, IsPairOver, IsRootOver, long_root, great_source_load, great_leaf_delay, IsOver, IsWithinLimits}
@@ -29,31 +30,33 @@ use Rattle.cts_elmore.proofs.Below.{greatest_at_tip, greatest_at_pair}
 use Rattle.cts_elmore.proofs.Rising.{seen_at_pair, added_at_pair}
 
 module _ (i : Parts) where
-  -- the load and the greatest delay of a tree are what the balance made of it, and no pair of it is over the limits
+  -- the load and the greatest arrival of a tree are what the balance made of it, and no pair of it is over the limits
   record Agrees (b : NodeBalance) (t : BinaryTree TreeNode) : Type 0 where
     load : load_seen i t ≡ b.load
     greatest : greatest_below i t ≡ b.greatest
     within : All (λ s. ¬ IsPairOver i s) (subtrees t)
 
   sink_agrees : (o : Option Sink) (b : NodeBalance) → MatchOption o ⊥ (λ sink. IsLeafBalance sink b)
-      → (option_map_or (λ (s : Sink). s.cap) o 0 ≡ b.load) × (0 ≡ b.greatest)
+      → (option_map_or (λ (s : Sink). s.cap) o 0 ≡ b.load) × (2 * option_map_or (λ (s : Sink). s.offset) o 0 ≡ b.greatest)
   sink_agrees None b h = absurd h
   sink_agrees (Some sink) b h = (sym h.load, sym h.greatest)
 
   kind_agrees : (k : NodeKind) (m : TreeNode) (b : NodeBalance) → m.kind ≡ k
       → MatchOption (sink_of i.sinks k) ⊥ (λ sink. IsLeafBalance sink b)
-      → (sink_load i m ≡ b.load) × (0 ≡ b.greatest)
+      → (sink_load i m ≡ b.load) × (2 * sink_offset i m ≡ b.greatest)
   kind_agrees (Pair left right buffer) m b is h = absurd h
   kind_agrees (Leaf id sink) m b is h =
-      let at : (sink_load i (record m { kind = Leaf id sink }) ≡ b.load) × (0 ≡ b.greatest) =
-      sink_agrees (slice_get i.sinks sink) b h in
-      (ap (λ k. sink_load i (record m { kind = k })) is ∙ at.0, at.1)
+      let of : TreeNode = record m { kind = Leaf id sink } in
+      let at : (sink_load i of ≡ b.load) × (2 * sink_offset i of ≡ b.greatest) = sink_agrees (slice_get i.sinks sink) b h in (
+        ap (λ k. sink_load i (record m { kind = k })) is ∙ at.0,
+        ap (λ k. 2 * sink_offset i (record m { kind = k })) is ∙ at.1,
+      )
 
   leaf_agrees : (n : TreeNode) (m : TreeNode) (b : NodeBalance) → m.kind ≡ n.kind
       → MatchOption (sink_of i.sinks n.kind) ⊥ (λ sink. IsLeafBalance sink b) → Agrees b (tip m)
   unfolding load_below subtrees
   leaf_agrees n m b is h =
-      let at : (sink_load i m ≡ b.load) × (0 ≡ b.greatest) = kind_agrees n.kind m b is h in
+      let at : (sink_load i m ≡ b.load) × (2 * sink_offset i m ≡ b.greatest) = kind_agrees n.kind m b is h in
       record {
         load = at.0;
         greatest = greatest_at_tip i m ∙ at.1;

@@ -12,7 +12,7 @@ ghost use Rattle.cts_plain.specs.Ends.{CountsInPlaces, CountsMerges, Ends, EndsI
 ghost use Rattle.cts_plain.specs.Synthesis.{IsPlacedBy, IsSynthesis, IsSynthesisOver, StandsInDie, made};
 
 use crate::end::NoTree;
-use cts_elmore::{Figures, capacitances, measure_with};
+use cts_elmore::{Figures, measure_with, pins};
 use cts_embed::{balance_with, embed, embed_sites};
 use cts_instance::Instance;
 use cts_merge::{Finished, Steps};
@@ -64,9 +64,9 @@ fn settle(alloc: Global, instance: &Instance, placed: Placed) -> Result<(Tree, F
 {
     // A read call says that the instance is valid, which the limits of the passes rest on.
     let _die = instance.die();
-    let capacitances = capacitances(alloc, instance, placed.nodes())?;
-    let tree = balance_with(alloc, instance, placed, capacitances.as_slice())?;
-    let figures = measure_with(alloc, instance, &tree, capacitances.as_slice())?;
+    let pins = pins(alloc, instance, placed.nodes())?;
+    let tree = balance_with(alloc, instance, placed, pins.as_slice())?;
+    let figures = measure_with(alloc, instance, &tree, pins.as_slice())?;
     Ok((tree, figures))
 }
 

@@ -1,5 +1,5 @@
 use Rattle.std.proofs.Common.{length, ap, ◌∙◌, refl, arith}
-use Rattle.cts_elmore.proofs.TreeFigures.{some_node, wires_small, greatest_small, least_small, figures_are, figures_in_range, one_each}
+use Rattle.cts_elmore.proofs.TreeFigures.{some_node, wires_small, greatest_small, least_small, delays_small, figures_are, figures_in_range, one_each}
 use Rattle.cts_elmore.proofs.measurement.driven.Goals as goal
 
 pub overflow_sub-result : goal.overflow_sub-result
@@ -22,10 +22,32 @@ overflow_add-result-2 c =
       arith,
       greatest_small c.args.instance.now c.args.nodes.now c.requires.post_order c.args.root.now c.requires.root c.args.drive c.requires.drive
           c.index-nodes-nodes.result,
+      (delays_small c.args.instance.now c.args.nodes.now c.requires.post_order c.args.root.now c.requires.root c.args.drive c.requires.drive
+          c.index-nodes-nodes.result).1,
     )
 
 pub overflow_add-result-3 : goal.overflow_add-result-3
 overflow_add-result-3 c =
+    omega (
+      arith,
+      greatest_small c.args.instance.now c.args.nodes.now c.requires.post_order c.args.root.now c.requires.root c.args.drive c.requires.drive
+          c.index-nodes-nodes.result,
+      (delays_small c.args.instance.now c.args.nodes.now c.requires.post_order c.args.root.now c.requires.root c.args.drive c.requires.drive
+          c.index-nodes-nodes.result).0,
+      (delays_small c.args.instance.now c.args.nodes.now c.requires.post_order c.args.root.now c.requires.root c.args.drive c.requires.drive
+          c.index-nodes-nodes.result).1,
+    )
+
+pub overflow_add-result-4 : goal.overflow_add-result-4
+overflow_add-result-4 c =
+    omega (
+      arith,
+      greatest_small c.args.instance.now c.args.nodes.now c.requires.post_order c.args.root.now c.requires.root c.args.drive c.requires.drive
+          c.index-nodes-nodes.result,
+    )
+
+pub overflow_add-result-5 : goal.overflow_add-result-5
+overflow_add-result-5 c =
     omega (
       arith,
       greatest_small c.args.instance.now c.args.nodes.now c.requires.post_order c.args.root.now c.requires.root c.args.drive c.requires.drive
@@ -36,8 +58,13 @@ overflow_add-result-3 c =
 
 pub overflow_sub-result-2 : goal.overflow_sub-result-2
 overflow_sub-result-2 c =
-    least_small c.args.instance.now c.args.nodes.now c.requires.post_order c.args.root.now c.requires.root c.args.drive c.requires.drive
-    c.index-nodes-nodes.result
+    omega (
+      arith,
+      least_small c.args.instance.now c.args.nodes.now c.requires.post_order c.args.root.now c.requires.root c.args.drive c.requires.drive
+          c.index-nodes-nodes.result,
+      (delays_small c.args.instance.now c.args.nodes.now c.requires.post_order c.args.root.now c.requires.root c.args.drive c.requires.drive
+          c.index-nodes-nodes.result).0,
+    )
 
 pub returns-clause-figures : goal.returns-clause-figures
 returns-clause-figures c =

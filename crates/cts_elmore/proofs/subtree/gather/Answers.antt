@@ -21,7 +21,7 @@ loop-number-preserved c = (
   subst (AllZip (IsKnownBelow c.args.instance.now) (take (c.loop-number.number + 1) (trees_of tree_children c.args.nodes.now)))
       (sym c.in_ok-push-2.ensures.items)
       (known_next c.args.instance.now c.args.nodes.now c.loop-number.number c.loop-number-test.true c.loop-number.figures.items
-      (c.loop-number.invariant.1) c.in-Some.subtree c.in-Some.ensures.here _ refl refl),
+      (c.loop-number.invariant.1) c.in-Some.subtree c.in-Some.ensures.here _ refl refl refl),
   c.in-Some.ensures.left,
 )
 

@@ -3,7 +3,7 @@ use Rattle.std.specs.List.{AllZip}
 use Rattle.std.specs.Slice.Iter.{iter_rest}
 use Rattle.cts_postorder.specs.PostOrder.{trees_of}
 use Rattle.cts_tree.specs.Nodes.{tree_children}
-use Rattle.cts_elmore.specs.Loads.{leaf_loads}
+use Rattle.cts_elmore.specs.Loads.{leaf_pins}
 use Rattle.cts_elmore.specs.Subtrees.{IsSubtree, IsKnownBelow}
 use Rattle.cts_postorder.specs.Waiting.{AreWaiting}
 use Rattle.cts_elmore.proofs.subtree.gather.Given as goal
@@ -12,4 +12,4 @@ abbrev pub invariant-loop-number : goal.invariant-loop-number
 invariant-loop-number l =
     AreWaiting tree_children l.nodes (IsSubtree l.instance) l.number l.waiting.items
     × AllZip (IsKnownBelow l.instance) (take l.number (trees_of tree_children l.nodes)) l.figures.items
-    × (iter_rest l.left ≡ leaf_loads l.instance (drop l.number l.nodes))
+    × (iter_rest l.left ≡ leaf_pins l.instance (drop l.number l.nodes))

@@ -67,6 +67,12 @@ overflow_add-result-2 c = omega arith
 pub overflow_add-result-3 : goal.overflow_add-result-3
 overflow_add-result-3 c = omega arith
 
+pub overflow_add-result-4 : goal.overflow_add-result-4
+overflow_add-result-4 c = omega arith
+
+pub overflow_add-result-5 : goal.overflow_add-result-5
+overflow_add-result-5 c = omega arith
+
 pub returns : goal.returns
 returns c =
     elim c.match-buffer.branch [
@@ -80,8 +86,11 @@ returns c =
             below = refl;
             seen = ap (λ p. p.0) w.seen-is ∙ at.0;
             wires = refl;
+            offset = refl;
             greatest = cc;
             least = cc;
+            delay_greatest = cc;
+            delay_least = cc;
             residue = cc;
             bound = cc;
             load_within = omega arith;
@@ -95,8 +104,11 @@ returns c =
             below = refl;
             seen = ap (λ p. p.0) w.seen-is ∙ sym (ap (λ o. seen_load_of c.args.params.now.library o (c.args.a.now.load + c.args.b.now.load)) w.in-None.is);
             wires = refl;
+            offset = refl;
             greatest = cc;
             least = cc;
+            delay_greatest = cc;
+            delay_least = cc;
             residue = cc;
             bound = cc;
             load_within = omega arith;

@@ -63,7 +63,7 @@ pub returns-in-Some-clause-here : goal.returns-in-Some-clause-here
 returns-in-Some-clause-here c =
     leaf_here_is c.args.instance.now c.params-params.ensures.valid c.args.nodes.now c.requires.post_order c.requires.fits c.args.number c.requires.number
     c.args.waiting.now.items c.requires.before c.in-Leaf.id c.in-Leaf.sink _ c.in-Leaf.is
-    (iter_rest c.args.capacitances.now) (iter_rest c.next.new.self) c.in-Some.capacitance.now c.in-Some.ensures.steps c.requires.capacitances
+    (iter_rest c.args.pins.now) (iter_rest c.next.new.self) c.in-Some.pin.now c.in-Some.ensures.steps c.requires.pins
     c.leaf.result c.leaf.ensures
 
 pub returns-in-Some-clause-next : goal.returns-in-Some-clause-next
@@ -72,7 +72,7 @@ returns-in-Some-clause-next c =
     c.args.waiting.now.items c.requires.before c.in-Leaf.id c.in-Leaf.sink _ c.in-Leaf.is c.leaf.result
     (leaf_here_is c.args.instance.now c.params-params.ensures.valid c.args.nodes.now c.requires.post_order c.requires.fits c.args.number c.requires.number
     c.args.waiting.now.items c.requires.before c.in-Leaf.id c.in-Leaf.sink _ c.in-Leaf.is
-    (iter_rest c.args.capacitances.now) (iter_rest c.next.new.self) c.in-Some.capacitance.now c.in-Some.ensures.steps c.requires.capacitances
+    (iter_rest c.args.pins.now) (iter_rest c.next.new.self) c.in-Some.pin.now c.in-Some.ensures.steps c.requires.pins
     c.leaf.result c.leaf.ensures)
 
 pub returns-in_ok-b-in-Pair-clause-here : goal.returns-in_ok-b-in-Pair-clause-here

@@ -30,12 +30,20 @@ overflow_add-result-3 c = omega arith
 pub overflow_add-result-4 : goal.overflow_add-result-4
 overflow_add-result-4 c = omega arith
 
+pub overflow_add-result-5 : goal.overflow_add-result-5
+overflow_add-result-5 c = omega arith
+
+pub overflow_add-result-6 : goal.overflow_add-result-6
+overflow_add-result-6 c = omega arith
+
 pub returns-clause-branch : goal.returns-clause-branch
 returns-clause-branch c = record {
   load = refl;
   wires = refl;
   greatest = cc;
   least = cc;
+  delay_greatest = cc;
+  delay_least = cc;
   bound = refl;
 }
 
@@ -45,6 +53,8 @@ returns-clause-in_range c = record {
   wires = omega arith;
   greatest = omega arith;
   least = omega arith;
+  delay_greatest = omega arith;
+  delay_least = omega arith;
   bound = omega arith;
 }
 

@@ -4,26 +4,26 @@ use Rattle.cts_units.specs.declared.params.Sink.{Sink}
 use Rattle.cts_postorder.proofs.Lists.{length_pos}
 use Rattle.cts_postorder.proofs.Waiting.{one_waits, root_waits}
 use Rattle.cts_tree.specs.Nodes.{tree_children}
-use Rattle.cts_elmore.specs.Loads.{leaf_loads}
+use Rattle.cts_elmore.specs.Loads.{leaf_pins}
 use Rattle.cts_embed.specs.Balance.{IsBalance}
-use Rattle.cts_embed.proofs.Ascent.{IsAscent, ascent_named, ascent_at_start, ascent_at_leaf, ascent_at_pair, load_waits, loads_after_leaf, loads_after_pair, ascent_all, left_within, right_within, right_within_set, two_ready, buffer_named, left_ready, right_ready, pair_beyond}
+use Rattle.cts_embed.proofs.Ascent.{IsAscent, ascent_named, ascent_at_start, ascent_at_leaf, ascent_at_pair, pin_waits, pins_after_leaf, pins_after_pair, ascent_all, left_within, right_within, right_within_set, two_ready, buffer_named, left_ready, right_ready, pair_beyond}
 use Rattle.cts_embed.proofs.Root.{root_in_range, all_within, root_beyond, root_route}
 use Rattle.cts_embed.proofs.wires.set_wires.Goals.{in-Leaf, in-Pair+in-Ok}
 use Rattle.cts_embed.proofs.wires.set_wires.Goals as goal
 
 -- the value past the end of the list
 abbrev none : Sink
-none = record { id = 0; x = pos 0; y = pos 0; cap = 0 }
+none = record { id = 0; x = pos 0; y = pos 0; cap = 0; offset = 0 }
 
 pub loop-number-init : goal.loop-number-init
 loop-number-init c = record {
   ascent = ascent_at_start c.args.instance.now c.args.nodes.now c.requires.post_order c.new-waiting.result.items c.new-waiting.ensures.items;
-  left = c.iter-leaves.ensures.rest ∙ c.requires.capacitances;
+  left = c.iter-leaves.ensures.rest ∙ c.requires.pins;
 }
 
-pub take_leaf-balance-requires : goal.take_leaf-balance-requires
-take_leaf-balance-requires c = record {
-  some = load_waits c.args.instance.now c.args.nodes.now c.requires.post_order c.loop-number.number c.loop-number.waiting.items
+pub take_pin-requires : goal.take_pin-requires
+take_pin-requires c = record {
+  some = pin_waits c.args.instance.now c.args.nodes.now c.requires.post_order c.loop-number.number c.loop-number.waiting.items
       c.loop-number.nodes c.loop-number.invariant.ascent (omega (arith, c.loop-number-test.true, c.loop-number.auto.nodes)) c.requires.fits
       (iter_rest c.loop-number.leaves) c.loop-number.invariant.left c.in-Leaf.id c.in-Leaf.sink _ c.in-Leaf.is;
 }
@@ -122,13 +122,13 @@ loop-number-preserved c =
     elim c.match-nodes-number.branch [
       | in-Leaf w ↦
           ascent_named c.args.instance.now c.args.nodes.now (c.loop-number.number + 1) c.match-nodes-number.waiting.items
-          c.loop-number.waiting.items c.match-nodes-number.balance w.take_leaf-balance.result c.match-nodes-number.nodes
+          c.loop-number.waiting.items c.match-nodes-number.balance w.leaf_balance-balance.result c.match-nodes-number.nodes
           c.loop-number.nodes (ap (λ v. v.items) w.waiting-is) w.balance-is w.nodes-is
           (ascent_at_leaf c.args.instance.now c.args.nodes.now c.requires.post_order c.loop-number.number c.loop-number.waiting.items
           c.loop-number.nodes c.loop-number.invariant.ascent (omega (arith, c.loop-number-test.true, c.loop-number.auto.nodes)) c.requires.fits
           (iter_rest c.loop-number.leaves) c.loop-number.invariant.left
-          w.in-Leaf.id w.in-Leaf.sink _ w.in-Leaf.is w.take_leaf-balance.result.load (iter_rest w.take_leaf-balance.new.capacitances)
-          w.take_leaf-balance.ensures.left none w.take_leaf-balance.result w.take_leaf-balance.ensures.leaf)
+          w.in-Leaf.id w.in-Leaf.sink _ w.in-Leaf.is w.take_pin.result (iter_rest w.take_pin.new.pins)
+          w.take_pin.ensures none w.leaf_balance-balance.result w.leaf_balance-balance.ensures)
       | in-Pair+in-Ok w ↦
           ascent_named c.args.instance.now c.args.nodes.now (c.loop-number.number + 1) c.match-nodes-number.waiting.items
           w.take_pair.new.waiting.items c.match-nodes-number.balance w.in-Ok.pair c.match-nodes-number.nodes _
@@ -140,18 +140,18 @@ loop-number-preserved c =
           c.params-params.result.now c.params-params.ensures.part w.index-nodes-left.result w.index-nodes-right.result
           w.in-Ok.pair w.in-Ok.ensures.pair w.index-nodes-left-in-Pair.result w.index-nodes-right-in-Pair.result)
     ] in
-    let left : iter_rest c.match-nodes-number.leaves ≡ leaf_loads c.args.instance.now (drop (c.loop-number.number + 1) c.args.nodes.now) =
+    let left : iter_rest c.match-nodes-number.leaves ≡ leaf_pins c.args.instance.now (drop (c.loop-number.number + 1) c.args.nodes.now) =
     elim c.match-nodes-number.branch [
       | in-Leaf w ↦
           ap iter_rest w.leaves-is
-          ∙ loads_after_leaf c.args.instance.now c.args.nodes.now c.requires.post_order c.loop-number.number c.loop-number.waiting.items
+          ∙ pins_after_leaf c.args.instance.now c.args.nodes.now c.requires.post_order c.loop-number.number c.loop-number.waiting.items
           c.loop-number.nodes c.loop-number.invariant.ascent (omega (arith, c.loop-number-test.true, c.loop-number.auto.nodes)) c.requires.fits
           (iter_rest c.loop-number.leaves) c.loop-number.invariant.left
-          w.in-Leaf.id w.in-Leaf.sink _ w.in-Leaf.is w.take_leaf-balance.result.load (iter_rest w.take_leaf-balance.new.capacitances)
-          w.take_leaf-balance.ensures.left
+          w.in-Leaf.id w.in-Leaf.sink _ w.in-Leaf.is w.take_pin.result (iter_rest w.take_pin.new.pins)
+          w.take_pin.ensures
       | in-Pair+in-Ok w ↦
           ap iter_rest w.leaves-is
-          ∙ loads_after_pair c.args.instance.now c.args.nodes.now c.requires.post_order c.loop-number.number c.loop-number.waiting.items
+          ∙ pins_after_pair c.args.instance.now c.args.nodes.now c.requires.post_order c.loop-number.number c.loop-number.waiting.items
           c.loop-number.nodes c.loop-number.invariant.ascent (omega (arith, c.loop-number-test.true, c.loop-number.auto.nodes))
           w.in-Pair.left w.in-Pair.right w.in-Pair.buffer _ w.in-Pair.is (iter_rest c.loop-number.leaves) c.loop-number.invariant.left
     ] in

@@ -2,22 +2,22 @@ use Rattle.std.proofs.Common.{◌<◌, List, length, IfSome, sym, ap, subst, ◌
 use Rattle.std.specs.List.{All}
 use Rattle.cts_tree.specs.declared.nodes.TreeNode.{TreeNode}
 use Rattle.cts_tree.specs.Nodes.{leaf_sink}
-use Rattle.cts_embed.proofs.Capacitances.{sinks_within}
-use Rattle.cts_elmore.specs.Loads.{leaf_loads}
+use Rattle.cts_embed.proofs.Pins.{sinks_within}
+use Rattle.cts_elmore.specs.Loads.{leaf_pins}
 use Rattle.cts_plain.specs.Synthesis.{IsTreeOf}
-use Rattle.cts_plain.proofs.LeafLoads.{leaf_loads_kept}
+use Rattle.cts_plain.proofs.LeafPins.{leaf_pins_kept}
 use Rattle.cts_plain.proofs.Sound.{trees_sound}
 use Rattle.cts_plain.proofs.synthesis.settle.Goals as goal
 
-pub capacitances-requires : goal.capacitances-requires
-capacitances-requires c =
+pub pins-requires : goal.pins-requires
+pins-requires c =
     subst (λ (nodes : List TreeNode). All (λ node. IfSome (leaf_sink node.kind) (λ sink. sink < length c.args.instance.now.sinks)) nodes)
     (sym c.nodes.ensures.nodes) (sinks_within c.args.instance.now c.args.placed c.requires.fits)
 
-pub measure_with-requires-clause-capacitances : goal.measure_with-requires-clause-capacitances
-measure_with-requires-clause-capacitances c =
-    c.as_slice-2.ensures.value ∙ c.in_ok-capacitances.ensures ∙ ap (leaf_loads c.args.instance.now) c.nodes.ensures.nodes
-    ∙ leaf_loads_kept c.args.instance.now c.args.placed c.nodes.ensures.post_order c.in_ok-tree.tree c.in_ok-tree.ensures.tree
+pub measure_with-requires-clause-pins : goal.measure_with-requires-clause-pins
+measure_with-requires-clause-pins c =
+    c.as_slice-2.ensures.value ∙ c.in_ok-pins.ensures ∙ ap (leaf_pins c.args.instance.now) c.nodes.ensures.nodes
+    ∙ leaf_pins_kept c.args.instance.now c.args.placed c.nodes.ensures.post_order c.in_ok-tree.tree c.in_ok-tree.ensures.tree
 
 pub measure_with-requires-clause-fits : goal.measure_with-requires-clause-fits
 measure_with-requires-clause-fits c =
