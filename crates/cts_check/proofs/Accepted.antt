@@ -1,5 +1,5 @@
 -- The report of a sound tree that can be printed has the verdict Yes.
-use Rattle.std.proofs.Common.{◌≡◌, ℕ, ◌-◌, ◌*◌, ◌^◌, ◌<◌, ◌≤◌, inl, inr, ◌⊎◌, List, [], ◌∷◌, ◌++◌, map, length, slice_get, Option, Some, None, refl, sym, ap₂, subst, ◌∙◌, arith}
+use Rattle.std.proofs.Common.{◌≡◌, ℕ, ◌+◌, ◌-◌, ◌*◌, ◌^◌, ◌<◌, ◌≤◌, inl, inr, ◌⊎◌, List, [], ◌∷◌, ◌++◌, map, length, slice_get, Option, Some, None, refl, sym, ap₂, subst, ◌∙◌, arith}
 use Rattle.std.specs.Prelude.{ℤ, pos, ◌*ℤ◌, ◌≤ℤ◌, unsigned_abs, sum_by, IfSome, IsSomeAnd}
 use Rattle.std.specs.List.{All, AllZip}
 use Rattle.std.specs.Option.{option_map_or, option_and_then}
@@ -26,6 +26,8 @@ use Rattle.cts_tree.specs.declared.nodes.NodeKind.TheVariants.{Leaf, Pair}
 use Rattle.cts_tree.specs.declared.nodes.TreeNode.{TreeNode}
 use Rattle.cts_tree.specs.Nodes.{tree_children, children_of, leaf_sink}
 use Rattle.cts_instance.specs.declared.parts.Parts.{Parts}
+use Rattle.cts_instance.specs.declared.version.Version.{Version}
+use Rattle.cts_instance.specs.declared.version.Version.TheVariants.{One, Two}
 use Rattle.cts_instance.specs.Validity.{IsSink, IsValid}
 use Rattle.cts_elmore.specs.declared.figures.NodeFigure.{NodeFigure}
 use Rattle.cts_elmore.specs.declared.figures.Figures.{Figures}
@@ -34,8 +36,9 @@ use Rattle.cts_elmore.specs.Fits.{FitsInstance, NamesSink, NamesBuffer}
 use Rattle.cts_elmore.specs.Limits.{IsPairOver, IsRootOver, IsOver, long_left, long_right, great_load, long_root, great_source_load}
 use Rattle.cts_elmore.specs.Loads.{load_below, source_load}
 use Rattle.cts_elmore.specs.Sound.{IsSound}
-use Rattle.cts_report.specs.Report.{IsOnSheet, IsPrintableNode, printed_point, printed_kind, printed_node, printed_nodes, printed_report, report_text}
-use Rattle.cts_report_reader.specs.Bounds.{IsPrintedCoordinate, IsPrintedPoint, IsPrintedPlace, IsPrintedKind, IsPrintedNode, IsReport, children_of_kind, printed_children}
+use Rattle.cts_report.specs.Report.{IsOnSheet, IsPrintableNode, printed_point, printed_kind, printed_arrival, printed_arrivals, printed_node, printed_nodes, printed_report, report_text}
+use Rattle.cts_report_reader.specs.Bounds.{IsPrintedCoordinate, IsPrintedPoint, IsPrintedPlace, IsPrintedKind, IsArrival, AreArrivals, IsPrintedNode, IsReport, children_of_kind, printed_children}
+use Rattle.cts_report_reader.specs.Forms.{form_of, tells_arrival}
 use Rattle.cts_check.specs.Verdict.{IsRight}
 use Rattle.cts_check.proofs.Retold.{length-printed}
 use Rattle.cts_check.proofs.Verdicts.{figure_each}
@@ -101,6 +104,19 @@ sum_most (n ∷ ns) h =
       sum_most ns (All-tail (λ (m : TreeNode). m.wire ≤ max_length) n ns h),
     )
 
+-- arrivals of such a tree, where a report of this version tells them
+arrival_fits : (version : Version) (k : NodeKind) (residue arrival : ℕ) → arrival ≤ max_delay
+    → IsArrival (tells_arrival version (printed_kind k residue)) (printed_arrival version k arrival)
+arrival_fits One (Leaf id s) residue arrival within = tt
+arrival_fits One (Pair left right buffer) residue arrival within = tt
+arrival_fits Two (Leaf id s) residue arrival within = omega (arith, within)
+arrival_fits Two (Pair left right buffer) residue arrival within = tt
+
+arrivals_fit : (version : Version) (greatest least : ℕ) → greatest ≤ max_delay → least ≤ max_delay
+    → AreArrivals version (printed_arrivals version greatest least)
+arrivals_fit One greatest least greatest_within least_within = tt
+arrivals_fit Two greatest least greatest_within least_within = (omega (arith, greatest_within), omega (arith, least_within))
+
 -- What is asked of a node of such a tree beside its figures.
 abbrev pub Stands : Die → TreeNode → Type 0
 Stands die n = IsInDie die (point_of n.place) × All (IsInDie die) n.route.corners
@@ -144,19 +160,20 @@ module _ (i : Parts) (valid : IsValid i) where
       by : (o : Option Sink) → slice_get i.sinks s ≡ o → IsSomeAnd o (λ (named : Sink). named.id ≡ id) → id ≤ 999999999
       by None e named = absurd named
       by (Some q) e named =
-          let at : IsSink i.die q = subst (IsSink i.die) (get_or_from_slice_get i.sinks s q q e) (valid.sinks s q (slice_get_within i.sinks s q e)) in
+          let at : IsSink i.version i.die q = subst (IsSink i.version i.die) (get_or_from_slice_get i.sinks s q q e) (valid.sinks s q (slice_get_within i.sinks s q e)) in
           omega (arith, at.id, named)
   kind (Pair left right None) residue names buffer small = (tt, omega (arith, small))
   kind (Pair left right (Some index)) residue names buffer small = (buffer, omega (arith, small))
 
   node : (n : TreeNode) (f : NodeFigure) → NamesSink i.sinks n.kind → NamesBuffer i.params.library n.kind → Stands i.die n
       → length n.route.corners ≤ 65536 → n.wire ≤ max_length → f.below ≤ max_load → IsFigureInRange f
-      → IsPrintedNode (length i.params.library) (printed_node n f)
+      → IsPrintedNode (form_of i) (printed_node i.version n f)
   node n f names buffer stands few wire below range = record {
     kind = kind n.kind f.residue names buffer range.residue_within;
     place = place n.place (stands.0);
     load = omega (arith, below);
     delay = omega (arith, range.delay_within);
+    arrival = arrival_fits i.version n.kind f.residue (f.delay + 2 * f.offset) range.arrival_within;
     slew = omega (arith, range.stage_within);
     wire = omega (arith, wire);
     few = omega (arith, length-map n.route.corners printed_point, few);
@@ -167,12 +184,12 @@ module _ (i : Parts) (valid : IsValid i) where
       → All (λ (n : TreeNode). NamesBuffer i.params.library n.kind) ns → All (Stands i.die) ns
       → All (λ (n : TreeNode). length n.route.corners ≤ 65536) ns → All (λ (n : TreeNode). n.wire ≤ max_length) ns
       → All (λ (f : NodeFigure). f.below ≤ max_load) fs → All IsFigureInRange fs
-      → All (IsPrintedNode (length i.params.library)) (printed_nodes ns fs)
+      → All (IsPrintedNode (form_of i)) (printed_nodes i.version ns fs)
   unfolding printed_nodes
-  nodes [] fs names buffers stands few wires below range = All-nil (IsPrintedNode (length i.params.library))
-  nodes (n ∷ ns) [] names buffers stands few wires below range = All-nil (IsPrintedNode (length i.params.library))
+  nodes [] fs names buffers stands few wires below range = All-nil (IsPrintedNode (form_of i))
+  nodes (n ∷ ns) [] names buffers stands few wires below range = All-nil (IsPrintedNode (form_of i))
   nodes (n ∷ ns) (f ∷ fs) names buffers stands few wires below range =
-      All-cons (IsPrintedNode (length i.params.library)) (printed_node n f) (printed_nodes ns fs)
+      All-cons (IsPrintedNode (form_of i)) (printed_node i.version n f) (printed_nodes i.version ns fs)
       (node n f (All-head (λ (m : TreeNode). NamesSink i.sinks m.kind) n ns names) (All-head (λ (m : TreeNode). NamesBuffer i.params.library m.kind) n ns buffers)
       (All-head (Stands i.die) n ns stands) (All-head (λ (m : TreeNode). length m.route.corners ≤ 65536) n ns few)
       (All-head (λ (m : TreeNode). m.wire ≤ max_length) n ns wires) (All-head (λ (g : NodeFigure). g.below ≤ max_load) f fs below)
@@ -207,7 +224,7 @@ module _ (i : Parts) (valid : IsValid i) where
           All-cons IsOnSheet p ps (on_sheet p (All-head (IsInDie i.die) p ps hs)) (sheets ps (All-tail (IsInDie i.die) p ps hs))
 
   kids_printed : (ns : List TreeNode) (fs : List NodeFigure) → length fs ≡ length ns
-      → map printed_children (printed_nodes ns fs) ≡ map tree_children ns
+      → map printed_children (printed_nodes i.version ns fs) ≡ map tree_children ns
   unfolding printed_nodes
   kids_printed [] fs long = refl
   kids_printed (n ∷ ns) [] long = absurd (omega (arith, long))
@@ -234,7 +251,7 @@ module _ (i : Parts) (valid : IsValid i) where
   -- the report of a sound tree that stands in the die and has few corners
   pub accepted : (tree : List TreeNode) → IsPostOrder (map tree_children tree) → FitsInstance i tree → IsSound i tree
       → All (Stands i.die) tree → All (λ (n : TreeNode). length n.route.corners ≤ 65536) tree
-      → (figures : Figures) → AreFigures i tree figures → AreFiguresInRange figures → IsRight i (report_text tree figures)
+      → (figures : Figures) → AreFigures i tree figures → AreFiguresInRange figures → IsRight i (report_text i.version tree figures)
   unfolding root_of
   accepted tree ok fits sound stands few figures are range =
       let w : Whole tree_children tree = whole_of tree_children tree ok in
@@ -257,15 +274,16 @@ module _ (i : Parts) (valid : IsValid i) where
       let source : source_load i w.tree ≤ max_load = at_most (source_load i w.tree) max_load (λ more. root_fine (great_source_load more)) in
       let total : sum_by (λ (n : TreeNode). n.wire) (labels w.tree) ≤ length tree * 2 ^ 31 =
       subst (λ (ns : List TreeNode). sum_by (λ (n : TreeNode). n.wire) ns ≤ length tree * 2 ^ 31) (sym w.labels_are) (sum_most tree wires) in
-      let report : IsReport (length i.params.library) (printed_report tree figures) = record {
+      let report : IsReport (form_of i) (printed_report i.version tree figures) = record {
         post_order = subst IsPostOrder (sym (kids_printed tree figures.nodes long)) ok;
-        few = omega (arith, length-printed tree figures.nodes long, fits.few);
+        few = omega (arith, length-printed i.version tree figures.nodes long, fits.few);
         each = nodes tree figures.nodes fits.sinks fits.buffers stands few wires loads range.each_in_range;
         totals = record {
           source_load = omega (arith, of_tree.source_load_is, source);
           wire_total = omega (arith, of_tree.wire_total, total, fits.few);
           greatest = omega (arith, range.greatest_within);
           least = omega (arith, range.least_within);
+          arrivals = arrivals_fit i.version figures.arrival_greatest figures.arrival_least range.arrival_greatest_within range.arrival_least_within;
           skew = omega (arith, range.skew_within);
           bound = omega (arith, range.bound_within);
         };

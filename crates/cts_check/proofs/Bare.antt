@@ -15,9 +15,9 @@ use Rattle.cts_postorder.specs.Occurrence.{Occurrence, occurrence, occurrences, 
 use Rattle.cts_tree.specs.declared.nodes.TreeNode.{TreeNode}
 use Rattle.cts_tree.specs.Nodes.{tree_children}
 use Rattle.cts_instance.specs.declared.parts.Parts.{Parts}
-use Rattle.cts_elmore.specs.Loads.{buffer_at, is_buffered, wire_load, load_below, load_seen, source_load}
+use Rattle.cts_elmore.specs.Loads.{buffer_at, is_buffered, wire_load, load_below, load_seen, offset_at, source_load}
 use Rattle.cts_elmore.specs.Delays.{wire_delay, buffer_delay, output_delay, source_delay, delay_at, stage_at}
-use Rattle.cts_elmore.specs.Skew.{greatest_below, residue, bound, leaf_delays, skew, greatest_of, least_of}
+use Rattle.cts_elmore.specs.Skew.{greatest_below, residue, bound, leaf_delays, arrival_at, leaf_arrivals, skew, greatest_of, least_of}
 use Rattle.cts_elmore.specs.Sound.{upper_end}
 use Rattle.cts_elmore.proofs.Paths.{load_at_pair, stage_at_part}
 use Rattle.cts_elmore.proofs.Below.{greatest_at_tip, greatest_at_pair, bound_at_tip, bound_at_pair}
@@ -110,6 +110,11 @@ module _ (i : Parts) where
   unfolding bare_tree
   buffer_at-bare (tip n) = refl
   buffer_at-bare (fork l r n) = refl
+
+  pub offset_at-bare : (t : BinaryTree TreeNode) → offset_at i (bare_tree t) ≡ offset_at i t
+  unfolding bare_tree
+  offset_at-bare (tip n) = refl
+  offset_at-bare (fork l r n) = refl
 
   pub is_tip-bare : (t : BinaryTree TreeNode) → is_tip (bare_tree t) ≡ is_tip t
   unfolding bare_tree
@@ -211,9 +216,18 @@ module _ (i : Parts) where
         ∙ map-map (delay_at i (bare_tree root)) bare_occurrence (tips [] root)
         ∙ map_each (λ o. delay_at i (bare_tree root) (bare_occurrence o)) (delay_at i root) delay_at-bare (tips [] root)
 
+    arrival_at-bare : (o : Occurrence TreeNode) → arrival_at i (bare_tree root) (bare_occurrence o) ≡ arrival_at i root o
+    arrival_at-bare o = ap₂ (λ delay offset. delay + 2 * offset) (delay_at-bare o) (offset_at-bare o.here)
+
+    pub leaf_arrivals-bare : leaf_arrivals i (bare_tree root) ≡ leaf_arrivals i root
+    leaf_arrivals-bare =
+        ap (map (arrival_at i (bare_tree root))) (tips-bare [] root)
+        ∙ map-map (arrival_at i (bare_tree root)) bare_occurrence (tips [] root)
+        ∙ map_each (λ o. arrival_at i (bare_tree root) (bare_occurrence o)) (arrival_at i root) arrival_at-bare (tips [] root)
+
     pub skew-bare : skew i (bare_tree root) ≡ skew i root
     unfolding skew
-    skew-bare = ap (λ ds. greatest_of ds - least_of ds) leaf_delays-bare
+    skew-bare = ap (λ arrivals. greatest_of arrivals - least_of arrivals) leaf_arrivals-bare
 
   pub upper_end-bare : (above : List (BinaryTree TreeNode)) → upper_end i (map bare_tree above) ≡ upper_end i above
   upper_end-bare [] = refl

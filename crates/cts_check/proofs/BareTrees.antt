@@ -22,7 +22,7 @@ use Rattle.cts_elmore.specs.Delays.{stage_at}
 use Rattle.cts_elmore.specs.Skew.{greatest_of, least_of}
 use Rattle.cts_elmore.specs.Figures.{IsNodeFigure, AreFiguresOf, AreFigures}
 use Rattle.cts_elmore.specs.Limits.{MeetsLoadLimit, MeetsSlewLimit}
-use Rattle.cts_check.proofs.Bare.{bare, bare_tree, bare_occurrence, labels-bare, subtrees-bare, occurrences-bare, numbered-bare, buffer_at-bare, is_tip-bare, load_below-bare, source_load-bare, residue-bare, bound-bare, delay_at-bare, stage_at-bare, leaf_delays-bare, skew-bare}
+use Rattle.cts_check.proofs.Bare.{bare, bare_tree, bare_occurrence, labels-bare, subtrees-bare, occurrences-bare, numbered-bare, buffer_at-bare, offset_at-bare, is_tip-bare, load_below-bare, source_load-bare, residue-bare, bound-bare, delay_at-bare, stage_at-bare, leaf_delays-bare, leaf_arrivals-bare, skew-bare}
 
 pub all_of_map : {A B : Type 0} (P : B → Type 0) (f : A → B) (xs : List A) → All (λ x. P (f x)) xs → All P (map f xs)
 all_of_map P f [] h = All-nil P
@@ -83,6 +83,7 @@ module _ (i : Parts) (root : BinaryTree TreeNode) where
       residue_is = h.0.residue_is ∙ sym (residue-bare i o.here);
       delay = h.0.delay ∙ sym (delay_at-bare i root o);
       stage = h.0.stage ∙ sym (stage_at-bare i root o);
+      offset = h.0.offset ∙ sym (offset_at-bare i o.here);
     },
     node_figures os fs (h.1),
   )
@@ -149,6 +150,8 @@ module _ (i : Parts) (root : BinaryTree TreeNode) where
     wire_total = h.wire_total ∙ sym (wires-bare (labels root)) ∙ ap (sum_by (λ (n : TreeNode). n.wire)) (sym (labels-bare root));
     greatest = h.greatest ∙ ap greatest_of (sym (leaf_delays-bare i root));
     least = h.least ∙ ap least_of (sym (leaf_delays-bare i root));
+    arrival_greatest = h.arrival_greatest ∙ ap greatest_of (sym (leaf_arrivals-bare i root));
+    arrival_least = h.arrival_least ∙ ap least_of (sym (leaf_arrivals-bare i root));
     skew_is = h.skew_is ∙ sym (skew-bare i root);
     bound_is = h.bound_is ∙ sym (bound-bare i root);
     load_met = ((λ met. load_to_bare (h.load_met.0 met)), (λ met. h.load_met.1 (load_from_bare met)));

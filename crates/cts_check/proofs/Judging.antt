@@ -12,6 +12,7 @@ use Rattle.cts_tree.specs.Nodes.{tree_children}
 use Rattle.cts_instance.specs.declared.parts.Parts.{Parts}
 use Rattle.cts_elmore.specs.Limits.{IsOver, IsFirstOver}
 use Rattle.cts_report.specs.Printed.{PrintedPoint, PrintedKind, sink_leaf, pair_node, PrintedNode}
+use Rattle.cts_report_reader.specs.declared.form.Form.{Form}
 use Rattle.cts_report_reader.specs.declared.node.ReportNode.{ReportNode}
 use Rattle.cts_report_reader.specs.Bounds.{IsPrintedPoint, IsPrintedNode}
 use Rattle.cts_report_reader.specs.Nodes.{IsSeenNode, seen_node, seen_nodes}
@@ -24,11 +25,11 @@ use Rattle.cts_check.specs.Told.{told_point, told_kind, told_node, told_nodes}
 use Rattle.cts_check.proofs.BareTrees.{all_before_map}
 use Rattle.cts_check.proofs.Meeting.{if_there}
 
-pub tellable : (buffers : ℕ) (nodes : List ReportNode) → All (IsPrintedNode buffers) (seen_nodes nodes) → All IsSeenNode nodes
+pub tellable : (form : Form) (nodes : List ReportNode) → All (IsPrintedNode form) (seen_nodes nodes) → All IsSeenNode nodes
     → All IsTellable nodes
-tellable buffers nodes printed seen k d within = record {
+tellable form nodes printed seen k d within = record {
   seen = seen k d within;
-  place = (all_before_map (IsPrintedNode buffers) seen_node nodes printed k d within).place;
+  place = (all_before_map (IsPrintedNode form) seen_node nodes printed k d within).place;
 }
 
 module _ (sinks : List Sink) where
@@ -50,8 +51,8 @@ module _ (sinks : List Sink) where
         y = (grind (arith, ints), grind (arith, ints, at.y.inside));
       }) (corners_seen ps (All-tail IsPrintedPoint p ps h))
 
-  module _ (buffers : ℕ) where
-    in_range : (p : PrintedNode) → IsPrintedNode buffers p → IsInRange (told_node sinks p)
+  module _ (form : Form) where
+    in_range : (p : PrintedNode) → IsPrintedNode form p → IsInRange (told_node sinks p)
     in_range p h = record {
       place = record {
         x = (grind (arith, ints), grind (arith, ints, h.place.point.x.inside));
@@ -62,11 +63,11 @@ module _ (sinks : List Sink) where
       wire = omega (arith, h.wire);
     }
 
-    pub told_in_range : (ps : List PrintedNode) → All (IsPrintedNode buffers) ps → All IsInRange (told_nodes sinks ps)
+    pub told_in_range : (ps : List PrintedNode) → All (IsPrintedNode form) ps → All IsInRange (told_nodes sinks ps)
     told_in_range [] h = All-nil IsInRange
     told_in_range (p ∷ ps) h =
-        All-cons IsInRange (told_node sinks p) (told_nodes sinks ps) (in_range p (All-head (IsPrintedNode buffers) p ps h))
-        (told_in_range ps (All-tail (IsPrintedNode buffers) p ps h))
+        All-cons IsInRange (told_node sinks p) (told_nodes sinks ps) (in_range p (All-head (IsPrintedNode form) p ps h))
+        (told_in_range ps (All-tail (IsPrintedNode form) p ps h))
 
 -- the node that is over the limits is the first at which their rule is broken
 pub over_first : (i : Parts) (nodes : List TreeNode) (o : Option ℕ) → IsFirstOver i nodes o → IsFirstFailing (MeetsLimit i nodes) o

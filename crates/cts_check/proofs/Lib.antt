@@ -21,3 +21,4 @@ pub mod FirstFailing
 pub mod LegalSteps
 pub mod NodesAt
 pub mod UpperEnds
+pub mod Lengths

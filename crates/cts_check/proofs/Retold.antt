@@ -13,10 +13,12 @@ use Rattle.cts_tree.specs.declared.nodes.NodeKind.{NodeKind}
 use Rattle.cts_tree.specs.declared.nodes.NodeKind.TheVariants.{Leaf, Pair}
 use Rattle.cts_tree.specs.declared.nodes.TreeNode.{TreeNode}
 use Rattle.cts_tree.specs.Nodes.{tree_children, children_of}
+use Rattle.cts_instance.specs.declared.version.Version.{Version}
 use Rattle.cts_elmore.specs.declared.figures.NodeFigure.{NodeFigure}
 use Rattle.cts_elmore.specs.Fits.{NamesSink}
 use Rattle.cts_report.specs.Printed.{PrintedPoint, PrintedKind, sink_leaf, pair_node, PrintedNode}
 use Rattle.cts_report.specs.Report.{IsOnSheet, IsPrintableNode, printed_point, printed_kind, printed_node, printed_nodes}
+use Rattle.cts_report_reader.specs.declared.form.Form.{Form}
 use Rattle.cts_report_reader.specs.Bounds.{IsPrintedNode, children_of_kind, printed_children}
 use Rattle.cts_check.specs.Told.{told_point, told_place, told_kind, told_node, told_nodes, place_of_id}
 use Rattle.cts_check.proofs.Ids.{place_found}
@@ -56,9 +58,9 @@ module _ (sinks : List Sink) (distinct : HasDistinctIds (λ (s : Sink). s.id) si
       by (Some sink) found named = ap (λ k. Leaf id k) (ap (place_of_id sinks) (sym named) ∙ place_found sinks distinct s sink found)
   kind_again (Pair left right buffer) residue names = refl
 
-  node_again : (node : TreeNode) (figure : NodeFigure) → NamesSink sinks node.kind → IsPrintableNode node
-      → told_node sinks (printed_node node figure) ≡ bare node
-  node_again node figure names h =
+  node_again : (version : Version) (node : TreeNode) (figure : NodeFigure) → NamesSink sinks node.kind → IsPrintableNode node
+      → told_node sinks (printed_node version node figure) ≡ bare node
+  node_again version node figure names h =
       let made : NodeKind → Spot → List Half → TreeNode =
       λ k p cs. record { kind = k; place = p; wire = node.wire; route = record { corners = cs; length = 0 } } in
       ap (λ k. made k (told_place (printed_point (point_of node.place))) (map told_point (map printed_point node.route.corners)))
@@ -67,30 +69,31 @@ module _ (sinks : List Sink) (distinct : HasDistinctIds (λ (s : Sink). s.id) si
       ∙ ap (λ cs. made node.kind node.place cs) (corners_again node.route.corners h.corners)
 
   -- the tree that is told by the report of a tree is that tree
-  pub told_again : (nodes : List TreeNode) (figures : List NodeFigure) → length figures ≡ length nodes
+  pub told_again : (version : Version) (nodes : List TreeNode) (figures : List NodeFigure) → length figures ≡ length nodes
       → All (λ (n : TreeNode). NamesSink sinks n.kind) nodes → All IsPrintableNode nodes
-      → told_nodes sinks (printed_nodes nodes figures) ≡ map bare nodes
+      → told_nodes sinks (printed_nodes version nodes figures) ≡ map bare nodes
   unfolding printed_nodes
-  told_again [] figures long names h = refl
-  told_again (n ∷ nodes) [] long names h = absurd (omega (arith, long))
-  told_again (n ∷ nodes) (f ∷ figures) long names h =
-      ap₂ (λ m ms. m ∷ ms) (node_again n f (All-head (λ (m : TreeNode). NamesSink sinks m.kind) n nodes names) (All-head IsPrintableNode n nodes h))
-      (told_again nodes figures (omega (arith, long)) (All-tail (λ (m : TreeNode). NamesSink sinks m.kind) n nodes names)
+  told_again version [] figures long names h = refl
+  told_again version (n ∷ nodes) [] long names h = absurd (omega (arith, long))
+  told_again version (n ∷ nodes) (f ∷ figures) long names h =
+      ap₂ (λ m ms. m ∷ ms) (node_again version n f (All-head (λ (m : TreeNode). NamesSink sinks m.kind) n nodes names) (All-head IsPrintableNode n nodes h))
+      (told_again version nodes figures (omega (arith, long)) (All-tail (λ (m : TreeNode). NamesSink sinks m.kind) n nodes names)
       (All-tail IsPrintableNode n nodes h))
 
 -- what is printed does not show the lengths of routes
-pub printed-bare : (nodes : List TreeNode) (figures : List NodeFigure) → printed_nodes (map bare nodes) figures ≡ printed_nodes nodes figures
+pub printed-bare : (version : Version) (nodes : List TreeNode) (figures : List NodeFigure)
+    → printed_nodes version (map bare nodes) figures ≡ printed_nodes version nodes figures
 unfolding printed_nodes
-printed-bare [] figures = refl
-printed-bare (n ∷ nodes) [] = refl
-printed-bare (n ∷ nodes) (f ∷ figures) = ap (λ ps. printed_node n f ∷ ps) (printed-bare nodes figures)
+printed-bare version [] figures = refl
+printed-bare version (n ∷ nodes) [] = refl
+printed-bare version (n ∷ nodes) (f ∷ figures) = ap (λ ps. printed_node version n f ∷ ps) (printed-bare version nodes figures)
 
-pub length-printed : (nodes : List TreeNode) (figures : List NodeFigure) → length figures ≡ length nodes
-    → length (printed_nodes nodes figures) ≡ length nodes
+pub length-printed : (version : Version) (nodes : List TreeNode) (figures : List NodeFigure) → length figures ≡ length nodes
+    → length (printed_nodes version nodes figures) ≡ length nodes
 unfolding printed_nodes
-length-printed [] figures long = refl
-length-printed (n ∷ nodes) [] long = absurd (omega (arith, long))
-length-printed (n ∷ nodes) (f ∷ figures) long = omega (arith, length-printed nodes figures (omega (arith, long)))
+length-printed version [] figures long = refl
+length-printed version (n ∷ nodes) [] long = absurd (omega (arith, long))
+length-printed version (n ∷ nodes) (f ∷ figures) long = omega (arith, length-printed version nodes figures (omega (arith, long)))
 
 -- the children that are told are those that are printed
 pub told_children : (sinks : List Sink) (printed : List PrintedNode)
@@ -103,8 +106,8 @@ told_children sinks (p ∷ printed) = ap₂ (λ c cs. c ∷ cs) (of_kind p.kind)
     of_kind (pair_node left right buffer residue) = refl
 
 -- a told tree can be printed
-module _ (sinks : List Sink) (buffers : ℕ) where
-  told_printable : (p : PrintedNode) → IsPrintedNode buffers p → IsPrintableNode (told_node sinks p)
+module _ (sinks : List Sink) (form : Form) where
+  told_printable : (p : PrintedNode) → IsPrintedNode form p → IsPrintableNode (told_node sinks p)
   told_printable p h = record {
     in_range = record {
       u = record { low = grind (arith, ints); high = grind (arith, ints, h.place.point.x.inside, h.place.point.y.inside) };
@@ -118,8 +121,8 @@ module _ (sinks : List Sink) (buffers : ℕ) where
       on_sheet [] = All-nil IsOnSheet
       on_sheet (q ∷ qs) = All-cons IsOnSheet (told_point q) (map told_point qs) (record { x = grind (arith, ints); y = grind (arith, ints) }) (on_sheet qs)
 
-  pub told_nodes_printable : (ps : List PrintedNode) → All (IsPrintedNode buffers) ps → All IsPrintableNode (told_nodes sinks ps)
+  pub told_nodes_printable : (ps : List PrintedNode) → All (IsPrintedNode form) ps → All IsPrintableNode (told_nodes sinks ps)
   told_nodes_printable [] h = All-nil IsPrintableNode
   told_nodes_printable (p ∷ ps) h =
-      All-cons IsPrintableNode (told_node sinks p) (told_nodes sinks ps) (told_printable p (All-head (IsPrintedNode buffers) p ps h))
-      (told_nodes_printable ps (All-tail (IsPrintedNode buffers) p ps h))
+      All-cons IsPrintableNode (told_node sinks p) (told_nodes sinks ps) (told_printable p (All-head (IsPrintedNode form) p ps h))
+      (told_nodes_printable ps (All-tail (IsPrintedNode form) p ps h))

@@ -8,9 +8,9 @@ use Rattle.cts_instance.specs.declared.parts.Parts.{Parts}
 use Rattle.cts_instance.specs.Validity.{IsSink, IsValid}
 
 module _ (i : Parts) (valid : IsValid i) (s : ℕ) (sink : Sink) (found : slice_get i.sinks s ≡ Some sink) where
-  is_sink : IsSink i.die sink
+  is_sink : IsSink i.version i.die sink
   is_sink =
-      subst (IsSink i.die) (get_or_from_slice_get i.sinks s sink sink found) (valid.sinks s sink (slice_get_within i.sinks s sink found))
+      subst (IsSink i.version i.die) (get_or_from_slice_get i.sinks s sink sink found) (valid.sinks s sink (slice_get_within i.sinks s sink found))
 
   pub x_in_range : IsCoordinate sink.x
   x_in_range = record {

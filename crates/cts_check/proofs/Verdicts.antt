@@ -23,6 +23,7 @@ use Rattle.cts_report.specs.Lines.{report_lines}
 use Rattle.cts_report.specs.Printed.{PrintedKind, sink_leaf, pair_node, PrintedNode, Printed}
 use Rattle.cts_report.specs.Report.{printed_nodes, printed_totals, printed_report}
 use Rattle.cts_report_reader.specs.Bounds.{IsPrintedKind, IsPrintedNode, IsReport}
+use Rattle.cts_report_reader.specs.Forms.{form_of}
 use Rattle.cts_report_reader.specs.Whole.{report_at}
 use Rattle.cts_report_reader.proofs.ReportPieces.{report_piece}
 use Rattle.cts_report_reader.proofs.Wholes.{pieces_are_unique, first_line_is_one}
@@ -77,7 +78,7 @@ module _ (i : Parts) (valid : IsValid i) where
       zip_length (IsNodeFigure i h.root) (occurrences [] h.root) figures.nodes h.figures_of.each_node
       ∙ ap (λ o. length (option_map_or (occurrences []) o [])) (sym h.root_is) ∙ length-occurrences_of tree_children nodes ok
 
-  module _ (printed : Printed) (report : IsReport (length i.params.library) printed) where
+  module _ (printed : Printed) (report : IsReport (form_of i) printed) where
     abbrev tree : List TreeNode
     tree = told_nodes i.sinks printed.nodes
 
@@ -97,7 +98,7 @@ module _ (i : Parts) (valid : IsValid i) where
             subst (λ o. IsSomeAnd o (λ (named : Sink). named.id ≡ id)) (sym found) at.id_is
         by (pair_node left right buffer residue) node new = tt
 
-    names_buffer : (p : PrintedNode) → IsPrintedNode (length i.params.library) p → NamesBuffer i.params.library (told_kind i.sinks p.kind)
+    names_buffer : (p : PrintedNode) → IsPrintedNode (form_of i) p → NamesBuffer i.params.library (told_kind i.sinks p.kind)
     names_buffer p fine = by p.kind fine.kind
       where
         of_buffer : (left right : ℕ) (buffer : Option ℕ) → IfSome buffer (λ index. index < length i.params.library)
@@ -113,14 +114,14 @@ module _ (i : Parts) (valid : IsValid i) where
     told_fits met = record {
       few = omega (arith, length-map printed.nodes (told_node i.sinks), report.few);
       sinks = λ k d within.
-          let e : PrintedNode = record { kind = sink_leaf 0; place = record { x = 0; y = 0 }; load = 0; delay = 0; slew = 0; wire = 0; corners = [] } in
+          let e : PrintedNode = record { kind = sink_leaf 0; place = record { x = 0; y = 0 }; load = 0; delay = 0; arrival = None; slew = 0; wire = 0; corners = [] } in
           let inside : k < length printed.nodes = omega (arith, within, length-map printed.nodes (told_node i.sinks)) in
           let at : get_or tree k d ≡ told_node i.sinks (get_or printed.nodes k e) = get_or-map (told_node i.sinks) printed.nodes k e d inside in
           subst (λ (n : TreeNode). NamesSink i.sinks n.kind) (sym at)
           (names_sink (get_or printed.nodes k e) (take k tree)
           (subst (MeetsSink i.sinks (take k tree)) at (subst (λ T. T) (rule_at i tree k d within) (met k))));
       buffers = λ k d within.
-          let e : PrintedNode = record { kind = sink_leaf 0; place = record { x = 0; y = 0 }; load = 0; delay = 0; slew = 0; wire = 0; corners = [] } in
+          let e : PrintedNode = record { kind = sink_leaf 0; place = record { x = 0; y = 0 }; load = 0; delay = 0; arrival = None; slew = 0; wire = 0; corners = [] } in
           let inside : k < length printed.nodes = omega (arith, within, length-map printed.nodes (told_node i.sinks)) in
           let at : get_or tree k d ≡ told_node i.sinks (get_or printed.nodes k e) = get_or-map (told_node i.sinks) printed.nodes k e d inside in
           subst (λ (n : TreeNode). NamesBuffer i.params.library n.kind) (sym at)
@@ -128,15 +129,15 @@ module _ (i : Parts) (valid : IsValid i) where
     }
 
     -- what is printed is the report of the tree
-    reported : (h : MeetsRules i printed) → printed_report tree h.figures ≡ printed
+    reported : (h : MeetsRules i printed) → printed_report i.version tree h.figures ≡ printed
     reported h =
-        let long : length (printed_nodes tree h.figures.nodes) ≡ length printed.nodes =
-        length-printed tree h.figures.nodes (figure_each tree post_order h.figures h.are_figures) ∙ length-map printed.nodes (told_node i.sinks) in
-        let nodes : printed_nodes tree h.figures.nodes ≡ printed.nodes =
-        same_elements (printed.totals ≡ printed_totals h.figures) printed.nodes (printed_nodes tree h.figures.nodes) long
+        let long : length (printed_nodes i.version tree h.figures.nodes) ≡ length printed.nodes =
+        length-printed i.version tree h.figures.nodes (figure_each tree post_order h.figures h.are_figures) ∙ length-map printed.nodes (told_node i.sinks) in
+        let nodes : printed_nodes i.version tree h.figures.nodes ≡ printed.nodes =
+        same_elements (printed.totals ≡ printed_totals i.version h.figures) printed.nodes (printed_nodes i.version tree h.figures.nodes) long
         (λ k. h.meets Figure k h.figures h.are_figures) in
-        let totals : printed.totals ≡ printed_totals h.figures =
-        subst (λ o. MatchOption o (printed.totals ≡ printed_totals h.figures) (λ node. slice_get (printed_nodes tree h.figures.nodes) (length printed.nodes) ≡ Some node))
+        let totals : printed.totals ≡ printed_totals i.version h.figures =
+        subst (λ o. MatchOption o (printed.totals ≡ printed_totals i.version h.figures) (λ node. slice_get (printed_nodes i.version tree h.figures.nodes) (length printed.nodes) ≡ Some node))
         (slice_get_past printed.nodes (length printed.nodes) (omega arith)) (h.meets Figure (length printed.nodes) h.figures h.are_figures) in
         ap₂ (λ ns ts. let p : Printed = record { nodes = ns; totals = ts } in p) nodes (sym totals)
 
@@ -145,7 +146,7 @@ module _ (i : Parts) (valid : IsValid i) where
       tree = tree;
       post_order = post_order;
       fits = told_fits (h.meets Sinks);
-      on_sheet = told_nodes_printable i.sinks (length i.params.library) printed.nodes report.each;
+      on_sheet = told_nodes_printable i.sinks (form_of i) printed.nodes report.each;
       sound = meets_sound i tree (meets_all i printed h.meets);
       figures = h.figures;
       are_figures = h.are_figures;
@@ -164,39 +165,38 @@ module _ (i : Parts) (valid : IsValid i) where
 
   same_report : (bytes : List ℕ) (p q : Printed) → Spells i bytes p → Spells i bytes q → p ≡ q
   same_report bytes p q =
-      pieces_are_unique (IsReport (length i.params.library)) report_lines (report_at (length i.params.library))
-      (report_piece (length i.params.library) few_buffers) bytes p q
+      pieces_are_unique (IsReport (form_of i)) (report_lines i.version) (report_at (form_of i)) (report_piece (form_of i) few_buffers) bytes p q
 
   -- the report of a sound tree breaks no rule
-  pub right_meets : (bytes : List ℕ) (h : IsRight i bytes) (rule : Rule) (k : ℕ) → Meets i (printed_report h.tree h.figures) rule k
+  pub right_meets : (bytes : List ℕ) (h : IsRight i bytes) (rule : Rule) (k : ℕ) → Meets i (printed_report i.version h.tree h.figures) rule k
   right_meets bytes h rule k = by rule
     where
       long : length h.figures.nodes ≡ length h.tree
       long = figure_each h.tree h.post_order h.figures h.are_figures
 
-      again : told_nodes i.sinks (printed_nodes h.tree h.figures.nodes) ≡ map bare h.tree
-      again = told_again i.sinks valid.ids h.tree h.figures.nodes long h.fits.sinks h.on_sheet
+      again : told_nodes i.sinks (printed_nodes i.version h.tree h.figures.nodes) ≡ map bare h.tree
+      again = told_again i.sinks valid.ids i.version h.tree h.figures.nodes long h.fits.sinks h.on_sheet
 
-      all : MeetsAll i (told_nodes i.sinks (printed_nodes h.tree h.figures.nodes))
+      all : MeetsAll i (told_nodes i.sinks (printed_nodes i.version h.tree h.figures.nodes))
       all = subst (MeetsAll i) (sym again) (sound_meets i (map bare h.tree) (sound-bare i h.tree h.post_order h.sound))
 
-      there : (ps : List PrintedNode) (j : ℕ) → MatchOption (slice_get ps j) (printed_totals h.figures ≡ printed_totals h.figures) (λ node. slice_get ps j ≡ Some node)
+      there : (ps : List PrintedNode) (j : ℕ) → MatchOption (slice_get ps j) (printed_totals i.version h.figures ≡ printed_totals i.version h.figures) (λ node. slice_get ps j ≡ Some node)
       there ps j = by_node (slice_get ps j)
         where
-          by_node : (o : Option PrintedNode) → MatchOption o (printed_totals h.figures ≡ printed_totals h.figures) (λ node. o ≡ Some node)
+          by_node : (o : Option PrintedNode) → MatchOption o (printed_totals i.version h.figures ≡ printed_totals i.version h.figures) (λ node. o ≡ Some node)
           by_node None = refl
           by_node (Some node) = refl
 
-      figure : MeetsFigure i (told_nodes i.sinks (printed_nodes h.tree h.figures.nodes)) (printed_report h.tree h.figures) k
-      figure = subst (λ nodes. MeetsFigure i nodes (printed_report h.tree h.figures) k) (sym again)
+      figure : MeetsFigure i (told_nodes i.sinks (printed_nodes i.version h.tree h.figures.nodes)) (printed_report i.version h.tree h.figures) k
+      figure = subst (λ nodes. MeetsFigure i nodes (printed_report i.version h.tree h.figures) k) (sym again)
           (λ figures are.
           let same : h.figures ≡ figures = figures_one i (map bare h.tree) h.figures figures (figures_bare i h.tree h.post_order h.figures h.are_figures) are in
-          subst (λ (f : Figures). MatchOption (slice_get (printed_nodes h.tree h.figures.nodes) k) (printed_totals h.figures ≡ printed_totals f)
-          (λ node. slice_get (printed_nodes (map bare h.tree) f.nodes) k ≡ Some node)) same
-          (subst (λ ps. MatchOption (slice_get (printed_nodes h.tree h.figures.nodes) k) (printed_totals h.figures ≡ printed_totals h.figures)
-          (λ node. slice_get ps k ≡ Some node)) (sym (printed-bare h.tree h.figures.nodes)) (there (printed_nodes h.tree h.figures.nodes) k)))
+          subst (λ (f : Figures). MatchOption (slice_get (printed_nodes i.version h.tree h.figures.nodes) k) (printed_totals i.version h.figures ≡ printed_totals i.version f)
+          (λ node. slice_get (printed_nodes i.version (map bare h.tree) f.nodes) k ≡ Some node)) same
+          (subst (λ ps. MatchOption (slice_get (printed_nodes i.version h.tree h.figures.nodes) k) (printed_totals i.version h.figures ≡ printed_totals i.version h.figures)
+          (λ node. slice_get ps k ≡ Some node)) (sym (printed-bare i.version h.tree h.figures.nodes)) (there (printed_nodes i.version h.tree h.figures.nodes) k)))
 
-      by : (r : Rule) → Meets i (printed_report h.tree h.figures) r k
+      by : (r : Rule) → Meets i (printed_report i.version h.tree h.figures) r k
       by Sinks = all.sinks k
       by Route = all.route k
       by Short = all.short k
@@ -207,7 +207,7 @@ module _ (i : Parts) (valid : IsValid i) where
   right_not_wrong : (bytes : List ℕ) (rule : Rule) (node : ℕ) → IsRight i bytes → IsWrong i bytes rule node → ⊥
   right_not_wrong bytes rule node h w =
       w.first.broken
-      (subst (λ p. Meets i p rule node) (same_report bytes (printed_report h.tree h.figures) w.printed h.spells w.spells) (right_meets bytes h rule node))
+      (subst (λ p. Meets i p rule node) (same_report bytes (printed_report i.version h.tree h.figures) w.printed h.spells w.spells) (right_meets bytes h rule node))
 
   -- a report breaks one rule first, at one number
   first_broken_one : (printed : Printed) (r s : Rule) (j k : ℕ) → IsFirstBroken i printed r j → IsFirstBroken i printed s k
@@ -226,11 +226,11 @@ module _ (i : Parts) (valid : IsValid i) where
 
   pub one_verdict : (bytes : List ℕ) (v w : Verdict) → IsVerdict i bytes v → IsVerdict i bytes w → v ≡ w
   one_verdict bytes Yes Yes h g = refl
-  one_verdict bytes Yes (NotText line) h g = absurd (g.none (printed_report h.tree h.figures) h.spells)
+  one_verdict bytes Yes (NotText line) h g = absurd (g.none (printed_report i.version h.tree h.figures) h.spells)
   one_verdict bytes Yes (Wrong rule node) h g = absurd (right_not_wrong bytes rule node h g)
-  one_verdict bytes (NotText line) Yes h g = absurd (h.none (printed_report g.tree g.figures) g.spells)
+  one_verdict bytes (NotText line) Yes h g = absurd (h.none (printed_report i.version g.tree g.figures) g.spells)
   one_verdict bytes (NotText line) (NotText other) h g =
-      ap NotText (first_line_is_one (IsReport (length i.params.library)) report_lines bytes line other h g)
+      ap NotText (first_line_is_one (IsReport (form_of i)) (report_lines i.version) bytes line other h g)
   one_verdict bytes (NotText line) (Wrong rule node) h g = absurd (h.none g.printed g.spells)
   one_verdict bytes (Wrong rule node) Yes h g = absurd (right_not_wrong bytes rule node g h)
   one_verdict bytes (Wrong rule node) (NotText line) h g = absurd (g.none h.printed h.spells)

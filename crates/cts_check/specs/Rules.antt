@@ -81,8 +81,8 @@ module _ (i : Parts) (nodes : List TreeNode) where
 abbrev pub MeetsFigure : Parts → List TreeNode → Printed → ℕ → Type 0
 MeetsFigure i nodes printed k =
     (figures : Figures) → AreFigures i nodes figures
-    → MatchOption (slice_get printed.nodes k) (printed.totals ≡ printed_totals figures)
-    (λ node. slice_get (printed_nodes nodes figures.nodes) k ≡ Some node)
+    → MatchOption (slice_get printed.nodes k) (printed.totals ≡ printed_totals i.version figures)
+    (λ node. slice_get (printed_nodes i.version nodes figures.nodes) k ≡ Some node)
 
 -- a report meets a rule at a number
 abbrev pub Meets : Parts → Printed → Rule → ℕ → Type 0

@@ -2,6 +2,7 @@
 
 ghost use Rattle.std.specs.Prelude.{ℕ, List, ◌≤◌, length, drop, IfOk};
 ghost use Rattle.cts_instance.specs.Validity.{IsValid};
+ghost use Rattle.cts_report_reader.specs.Forms.{form_of};
 ghost use Rattle.cts_report_reader.specs.Reports.{IsReading, IsSeenReading};
 ghost use Rattle.cts_check.specs.Verdict.{IsVerdict};
 
@@ -15,12 +16,12 @@ use std::thread::Threads;
 
 /// The verdict on some bytes as the report of an instance's clock tree, whoever made it.
 ///
-/// `Yes` exactly where the bytes are the report of a sound tree: each sink is reached once and at its
-/// place, routes are legal and no wire is shorter than its route, no buffer stands in a block, no node
-/// is over the limits, and each printed number is that of its definition. `NotText` with the first line
-/// with which no report begins, counted from 1; `Wrong` with the first rule that is broken, in the order
-/// of [`Rule`](crate::Rule), and the least number at which it is. Answers `NoMemory` where an allocation
-/// fails.
+/// `Yes` exactly where the bytes are the report of a sound tree, in the version of the instance: each sink
+/// is reached once and at its place, routes are legal and no wire is shorter than its route, no buffer
+/// stands in a block, no node is over the limits, and each printed number is that of its definition.
+/// `NotText` with the first line with which no report of that version begins, counted from 1; `Wrong` with
+/// the first rule that is broken, in the order of [`Rule`](crate::Rule), and the least number at which it
+/// is. Answers `NoMemory` where an allocation fails.
 ///
 /// It takes time and memory in proportion to the bytes. The figures are compared on several threads
 /// where there are processors for them; the verdict does not depend on that.
@@ -32,7 +33,7 @@ pub fn check(
 ) -> Result<Verdict, NoMemory>
     ensures { IfOk result (IsVerdict instance.now bytes.now) }
 {
-    let reading = reading_of(alloc, instance, bytes)?;
+    let reading = read_report(alloc, instance, bytes)?;
     verdict_on(rt, alloc, instance, reading)
 }
 
@@ -48,19 +49,9 @@ pub fn check_rest(
     requires { from ≤ length input.items }
     ensures { IfOk result (IsVerdict instance.now (drop from input.items)) }
 {
-    let reading = reading_of(alloc, instance, &input[from..])?;
+    let reading = read_report(alloc, instance, &input[from..])?;
     drop(input);
     verdict_on(rt, alloc, instance, reading)
-}
-
-/// What some bytes are as a report of an instance's clock tree.
-fn reading_of(alloc: Global, instance: &Instance, bytes: &[u8]) -> Result<Reading, NoMemory>
-    ensures told { IfOk result (IsReading (length instance.now.params.library) bytes.now) }
-    ensures seen { IfOk result IsSeenReading }
-    ensures valid { IsValid instance.now }
-{
-    let buffers = instance.params().library.items().len();
-    read_report(alloc, buffers, bytes)
 }
 
 /// The verdict on bytes that were read so.
@@ -70,10 +61,10 @@ fn verdict_on(
     instance: &Instance,
     reading: Reading,
 ) -> Result<Verdict, NoMemory>
-    requires told { (bytes : List ℕ) × IsReading (length instance.now.params.library) bytes reading }
+    requires told { (bytes : List ℕ) × IsReading (form_of instance.now) bytes reading }
     requires seen { IsSeenReading reading }
     requires valid { IsValid instance.now }
-    ensures { (bytes : List ℕ) → IsReading (length instance.now.params.library) bytes reading
+    ensures { (bytes : List ℕ) → IsReading (form_of instance.now) bytes reading
         → IfOk result (IsVerdict instance.now bytes) }
 {
     match reading {

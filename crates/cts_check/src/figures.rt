@@ -1,16 +1,17 @@
 //! The rule on figures: each printed figure is that of its definition.
 
-ghost use Rattle.std.specs.Prelude.{◌≡◌, ◌*◌, ◌^◌, ◌≤◌, ◌↔◌, length, All, IsTrue};
+ghost use Rattle.std.specs.Prelude.{◌≡◌, ◌+◌, ◌*◌, ◌^◌, ◌≤◌, ◌↔◌, length, All, IfSome, IsTrue};
 ghost use Rattle.cts_elmore.specs.Figures.{AreFiguresInRange, IsFigureInRange};
-ghost use Rattle.cts_report.specs.Report.{printed_totals};
-ghost use Rattle.cts_report_reader.specs.Totals.{seen_totals};
+ghost use Rattle.cts_report.specs.Report.{printed_arrivals, printed_time, printed_totals};
+ghost use Rattle.cts_report_reader.specs.Totals.{seen_arrivals, seen_totals};
 ghost use Rattle.std.specs.Bool.{OnFalse, OnTrue};
 ghost use Rattle.cts_check.specs.Claims.{Agrees, CanBeCompared, IsClaimOf, IsClaimedAt, claims_seen};
 ghost use Rattle.cts_check.specs.Rules.{IsFirstFailing};
 
 use crate::told::{Claim, claim_of};
 use cts_elmore::{Figures, NodeFigure};
-use cts_report_reader::{ReportNode, ReportTotals};
+use cts_instance::Version;
+use cts_report_reader::{ReportArrivals, ReportNode, ReportTotals};
 use cts_units::slew_tenths;
 use rayon::prelude::*;
 use std::thread::Threads;
@@ -23,6 +24,25 @@ fn printed_time(delay: u128) -> u128
     5 * delay
 }
 
+/// Whether the time that a report prints, if it prints one, is that of this delay.
+fn is_time_of(time: Option<u128>, delay: u128) -> bool
+    requires { delay ≤ 2 ^ 121 }
+    ensures { IsTrue result ↔ IfSome time (λ time. time ≡ printed_time delay) }
+{
+    match time {
+        Some(time) => time == printed_time(delay),
+        None => true,
+    }
+}
+
+/// The arrival of a leaf: its delay and twice the offset that its sink wants.
+fn arrival_of(figure: &NodeFigure) -> u128
+    requires { IsFigureInRange figure.now }
+    ensures { result ≡ figure.now.delay + 2 * figure.now.offset }
+{
+    figure.delay + 2 * u128::from(figure.offset)
+}
+
 /// Whether a node's figures are those that a report prints of it.
 fn is_claim_of(claim: &Claim, figure: &NodeFigure) -> bool
     requires { IsFigureInRange figure.now }
@@ -31,20 +51,36 @@ fn is_claim_of(claim: &Claim, figure: &NodeFigure) -> bool
     claim.load == u128::from(figure.below)
         && claim.delay == printed_time(figure.delay)
         && claim.slew == slew_tenths(figure.stage)
-        && claim
-            .residue
-            .is_none_or(|residue| residue == printed_time(figure.residue))
+        && is_time_of(claim.residue, figure.residue)
+        && is_time_of(claim.arrival, arrival_of(figure))
 }
 
-/// Whether the figures of a whole tree are those that a report prints of it.
-fn are_totals_of(totals: &ReportTotals, figures: &Figures) -> bool
+/// Whether the arrivals of a whole tree are those that a report of this version prints.
+fn are_arrivals_of(version: Version, arrivals: Option<ReportArrivals>, figures: &Figures) -> bool
     requires { AreFiguresInRange figures.now }
-    ensures { IsTrue result ↔ (seen_totals totals.now ≡ printed_totals figures.now) }
+    ensures { IsTrue result ↔ (seen_arrivals arrivals
+        ≡ printed_arrivals version figures.now.arrival_greatest figures.now.arrival_least) }
+{
+    match (version, arrivals) {
+        (Version::One, None) => true,
+        (Version::Two, Some(arrivals)) => {
+            arrivals.greatest == printed_time(figures.arrival_greatest)
+                && arrivals.least == printed_time(figures.arrival_least)
+        }
+        (Version::One, Some(_)) | (Version::Two, None) => false,
+    }
+}
+
+/// Whether the figures of a whole tree are those that a report of this version prints of it.
+fn are_totals_of(version: Version, totals: &ReportTotals, figures: &Figures) -> bool
+    requires { AreFiguresInRange figures.now }
+    ensures { IsTrue result ↔ (seen_totals totals.now ≡ printed_totals version figures.now) }
 {
     totals.source_load == u128::from(figures.source_load)
         && totals.wire_total == u128::from(figures.wire_total)
         && totals.greatest == printed_time(figures.greatest)
         && totals.least == printed_time(figures.least)
+        && are_arrivals_of(version, totals.arrivals, figures)
         && totals.skew == printed_time(figures.skew)
         && totals.bound == printed_time(figures.bound)
         && totals.load_met == figures.load_met
@@ -77,6 +113,7 @@ fn first_wrong_node(
 /// a figure of the whole tree is.
 pub fn first_wrong_figure(
     rt: &(impl Threads + Sync),
+    version: Version,
     nodes: &[ReportNode],
     totals: &ReportTotals,
     figures: &Figures,
@@ -84,11 +121,11 @@ pub fn first_wrong_figure(
     requires few { length nodes.now ≤ 131071 }
     requires one_each { length figures.now.nodes ≡ length nodes.now }
     requires in_range { AreFiguresInRange figures.now }
-    ensures { IsFirstFailing (Agrees (claims_seen nodes.now) totals.now figures.now) result }
+    ensures { IsFirstFailing (Agrees version (claims_seen nodes.now) totals.now figures.now) result }
 {
     match first_wrong_node(rt, nodes, figures.nodes.items()) {
         Some(number) => Some(number as u32),
-        None if are_totals_of(totals, figures) => None,
+        None if are_totals_of(version, totals, figures) => None,
         None => Some(nodes.len() as u32),
     }
 }

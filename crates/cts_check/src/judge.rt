@@ -3,6 +3,7 @@
 ghost use Rattle.std.specs.Prelude.{◌≡◌, ◌^◌, ◌<◌, ◌≤◌, length, map, All, IfOk};
 ghost use Rattle.cts_postorder.specs.PostOrder.{IsPostOrder};
 ghost use Rattle.cts_report_reader.specs.Bounds.{IsReport};
+ghost use Rattle.cts_report_reader.specs.Forms.{form_of};
 ghost use Rattle.cts_report_reader.specs.Nodes.{IsSeenNode};
 ghost use Rattle.cts_report_reader.specs.Reports.{seen_report};
 ghost use Rattle.cts_tree.specs.Nodes.{tree_children};
@@ -36,7 +37,7 @@ pub fn judge(
     instance: &Instance,
     report: Report,
 ) -> Result<Verdict, NoMemory>
-    requires report { IsReport (length instance.now.params.library) (seen_report report) }
+    requires report { IsReport (form_of instance.now) (seen_report report) }
     requires seen { All IsSeenNode report.nodes.items }
     ensures { IfOk result (Judges instance.now (seen_report report)) }
 {
@@ -50,7 +51,7 @@ pub fn judge(
         Measured::Within { figures } => figures,
         Measured::Over { node } => return Ok(broken(Rule::Limit, node)),
     };
-    match first_wrong_figure(rt, nodes.as_slice(), &totals, &figures) {
+    match first_wrong_figure(rt, instance.version(), nodes.as_slice(), &totals, &figures) {
         Some(node) => Ok(broken(Rule::Figure, node)),
         None => Ok(Verdict::Yes),
     }

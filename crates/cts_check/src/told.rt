@@ -3,10 +3,10 @@
 ghost use Rattle.std.specs.Prelude.{◌≡◌, ◌+◌, ◌/◌, ◌%◌, ◌≤◌, List, length, All, IfOk};
 ghost use Rattle.cts_units.specs.Ids.{HasDistinctIds};
 ghost use Rattle.cts_units.specs.declared.params.Sink.{Sink};
-ghost use Rattle.cts_report_reader.specs.Nodes.{seen_kind, seen_node, seen_nodes};
+ghost use Rattle.cts_report_reader.specs.Nodes.{seen_arrival, seen_kind, seen_node, seen_nodes};
 ghost use Rattle.cts_report_reader.specs.Seen.{IsSeen, seen_point};
 ghost use Rattle.cts_report_reader.specs.Bounds.{IsPrintedPlace};
-ghost use Rattle.cts_check.specs.Claims.{IsTellable, claim_seen, claims_seen};
+ghost use Rattle.cts_check.specs.Claims.{IsTellable, claim_seen, claimed_residue, claims_seen};
 ghost use Rattle.cts_check.specs.Places.{FindsSinks};
 ghost use Rattle.cts_check.specs.Told.{told_kind as spec_told_kind, told_node as spec_told_node, told_nodes, told_place};
 
@@ -28,6 +28,8 @@ pub struct Claim {
     pub residue: Option<u128>,
     /// The delay at its place in 10^-16 ps.
     pub delay: u128,
+    /// The arrival of a leaf in 10^-16 ps, where the report tells it.
+    pub arrival: Option<u128>,
     /// The slew at its place in 10^-16 ps.
     pub slew: u128,
 }
@@ -39,12 +41,32 @@ pub fn claim_of(node: &ReportNode) -> Claim
 {
     Claim {
         load: node.load,
-        residue: match node.kind {
-            ReportKind::Leaf { .. } => None,
-            ReportKind::Pair { residue, .. } => Some(residue),
-        },
+        residue: residue_of(node.kind),
         delay: node.delay,
+        arrival: arrival_of(node.kind),
         slew: node.slew,
+    }
+}
+
+/// The residue of a pair.
+#[inline(always)]
+fn residue_of(kind: ReportKind) -> Option<u128>
+    ensures { result ≡ claimed_residue (seen_kind kind) }
+{
+    match kind {
+        ReportKind::Leaf { .. } | ReportKind::TimedLeaf { .. } => None,
+        ReportKind::Pair { residue, .. } => Some(residue),
+    }
+}
+
+/// The arrival of a leaf, where it is told.
+#[inline(always)]
+fn arrival_of(kind: ReportKind) -> Option<u128>
+    ensures { result ≡ seen_arrival kind }
+{
+    match kind {
+        ReportKind::Leaf { .. } | ReportKind::Pair { .. } => None,
+        ReportKind::TimedLeaf { arrival, .. } => Some(arrival),
     }
 }
 
@@ -55,7 +77,7 @@ fn told_kind(ids: &[NamedSink], kind: ReportKind) -> NodeKind
         → result ≡ spec_told_kind sinks (seen_kind kind) }
 {
     match kind {
-        ReportKind::Leaf { id } => NodeKind::Leaf {
+        ReportKind::Leaf { id } | ReportKind::TimedLeaf { id, .. } => NodeKind::Leaf {
             id,
             sink: place_of(ids, id),
         },

@@ -4,6 +4,7 @@ use Rattle.std.specs.List.{flat_map, concat}
 use Rattle.std.proofs.lemmas.List.{take_more, length-take-le}
 use Rattle.cts_geom.specs.declared.points.Half.{Half}
 use Rattle.cts_tree.specs.declared.nodes.TreeNode.{TreeNode}
+use Rattle.cts_instance.specs.declared.version.Version.{Version}
 use Rattle.cts_elmore.specs.declared.figures.NodeFigure.{NodeFigure}
 use Rattle.cts_report.specs.Printed.{PrintedNode}
 use Rattle.cts_report.specs.Lines.{node_line, node_lines, point_words}
@@ -24,37 +25,37 @@ node_lines_more number (first ∷ nodes) node =
     (node_lines_more (number + 1) nodes node ∙ ap (λ n. concat (node_lines (number + 1) nodes) ++ node_line n node) (omega arith))
     ∙ sym (append_assoc (node_line number first) (concat (node_lines (number + 1) nodes)) (node_line (number + length (first ∷ nodes)) node))
 
-pub length-printed_nodes : (nodes : List TreeNode) (figures : List NodeFigure) → length figures ≡ length nodes
-    → length (printed_nodes nodes figures) ≡ length nodes
+pub length-printed_nodes : (version : Version) (nodes : List TreeNode) (figures : List NodeFigure) → length figures ≡ length nodes
+    → length (printed_nodes version nodes figures) ≡ length nodes
 unfolding printed_nodes
-length-printed_nodes [] figures h = refl
-length-printed_nodes (node ∷ nodes) [] h = absurd (omega arith)
-length-printed_nodes (node ∷ nodes) (figure ∷ figures) h =
-    ap suc (length-printed_nodes nodes figures (omega arith))
+length-printed_nodes version [] figures h = refl
+length-printed_nodes version (node ∷ nodes) [] h = absurd (omega arith)
+length-printed_nodes version (node ∷ nodes) (figure ∷ figures) h =
+    ap suc (length-printed_nodes version nodes figures (omega arith))
 
 -- what is printed of the node of a number
-pub get_or-printed_nodes : (nodes : List TreeNode) (figures : List NodeFigure) (k : ℕ) (n : TreeNode) (f : NodeFigure) (p : PrintedNode)
+pub get_or-printed_nodes : (version : Version) (nodes : List TreeNode) (figures : List NodeFigure) (k : ℕ) (n : TreeNode) (f : NodeFigure) (p : PrintedNode)
     → length figures ≡ length nodes → k < length nodes
-    → get_or (printed_nodes nodes figures) k p ≡ printed_node (get_or nodes k n) (get_or figures k f)
+    → get_or (printed_nodes version nodes figures) k p ≡ printed_node version (get_or nodes k n) (get_or figures k f)
 unfolding printed_nodes
-get_or-printed_nodes [] figures k n f p h w = absurd (omega arith)
-get_or-printed_nodes (node ∷ nodes) [] k n f p h w = absurd (omega arith)
-get_or-printed_nodes (node ∷ nodes) (figure ∷ figures) zero n f p h w = refl
-get_or-printed_nodes (node ∷ nodes) (figure ∷ figures) (suc k) n f p h w =
-    get_or-printed_nodes nodes figures k n f p (omega arith) (omega arith)
+get_or-printed_nodes version [] figures k n f p h w = absurd (omega arith)
+get_or-printed_nodes version (node ∷ nodes) [] k n f p h w = absurd (omega arith)
+get_or-printed_nodes version (node ∷ nodes) (figure ∷ figures) zero n f p h w = refl
+get_or-printed_nodes version (node ∷ nodes) (figure ∷ figures) (suc k) n f p h w =
+    get_or-printed_nodes version nodes figures k n f p (omega arith) (omega arith)
 
 -- the lines of the nodes before a number, and then that node's
-pub lines_before_more : (nodes : List TreeNode) (figures : List NodeFigure) (k : ℕ) (n : TreeNode) (f : NodeFigure)
+pub lines_before_more : (version : Version) (nodes : List TreeNode) (figures : List NodeFigure) (k : ℕ) (n : TreeNode) (f : NodeFigure)
     → length figures ≡ length nodes → k < length nodes
-    → concat (node_lines 0 (take (k + 1) (printed_nodes nodes figures)))
-    ≡ concat (node_lines 0 (take k (printed_nodes nodes figures))) ++ node_line k (printed_node (get_or nodes k n) (get_or figures k f))
-lines_before_more nodes figures k n f h w =
-    let printed : List PrintedNode = printed_nodes nodes figures in
-    let p : PrintedNode = printed_node (get_or nodes k n) (get_or figures k f) in
-    let long : length printed ≡ length nodes = length-printed_nodes nodes figures h in
+    → concat (node_lines 0 (take (k + 1) (printed_nodes version nodes figures)))
+    ≡ concat (node_lines 0 (take k (printed_nodes version nodes figures))) ++ node_line k (printed_node version (get_or nodes k n) (get_or figures k f))
+lines_before_more version nodes figures k n f h w =
+    let printed : List PrintedNode = printed_nodes version nodes figures in
+    let p : PrintedNode = printed_node version (get_or nodes k n) (get_or figures k f) in
+    let long : length printed ≡ length nodes = length-printed_nodes version nodes figures h in
     let front : length (take k printed) ≡ k = length-take-le k printed (omega arith) in
     ap (λ ps. concat (node_lines 0 ps)) (take_more printed k p (omega arith)
-    ∙ ap (λ q. take k printed ++ q ∷ []) (get_or-printed_nodes nodes figures k n f p h w))
+    ∙ ap (λ q. take k printed ++ q ∷ []) (get_or-printed_nodes version nodes figures k n f p h w))
     ∙ node_lines_more 0 (take k printed) p
     ∙ ap (λ i. concat (node_lines 0 (take k printed)) ++ node_line i p) (omega arith)
 

@@ -1,8 +1,11 @@
--- The lines of a report, each with its line feed, as a function of what is printed.
+-- The lines of a report, each with its line feed, as a function of what is printed. Only the first line looks at the
+-- version: the rest follows from what is printed, and in version 1 no arrival is.
 use Rattle.std.specs.Prelude.{ℕ, ◌+◌, Bool, if◌then◌else◌, List, [], ◌∷◌, ◌++◌, length, codes, Option, Some, None}
 use Rattle.std.specs.List.{flat_map, concat}
 use Rattle.cts_num.specs.Decimal.{decimal_text}
-use Rattle.cts_report.specs.Printed.{PrintedPoint, PrintedKind, sink_leaf, pair_node, PrintedNode, PrintedTotals, Printed}
+use Rattle.cts_instance.specs.declared.version.Version.{Version}
+use Rattle.cts_instance.specs.declared.version.Version.TheVariants.{One, Two}
+use Rattle.cts_report.specs.Printed.{PrintedPoint, PrintedKind, sink_leaf, pair_node, PrintedNode, PrintedArrivals, PrintedTotals, Printed}
 
 -- a label, and then a number at its places
 unfoldable pub labelled : List ℕ → ℕ → ℕ → List ℕ
@@ -50,12 +53,17 @@ load_words (sink_leaf id) load = capacitance (codes " load ") load
 load_words (pair_node left right buffer residue) load =
     buffer_words buffer ++ capacitance (codes " load ") load ++ time (codes " residue ") residue
 
+-- the arrival, where it is printed
+unfoldable pub arrival_words : Option ℕ → List ℕ
+arrival_words None = []
+arrival_words (Some arrival) = time (codes " arrival ") arrival
+
 -- the line of the node of this number
 unfoldable pub node_line : ℕ → PrintedNode → List ℕ
 node_line number node =
     whole (codes "node ") number ++ name_words node.kind ++ codes " at" ++ point_words node.place
-    ++ load_words node.kind node.load ++ time (codes " delay ") node.delay ++ time (codes " slew ") node.slew
-    ++ length_in_um (codes " wire ") node.wire ++ corner_words node.corners ++ codes "\n"
+    ++ load_words node.kind node.load ++ time (codes " delay ") node.delay ++ arrival_words node.arrival
+    ++ time (codes " slew ") node.slew ++ length_in_um (codes " wire ") node.wire ++ corner_words node.corners ++ codes "\n"
 
 -- the lines of nodes that are numbered from `number` on
 unfoldable pub node_lines : ℕ → List PrintedNode → List (List ℕ)
@@ -66,6 +74,24 @@ node_lines number (node ∷ nodes) = node_line number node ∷ node_lines (numbe
 unfoldable pub count_line : ℕ → List ℕ
 count_line count = whole (codes "nodes ") count ++ codes "\n"
 
+-- the greatest and the least arrival, where they are printed
+unfoldable pub arrival_lines : Option PrintedArrivals → List (List ℕ)
+arrival_lines None = []
+arrival_lines (Some arrivals) =
+    (time (codes "arrival greatest ") arrivals.greatest ++ codes "\n")
+    ∷ (time (codes "arrival least ") arrivals.least ++ codes "\n")
+    ∷ []
+
+-- the lines from the skew on
+unfoldable pub closing_lines : PrintedTotals → List (List ℕ)
+closing_lines t =
+    (time (codes "skew ") t.skew ++ codes "\n")
+    ∷ (time (codes "bound ") t.bound ++ codes "\n")
+    ∷ answer (codes "load met") t.load_met
+    ∷ answer (codes "slew met") t.slew_met
+    ∷ codes "end\n"
+    ∷ []
+
 -- the lines on the whole tree, and the last line
 unfoldable pub total_lines : PrintedTotals → List (List ℕ)
 total_lines t =
@@ -73,21 +99,21 @@ total_lines t =
     ∷ (length_in_um (codes "wire total ") t.wire_total ++ codes "\n")
     ∷ (time (codes "delay greatest ") t.greatest ++ codes "\n")
     ∷ (time (codes "delay least ") t.least ++ codes "\n")
-    ∷ (time (codes "skew ") t.skew ++ codes "\n")
-    ∷ (time (codes "bound ") t.bound ++ codes "\n")
-    ∷ answer (codes "load met") t.load_met
-    ∷ answer (codes "slew met") t.slew_met
-    ∷ codes "end\n"
-    ∷ []
+    ∷ (arrival_lines t.arrivals ++ closing_lines t)
 
--- the lines of a report
-unfoldable pub report_lines : Printed → List (List ℕ)
-report_lines p =
-    codes "cts report 1\n" ∷ count_line (length p.nodes) ∷ (node_lines 0 p.nodes ++ total_lines p.totals)
+-- the first line of a report of this version
+unfoldable pub title_line : Version → List ℕ
+title_line One = codes "cts report 1\n"
+title_line Two = codes "cts report 2\n"
 
--- the lines of a summary, which leaves out the nodes
-unfoldable pub summary_lines : Printed → List (List ℕ)
-summary_lines p = codes "cts job 1\n" ∷ count_line (length p.nodes) ∷ total_lines p.totals
+-- the lines of a report of this version
+unfoldable pub report_lines : Version → Printed → List (List ℕ)
+report_lines version p =
+    title_line version ∷ count_line (length p.nodes) ∷ (node_lines 0 p.nodes ++ total_lines p.totals)
+
+-- the lines of a summary: how many nodes there are, and the figures of the whole tree
+unfoldable pub summary_lines : ℕ → PrintedTotals → List (List ℕ)
+summary_lines count totals = codes "cts job 1\n" ∷ count_line count ∷ total_lines totals
 
 -- the text of some lines
 abbrev pub text_of_lines : List (List ℕ) → List ℕ

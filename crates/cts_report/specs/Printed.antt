@@ -13,15 +13,22 @@ pub data PrintedKind : Type 0 where
   sink_leaf : ℕ → PrintedKind
   pair_node : ℕ → ℕ → Option ℕ → ℕ → PrintedKind
 
--- a node, with its load in 10^-6 fF, its delay and its slew in 10^-16 ps, and its wire in 10^-3 µm
+-- a node, with its load in 10^-6 fF, its delay, its arrival, where it is printed, and its slew in 10^-16 ps, and its wire in
+-- 10^-3 µm
 pub record PrintedNode : Type 0 where
   pub kind : PrintedKind
   pub place : PrintedPoint
   pub load : ℕ
   pub delay : ℕ
+  pub arrival : Option ℕ
   pub slew : ℕ
   pub wire : ℕ
   pub corners : List PrintedPoint
+
+-- the greatest and the least arrival of a leaf, in the same units
+pub record PrintedArrivals : Type 0 where
+  pub greatest : ℕ
+  pub least : ℕ
 
 -- the figures of the whole tree, in the same units
 pub record PrintedTotals : Type 0 where
@@ -29,6 +36,7 @@ pub record PrintedTotals : Type 0 where
   pub wire_total : ℕ
   pub greatest : ℕ
   pub least : ℕ
+  pub arrivals : Option PrintedArrivals
   pub skew : ℕ
   pub bound : ℕ
   pub load_met : Bool

@@ -2,8 +2,9 @@
 //!
 //! The text is a function of what is printed (`specs/Printed.antt`, and its lines in
 //! `specs/Lines.antt`), and the report of a tree prints the numbers of the tree and of its figures
-//! (`specs/Report.antt`). So a layer above that reads a report speaks of the same lines. The writer
-//! takes no memory, and gives the sink some KiB at a time.
+//! (`specs/Report.antt`). So a layer above that reads a report speaks of the same lines. In version 2 a
+//! report has arrivals too, which are printed or not, and a summary has none. The writer takes no memory,
+//! and gives the sink some KiB at a time.
 #![tactic(auto)]
 
 mod line;

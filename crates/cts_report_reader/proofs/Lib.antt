@@ -10,6 +10,7 @@ pub mod LinesPieces
 pub mod TotalPieces
 pub mod NodePieces
 pub mod PairReads
+pub mod LeafReads
 pub mod NodeReads
 pub mod ReportPieces
 pub mod PointLoops

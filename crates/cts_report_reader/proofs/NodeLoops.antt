@@ -5,6 +5,7 @@ use Rattle.std.proofs.lemmas.List.{map-append}
 use Rattle.cts_num.specs.declared.error.NoMemory.{NoMemory}
 use Rattle.cts_postorder.specs.Stack.{stack_after}
 use Rattle.cts_report.specs.Printed.{PrintedNode}
+use Rattle.cts_report_reader.specs.declared.form.Form.{Form}
 use Rattle.cts_report_reader.specs.declared.node.ReportNode.{ReportNode}
 use Rattle.cts_report_reader.specs.Bounds.{printed_children}
 use Rattle.cts_report_reader.specs.NodeLine.{node_at}
@@ -24,16 +25,16 @@ unfolding cons_lines
 mapped_is n (Ok f) read bytes e = rw e refl
 mapped_is n (Err line) read bytes e = rw e refl
 
-nodes_suc : (buffers todo k : ℕ) (stack bytes : List ℕ) (n : PrintedNode) (rest : List ℕ) → node_at buffers k stack todo bytes ≡ Some (n, rest)
-    → nodes_at buffers (suc todo) k stack bytes ≡ cons_lines n (nodes_at buffers todo (k + 1) (stack_after (printed_children n) stack k) rest)
+nodes_suc : (form : Form) (todo k : ℕ) (stack bytes : List ℕ) (n : PrintedNode) (rest : List ℕ) → node_at form k stack todo bytes ≡ Some (n, rest)
+    → nodes_at form (suc todo) k stack bytes ≡ cons_lines n (nodes_at form todo (k + 1) (stack_after (printed_children n) stack k) rest)
 unfolding nodes_at
-nodes_suc buffers todo k stack bytes n rest e =
-    rw e (mapped_is n (nodes_at buffers todo (k + 1) (stack_after (printed_children n) stack k) rest) (nodes_at buffers todo (k + 1) (stack_after (printed_children n) stack k)) rest refl)
+nodes_suc form todo k stack bytes n rest e =
+    rw e (mapped_is n (nodes_at form todo (k + 1) (stack_after (printed_children n) stack k) rest) (nodes_at form todo (k + 1) (stack_after (printed_children n) stack k)) rest refl)
 
-nodes_missed : (buffers todo k : ℕ) (stack bytes : List ℕ) → node_at buffers k stack todo bytes ≡ None
-    → nodes_at buffers (suc todo) k stack bytes ≡ Err (k + 2 + 1)
+nodes_missed : (form : Form) (todo k : ℕ) (stack bytes : List ℕ) → node_at form k stack todo bytes ≡ None
+    → nodes_at form (suc todo) k stack bytes ≡ Err (k + 2 + 1)
 unfolding nodes_at
-nodes_missed buffers todo k stack bytes e = rw e refl
+nodes_missed form todo k stack bytes e = rw e refl
 
 front_cons : (front : List PrintedNode) (n : PrintedNode) (o : Nodes) → fronted_lines front (cons_lines n o) ≡ fronted_lines (front ++ n ∷ []) o
 unfolding cons_lines
@@ -50,48 +51,48 @@ no_node None h = refl
 no_node (Some x) h = absurd h
 
 -- the next node
-pub nodes_step : (buffers count k : ℕ) (stack after : List ℕ) (front : List ReportNode) (whole : Nodes) (bytes : List ℕ) (node : ReportNode) (rest : Bor (List ℕ))
-    → k < count → fronted_lines (seen_nodes front) (nodes_at buffers (count - k) k stack bytes) ≡ whole
-    → FindsIn {E = NoMemory} seen_node (Ok (Some (node, rest))) (node_at buffers k stack (count - k - 1) bytes)
+pub nodes_step : (form : Form) (count k : ℕ) (stack after : List ℕ) (front : List ReportNode) (whole : Nodes) (bytes : List ℕ) (node : ReportNode) (rest : Bor (List ℕ))
+    → k < count → fronted_lines (seen_nodes front) (nodes_at form (count - k) k stack bytes) ≡ whole
+    → FindsIn {E = NoMemory} seen_node (Ok (Some (node, rest))) (node_at form k stack (count - k - 1) bytes)
     → after ≡ stack_after (printed_children (seen_node node)) stack k
-    → fronted_lines (seen_nodes (front ++ node ∷ [])) (nodes_at buffers (count - (k + 1)) (k + 1) after rest.now) ≡ whole
-nodes_step buffers count k stack after front whole bytes node rest lt h found after_is =
+    → fronted_lines (seen_nodes (front ++ node ∷ [])) (nodes_at form (count - (k + 1)) (k + 1) after rest.now) ≡ whole
+nodes_step form count k stack after front whole bytes node rest lt h found after_is =
     let todo = count - k - 1 in
     let e : count - k ≡ suc todo = omega arith in
     let f : count - (k + 1) ≡ todo = omega arith in
-    let more = ap (λ n. nodes_at buffers n k stack bytes) e ∙ nodes_suc buffers todo k stack bytes (seen_node node) rest.now (found_node node rest _ found) in
-    ap (λ qs. fronted_lines qs (nodes_at buffers (count - (k + 1)) (k + 1) after rest.now)) (map-append seen_node front (node ∷ []))
-    ∙ ap₂ (λ n s. fronted_lines (seen_nodes front ++ seen_node node ∷ []) (nodes_at buffers n (k + 1) s rest.now)) f after_is
-    ∙ sym (front_cons (seen_nodes front) (seen_node node) (nodes_at buffers todo (k + 1) (stack_after (printed_children (seen_node node)) stack k) rest.now))
+    let more = ap (λ n. nodes_at form n k stack bytes) e ∙ nodes_suc form todo k stack bytes (seen_node node) rest.now (found_node node rest _ found) in
+    ap (λ qs. fronted_lines qs (nodes_at form (count - (k + 1)) (k + 1) after rest.now)) (map-append seen_node front (node ∷ []))
+    ∙ ap₂ (λ n s. fronted_lines (seen_nodes front ++ seen_node node ∷ []) (nodes_at form n (k + 1) s rest.now)) f after_is
+    ∙ sym (front_cons (seen_nodes front) (seen_node node) (nodes_at form todo (k + 1) (stack_after (printed_children (seen_node node)) stack k) rest.now))
     ∙ ap (fronted_lines (seen_nodes front)) (sym more) ∙ h
 
 -- a node that is not there
-pub nodes_none : (buffers count k : ℕ) (stack : List ℕ) (front : List PrintedNode) (whole : Nodes) (bytes : List ℕ)
-    → k < count → fronted_lines front (nodes_at buffers (count - k) k stack bytes) ≡ whole
-    → FindsIn {T = ReportNode} {E = NoMemory} seen_node (Ok None) (node_at buffers k stack (count - k - 1) bytes) → whole ≡ Err (k + 3)
-nodes_none buffers count k stack front whole bytes lt h found =
+pub nodes_none : (form : Form) (count k : ℕ) (stack : List ℕ) (front : List PrintedNode) (whole : Nodes) (bytes : List ℕ)
+    → k < count → fronted_lines front (nodes_at form (count - k) k stack bytes) ≡ whole
+    → FindsIn {T = ReportNode} {E = NoMemory} seen_node (Ok None) (node_at form k stack (count - k - 1) bytes) → whole ≡ Err (k + 3)
+nodes_none form count k stack front whole bytes lt h found =
     let todo = count - k - 1 in
     let e : count - k ≡ suc todo = omega arith in
     let line : k + 2 + 1 ≡ k + 3 = omega arith in
-    sym h ∙ ap (λ n. fronted_lines front (nodes_at buffers n k stack bytes)) e
-    ∙ ap (fronted_lines front) (nodes_missed buffers todo k stack bytes (no_node _ found)) ∙ ap Err line
+    sym h ∙ ap (λ n. fronted_lines front (nodes_at form n k stack bytes)) e
+    ∙ ap (fronted_lines front) (nodes_missed form todo k stack bytes (no_node _ found)) ∙ ap Err line
 
 -- all nodes
-pub nodes_done : (buffers count k : ℕ) (stack : List ℕ) (front : List PrintedNode) (whole : Nodes) (bytes : List ℕ)
-    → k ≡ count → fronted_lines front (nodes_at buffers (count - k) k stack bytes) ≡ whole → whole ≡ Ok (front, bytes)
+pub nodes_done : (form : Form) (count k : ℕ) (stack : List ℕ) (front : List PrintedNode) (whole : Nodes) (bytes : List ℕ)
+    → k ≡ count → fronted_lines front (nodes_at form (count - k) k stack bytes) ≡ whole → whole ≡ Ok (front, bytes)
 unfolding nodes_at
-nodes_done buffers count k stack front whole bytes e h =
+nodes_done form count k stack front whole bytes e h =
     let none : count - k ≡ 0 = omega arith in
-    sym h ∙ ap (λ n. fronted_lines front (nodes_at buffers n k stack bytes)) none ∙ ap (λ ns. Ok (ns, bytes)) (append-nil front)
+    sym h ∙ ap (λ n. fronted_lines front (nodes_at form n k stack bytes)) none ∙ ap (λ ns. Ok (ns, bytes)) (append-nil front)
 
 nothing_fronted : (o : Nodes) → fronted_lines [] o ≡ o
 nothing_fronted (Ok f) = refl
 nothing_fronted (Err line) = refl
 
-pub nodes_begin : (buffers count : ℕ) (bytes : List ℕ) → fronted_lines [] (nodes_at buffers (count - 0) 0 [] bytes) ≡ nodes_at buffers count 0 [] bytes
-nodes_begin buffers count bytes =
+pub nodes_begin : (form : Form) (count : ℕ) (bytes : List ℕ) → fronted_lines [] (nodes_at form (count - 0) 0 [] bytes) ≡ nodes_at form count 0 [] bytes
+nodes_begin form count bytes =
     let e : count - 0 ≡ count = omega arith in
-    ap (λ n. fronted_lines [] (nodes_at buffers n 0 [] bytes)) e ∙ nothing_fronted (nodes_at buffers count 0 [] bytes)
+    ap (λ n. fronted_lines [] (nodes_at form n 0 [] bytes)) e ∙ nothing_fronted (nodes_at form count 0 [] bytes)
 
 -- what the code found, by an equation
 pub found_lines : {T A : Type 0} (view : T → A) (value : T) (left : Bor (List ℕ)) (right : Result (A × List ℕ) ℕ)

@@ -1,10 +1,13 @@
 -- The line of a node.
-use Rattle.std.proofs.Common.{◌≡◌, ◌⊎◌, ℕ, suc, ◌-◌, ◌^◌, ◌<◌, ◌≤◌, true, eqb, ltb, List, [], ◌++◌, Option, Some, None, refl, sym, ap, ◌∙◌, subst, inl, inr, arith, append_assoc, codes}
+use Rattle.std.proofs.Common.{◌≡◌, ◌⊎◌, ℕ, suc, ◌-◌, ◌^◌, ◌<◌, ◌≤◌, Bool, true, false, eqb, ltb, List, [], ◌++◌, Option, Some, None, refl, sym, ap, ◌∙◌, subst, inl, inr, arith, append_assoc, codes}
 use Rattle.std.proofs.lemmas.Bool.Decides.{eqb_tells}
+use Rattle.cts_instance.specs.declared.version.Version.{Version}
 use Rattle.cts_report.specs.Lines.{labelled, whole, point_words, time, capacitance, length_in_um, name_words, buffer_words, load_words, node_line}
 use Rattle.cts_report.specs.Printed.{PrintedPoint, PrintedKind, sink_leaf, pair_node, PrintedNode}
+use Rattle.cts_report_reader.specs.declared.form.Form.{Form}
 use Rattle.cts_report_reader.specs.Reader.{PartReader, IsStop, IsAny, IsPart}
-use Rattle.cts_report_reader.specs.Bounds.{IsShort, IsPrintedPlace, IsPrintedKind, IsPrintedNode, printed_children}
+use Rattle.cts_report_reader.specs.Bounds.{IsShort, IsArrival, IsPrintedPlace, IsPrintedKind, IsPrintedNode, printed_children}
+use Rattle.cts_report_reader.specs.Forms.{tells_arrivals, tells_arrival}
 use Rattle.cts_report_reader.specs.NodeLine.{LeafFound, PairFound, PlaceFound, TailFound, leaf_of, pair_of, leaf_at, buffer_at, pair_at, joins_stack, node_rest_at, node_at}
 use Rattle.cts_report_reader.specs.Words.{word_at, kept_if, labelled_at, bounded_at, both_at, mapped_at, first_of, place_at, tail_at}
 use Rattle.cts_report_reader.proofs.Parts.{kept_part}
@@ -118,12 +121,12 @@ buffer_stop (Some index) rest = refl
 unfoldable pub rest_text : PrintedNode → List ℕ
 rest_text node =
     name_words node.kind ++ (codes " at" ++ (point_words node.place ++ (load_words node.kind node.load
-    ++ tail_text (node.delay, (node.slew, (node.wire, (node.corners, tt)))))))
+    ++ tail_text (node.delay, (node.arrival, (node.slew, (node.wire, (node.corners, tt))))))))
 
 -- leaves
 
-unfoldable pub LeafFits : LeafFound → Type 0
-LeafFits c = (c.0 ≤ 999999999) × (IsPrintedPlace c.1.0.1 × (IsShort c.1.1.0 × TailFits c.1.1.1))
+unfoldable pub LeafFits : Bool → LeafFound → Type 0
+LeafFits told c = (c.0 ≤ 999999999) × (IsPrintedPlace c.1.0.1 × (IsShort c.1.1.0 × TailFits told c.1.1.1))
 
 unfoldable pub leaf_text : LeafFound → List ℕ
 leaf_text c = labelled (codes " leaf ") 0 c.0 ++ ((codes " at" ++ point_words c.1.0.1) ++ (labelled (codes " load ") 6 c.1.1.0 ++ tail_text c.1.1.1))
@@ -133,14 +136,14 @@ id_or (sink_leaf id) = id
 id_or (pair_node left right buffer residue) = 0
 
 unfoldable pub found_leaf : PrintedNode → LeafFound
-found_leaf node = (id_or node.kind, ((tt, node.place), (node.load, (node.delay, (node.slew, (node.wire, (node.corners, tt)))))))
+found_leaf node = (id_or node.kind, ((tt, node.place), (node.load, (node.delay, (node.arrival, (node.slew, (node.wire, (node.corners, tt))))))))
 
 unfoldable pub IsLeafKind : PrintedKind → Type 0
 IsLeafKind (sink_leaf id) = Unit {0}
 IsLeafKind (pair_node left right buffer residue) = ⊥
 
-unfoldable pub LeafNode : PrintedNode → Type 0
-LeafNode node = IsLeafKind node.kind × LeafFits (found_leaf node)
+unfoldable pub LeafNode : Bool → PrintedNode → Type 0
+LeafNode told node = IsLeafKind node.kind × LeafFits told (found_leaf node)
 
 leaf_kind : (kind : PrintedKind) → IsLeafKind kind → sink_leaf (id_or kind) ≡ kind
 unfolding IsLeafKind id_or
@@ -158,38 +161,39 @@ label_stop : (number places : ℕ) (rest : List ℕ) (tail : List ℕ) → IsSto
 unfolding labelled
 label_stop number places rest tail = refl
 
-found_leaf_part : IsPart IsAny LeafFits leaf_text
-    (both_at (bounded_at (codes " leaf ") 0 999999999) (both_at place_at (both_at (labelled_at (codes " load ") 6) tail_at)))
+found_leaf_part : (told : Bool) → IsPart IsAny (LeafFits told) leaf_text
+    (both_at (bounded_at (codes " leaf ") 0 999999999) (both_at place_at (both_at (labelled_at (codes " load ") 6) (tail_at told))))
 unfolding LeafFits leaf_text
-found_leaf_part =
+found_leaf_part told =
     both_part IsStop (λ id. id ≤ 999999999) (labelled (codes " leaf ") 0) (bounded_at (codes " leaf ") 0 999999999) IsAny
-    (λ (c : PlaceFound × (ℕ × TailFound)). IsPrintedPlace c.0.1 × (IsShort c.1.0 × TailFits c.1.1)) (λ c. (codes " at" ++ point_words c.0.1) ++ (labelled (codes " load ") 6 c.1.0 ++ tail_text c.1.1)) _
+    (λ (c : PlaceFound × (ℕ × TailFound)). IsPrintedPlace c.0.1 × (IsShort c.1.0 × TailFits told c.1.1)) (λ c. (codes " at" ++ point_words c.0.1) ++ (labelled (codes " load ") 6 c.1.0 ++ tail_text c.1.1)) _
     (bounded_part (codes " leaf ") 0 999999999 (omega arith))
     (both_part IsStop (λ (c : PlaceFound). IsPrintedPlace c.1) (λ c. codes " at" ++ point_words c.1) place_at IsAny
-    (λ (c : ℕ × TailFound). IsShort c.0 × TailFits c.1) (λ c. labelled (codes " load ") 6 c.0 ++ tail_text c.1) _
+    (λ (c : ℕ × TailFound). IsShort c.0 × TailFits told c.1) (λ c. labelled (codes " load ") 6 c.0 ++ tail_text c.1) _
     place_part
-    (both_part IsStop IsShort (labelled (codes " load ") 6) (labelled_at (codes " load ") 6) IsAny TailFits tail_text tail_at (labelled_part (codes " load ") 6) tail_part (λ b rest fits ends. tail_stop b rest))
+    (both_part IsStop IsShort (labelled (codes " load ") 6) (labelled_at (codes " load ") 6) IsAny (TailFits told) tail_text (tail_at told) (labelled_part (codes " load ") 6) (tail_part told) (λ b rest fits ends. tail_stop b rest))
     (λ b rest fits ends. label_stop b.0 6 rest (tail_text b.1)))
     (λ b rest fits ends. refl)
 
-leaf_joins : (c : LeafFound) → LeafFits c → LeafNode (leaf_of c) × (rest_text (leaf_of c) ≡ leaf_text c)
+leaf_joins : (told : Bool) (c : LeafFound) → LeafFits told c → LeafNode told (leaf_of c) × (rest_text (leaf_of c) ≡ leaf_text c)
 unfolding LeafNode IsLeafKind found_leaf id_or LeafFits rest_text leaf_text name_words load_words whole capacitance
-leaf_joins c fits = ((tt, fits), simp append_assoc)
+leaf_joins told c fits = ((tt, fits), simp append_assoc)
 
-leaf_splits : (node : PrintedNode) → LeafNode node → LeafFits (found_leaf node) × (leaf_of (found_leaf node) ≡ node)
+leaf_splits : (told : Bool) (node : PrintedNode) → LeafNode told node → LeafFits told (found_leaf node) × (leaf_of (found_leaf node) ≡ node)
 unfolding LeafNode found_leaf
-leaf_splits node fits = (fits.1, ap (λ (k : PrintedKind). record node { kind = k }) (leaf_kind node.kind fits.0))
+leaf_splits told node fits = (fits.1, ap (λ (k : PrintedKind). record node { kind = k }) (leaf_kind node.kind fits.0))
 
-pub leaf_part : IsPart IsAny LeafNode rest_text leaf_at
+pub leaf_part : (told : Bool) → IsPart IsAny (LeafNode told) rest_text (leaf_at told)
 unfolding leaf_at
-leaf_part = map_part IsAny LeafFits leaf_text _ LeafNode rest_text leaf_of found_leaf found_leaf_part leaf_joins leaf_splits
+leaf_part told =
+    map_part IsAny (LeafFits told) leaf_text _ (LeafNode told) rest_text leaf_of found_leaf (found_leaf_part told) (leaf_joins told) (leaf_splits told)
 
 -- pairs
 
 unfoldable pub PairFits : ℕ → PairFound → Type 0
 PairFits buffers c =
     (c.0 ≤ 2 ^ 32 - 1) × ((c.1.0 ≤ 2 ^ 32 - 1) × (IsPrintedPlace c.1.1.0.1 × (BufferFits buffers c.1.1.1.0
-    × (IsShort c.1.1.1.1.0 × (IsShort c.1.1.1.1.1.0 × TailFits c.1.1.1.1.1.1)))))
+    × (IsShort c.1.1.1.1.0 × (IsShort c.1.1.1.1.1.0 × TailFits false c.1.1.1.1.1.1)))))
 
 unfoldable pub pair_text : PairFound → List ℕ
 pair_text c =
@@ -225,7 +229,7 @@ found_pair node = (
           node.load,
           (
             residue_or node.kind,
-            (node.delay, (node.slew, (node.wire, (node.corners, tt)))),
+            (node.delay, (node.arrival, (node.slew, (node.wire, (node.corners, tt))))),
           ),
         ),
       ),
@@ -263,32 +267,32 @@ found_pair_part : (buffers : ℕ) → buffers ≤ 2 ^ 16 → IsPart IsAny (PairF
     (both_at (bounded_at (codes " ") 0 (2 ^ 32 - 1))
     (both_at place_at
     (both_at (buffer_at buffers)
-    (both_at (labelled_at (codes " load ") 6) (both_at (labelled_at (codes " residue ") 16) tail_at))))))
+    (both_at (labelled_at (codes " load ") 6) (both_at (labelled_at (codes " residue ") 16) (tail_at false)))))))
 unfolding PairFits pair_text
 found_pair_part buffers few =
     both_part IsStop (λ id. id ≤ 2 ^ 32 - 1) (labelled (codes " pair ") 0) (bounded_at (codes " pair ") 0 (2 ^ 32 - 1)) IsAny
     (λ (c : ℕ × (PlaceFound × (Option ℕ × (ℕ × (ℕ × TailFound))))).
-    (c.0 ≤ 2 ^ 32 - 1) × (IsPrintedPlace c.1.0.1 × (BufferFits buffers c.1.1.0 × (IsShort c.1.1.1.0 × (IsShort c.1.1.1.1.0 × TailFits c.1.1.1.1.1)))))
+    (c.0 ≤ 2 ^ 32 - 1) × (IsPrintedPlace c.1.0.1 × (BufferFits buffers c.1.1.0 × (IsShort c.1.1.1.0 × (IsShort c.1.1.1.1.0 × TailFits false c.1.1.1.1.1)))))
     (λ c. labelled (codes " ") 0 c.0 ++ ((codes " at" ++ point_words c.1.0.1) ++ (buffer_words c.1.1.0 ++ (labelled (codes " load ") 6 c.1.1.1.0 ++ (labelled (codes " residue ") 16 c.1.1.1.1.0 ++ tail_text c.1.1.1.1.1))))) _
     (bounded_part (codes " pair ") 0 (2 ^ 32 - 1) (omega arith))
     (both_part IsStop (λ id. id ≤ 2 ^ 32 - 1) (labelled (codes " ") 0) (bounded_at (codes " ") 0 (2 ^ 32 - 1)) IsAny
     (λ (c : PlaceFound × (Option ℕ × (ℕ × (ℕ × TailFound)))).
-    IsPrintedPlace c.0.1 × (BufferFits buffers c.1.0 × (IsShort c.1.1.0 × (IsShort c.1.1.1.0 × TailFits c.1.1.1.1))))
+    IsPrintedPlace c.0.1 × (BufferFits buffers c.1.0 × (IsShort c.1.1.0 × (IsShort c.1.1.1.0 × TailFits false c.1.1.1.1))))
     (λ c. (codes " at" ++ point_words c.0.1) ++ (buffer_words c.1.0 ++ (labelled (codes " load ") 6 c.1.1.0 ++ (labelled (codes " residue ") 16 c.1.1.1.0 ++ tail_text c.1.1.1.1)))) _
     (bounded_part (codes " ") 0 (2 ^ 32 - 1) (omega arith))
     (both_part IsStop (λ (c : PlaceFound). IsPrintedPlace c.1) (λ c. codes " at" ++ point_words c.1) place_at IsAny
-    (λ (c : Option ℕ × (ℕ × (ℕ × TailFound))). BufferFits buffers c.0 × (IsShort c.1.0 × (IsShort c.1.1.0 × TailFits c.1.1.1)))
+    (λ (c : Option ℕ × (ℕ × (ℕ × TailFound))). BufferFits buffers c.0 × (IsShort c.1.0 × (IsShort c.1.1.0 × TailFits false c.1.1.1)))
     (λ c. buffer_words c.0 ++ (labelled (codes " load ") 6 c.1.0 ++ (labelled (codes " residue ") 16 c.1.1.0 ++ tail_text c.1.1.1))) _
     place_part
     (both_part IsStop (BufferFits buffers) buffer_words (buffer_at buffers) IsAny
-    (λ (c : ℕ × (ℕ × TailFound)). IsShort c.0 × (IsShort c.1.0 × TailFits c.1.1))
+    (λ (c : ℕ × (ℕ × TailFound)). IsShort c.0 × (IsShort c.1.0 × TailFits false c.1.1))
     (λ c. labelled (codes " load ") 6 c.0 ++ (labelled (codes " residue ") 16 c.1.0 ++ tail_text c.1.1)) _
     (buffer_part buffers few)
     (both_part IsStop IsShort (labelled (codes " load ") 6) (labelled_at (codes " load ") 6) IsAny
-    (λ (c : ℕ × TailFound). IsShort c.0 × TailFits c.1) (λ c. labelled (codes " residue ") 16 c.0 ++ tail_text c.1) _
+    (λ (c : ℕ × TailFound). IsShort c.0 × TailFits false c.1) (λ c. labelled (codes " residue ") 16 c.0 ++ tail_text c.1) _
     (labelled_part (codes " load ") 6)
-    (both_part IsStop IsShort (labelled (codes " residue ") 16) (labelled_at (codes " residue ") 16) IsAny TailFits tail_text tail_at
-    (labelled_part (codes " residue ") 16) tail_part (λ b rest fits ends. tail_stop b rest))
+    (both_part IsStop IsShort (labelled (codes " residue ") 16) (labelled_at (codes " residue ") 16) IsAny (TailFits false) tail_text (tail_at false)
+    (labelled_part (codes " residue ") 16) (tail_part false) (λ b rest fits ends. tail_stop b rest))
     (λ b rest fits ends. residue_stop b.0 16 rest (tail_text b.1)))
     (λ b rest fits ends. label_stop b.0 6 rest _))
     (λ b rest fits ends. buffer_then_stop b.0 _ rest))
@@ -311,8 +315,8 @@ pair_part buffers few =
 -- a leaf or a pair
 
 -- the numbers of the children fit their type, as those on a stack do
-pub record RestFits (buffers : ℕ) (node : PrintedNode) : Type 0 where
-  pub bounds : IsPrintedNode buffers node
+pub record RestFits (form : Form) (node : PrintedNode) : Type 0 where
+  pub bounds : IsPrintedNode form node
   pub left : left_or node.kind ≤ 2 ^ 32 - 1
   pub right : right_or node.kind ≤ 2 ^ 32 - 1
 
@@ -360,59 +364,76 @@ pair_kind_fits buffers (sink_leaf id) pair fits short = absurd pair
 pair_kind_fits buffers (pair_node left right None residue) pair fits short = (tt, short)
 pair_kind_fits buffers (pair_node left right (Some index) residue) pair fits short = (fits, short)
 
-leaf_is : (buffers : ℕ) (node : PrintedNode) → LeafNode node → RestFits buffers node
+leaf_arrival : (version : Version) (kind : PrintedKind) (arrival : Option ℕ) → IsLeafKind kind → IsArrival (tells_arrivals version) arrival
+    → IsArrival (tells_arrival version kind) arrival
+unfolding IsLeafKind
+leaf_arrival version (sink_leaf id) arrival leaf fits = fits
+leaf_arrival version (pair_node left right buffer residue) arrival leaf fits = absurd leaf
+
+pair_arrival : (version : Version) (kind : PrintedKind) (arrival : Option ℕ) → IsPairKind kind → IsArrival false arrival
+    → IsArrival (tells_arrival version kind) arrival
+unfolding IsPairKind
+pair_arrival version (sink_leaf id) arrival pair fits = absurd pair
+pair_arrival version (pair_node left right buffer residue) arrival pair fits = fits
+
+leaf_is : (form : Form) (node : PrintedNode) → LeafNode (tells_arrivals form.version) node → RestFits form node
 unfolding LeafNode found_leaf LeafFits TailFits CornersFit
-leaf_is buffers node fits =
+leaf_is form node fits =
     let f = fits.1 in
     record {
       bounds = record {
-        kind = leaf_kind_fits buffers node.kind fits.0 f.0;
+        kind = leaf_kind_fits form.buffers node.kind fits.0 f.0;
         place = f.1.0;
         load = f.1.1.0;
         delay = f.1.1.1.0;
-        slew = f.1.1.1.1.0;
-        wire = f.1.1.1.1.1.0;
-        few = f.1.1.1.1.1.1.0.0;
-        corners = f.1.1.1.1.1.1.0.1;
+        arrival = leaf_arrival form.version node.kind node.arrival fits.0 f.1.1.1.1.0;
+        slew = f.1.1.1.1.1.0;
+        wire = f.1.1.1.1.1.1.0;
+        few = f.1.1.1.1.1.1.1.0.0;
+        corners = f.1.1.1.1.1.1.1.0.1;
       };
       left = leaf_left node.kind fits.0;
       right = leaf_right node.kind fits.0;
     }
 
-pair_is : (buffers : ℕ) (node : PrintedNode) → PairNode buffers node → RestFits buffers node
+pair_is : (form : Form) (node : PrintedNode) → PairNode form.buffers node → RestFits form node
 unfolding PairNode found_pair PairFits TailFits CornersFit
-pair_is buffers node fits =
+pair_is form node fits =
     let f = fits.1 in
     record {
       bounds = record {
-        kind = pair_kind_fits buffers node.kind fits.0 f.1.1.1.0 f.1.1.1.1.1.0;
+        kind = pair_kind_fits form.buffers node.kind fits.0 f.1.1.1.0 f.1.1.1.1.1.0;
         place = f.1.1.0;
         load = f.1.1.1.1.0;
         delay = f.1.1.1.1.1.1.0;
-        slew = f.1.1.1.1.1.1.1.0;
-        wire = f.1.1.1.1.1.1.1.1.0;
-        few = f.1.1.1.1.1.1.1.1.1.0.0;
-        corners = f.1.1.1.1.1.1.1.1.1.0.1;
+        arrival = pair_arrival form.version node.kind node.arrival fits.0 f.1.1.1.1.1.1.1.0;
+        slew = f.1.1.1.1.1.1.1.1.0;
+        wire = f.1.1.1.1.1.1.1.1.1.0;
+        few = f.1.1.1.1.1.1.1.1.1.1.0.0;
+        corners = f.1.1.1.1.1.1.1.1.1.1.0.1;
       };
       left = f.0;
       right = f.1.0;
     }
 
-tail_fits : (buffers : ℕ) (node : PrintedNode) → IsPrintedNode buffers node → TailFits (node.delay, (node.slew, (node.wire, (node.corners, tt))))
+tail_fits : (form : Form) (node : PrintedNode) (kind : PrintedKind) → node.kind ≡ kind → IsPrintedNode form node
+    → TailFits (tells_arrival form.version kind) (node.delay, (node.arrival, (node.slew, (node.wire, (node.corners, tt)))))
 unfolding TailFits CornersFit
-tail_fits buffers node h = (h.delay, (h.slew, (h.wire, ((h.few, h.corners), tt))))
+tail_fits form node kind e h =
+    (h.delay, (subst (λ k. IsArrival (tells_arrival form.version k) node.arrival) e h.arrival, (h.slew, (h.wire, ((h.few, h.corners), tt)))))
 
-which_by : (buffers : ℕ) (node : PrintedNode) (kind : PrintedKind) → node.kind ≡ kind → RestFits buffers node → LeafNode node ⊎ PairNode buffers node
+which_by : (form : Form) (node : PrintedNode) (kind : PrintedKind) → node.kind ≡ kind → RestFits form node
+    → LeafNode (tells_arrivals form.version) node ⊎ PairNode form.buffers node
 unfolding LeafNode PairNode found_leaf found_pair LeafFits PairFits
-which_by buffers node (sink_leaf id) e h =
+which_by form node (sink_leaf id) e h =
     let b = h.bounds in
     inl (
       subst IsLeafKind (sym e) (is_leaf id),
-      (subst (λ k. id_or k ≤ 999999999) (sym e) (id_fits buffers id (subst (IsPrintedKind buffers) e b.kind)), (b.place, (b.load, tail_fits buffers node b))),
+      (subst (λ k. id_or k ≤ 999999999) (sym e) (id_fits form.buffers id (subst (IsPrintedKind form.buffers) e b.kind)), (b.place, (b.load, tail_fits form node (sink_leaf id) e b))),
     )
-which_by buffers node (pair_node left right buffer residue) e h =
+which_by form node (pair_node left right buffer residue) e h =
     let b = h.bounds in
-    let kind = subst (IsPrintedKind buffers) e b.kind in
+    let kind = subst (IsPrintedKind form.buffers) e b.kind in
     inr (
       subst IsPairKind (sym e) (is_pair left right buffer residue),
       (
@@ -422,24 +443,26 @@ which_by buffers node (pair_node left right buffer residue) e h =
           (
             b.place,
             (
-              subst (λ k. BufferFits buffers (buffer_or k)) (sym e) (buffer_fits buffers left right buffer residue kind),
-              (b.load, (subst (λ k. IsShort (residue_or k)) (sym e) (residue_fits buffers left right buffer residue kind), tail_fits buffers node b)),
+              subst (λ k. BufferFits form.buffers (buffer_or k)) (sym e) (buffer_fits form.buffers left right buffer residue kind),
+              (b.load, (subst (λ k. IsShort (residue_or k)) (sym e) (residue_fits form.buffers left right buffer residue kind), tail_fits form node (pair_node left right buffer residue) e b)),
             ),
           ),
         ),
       ),
     )
 
-no_leaf_by : (buffers : ℕ) (node : PrintedNode) (kind : PrintedKind) (rest : List ℕ) → node.kind ≡ kind → PairNode buffers node → leaf_at (rest_text node ++ rest) ≡ None
+no_leaf_by : (told : Bool) (buffers : ℕ) (node : PrintedNode) (kind : PrintedKind) (rest : List ℕ) → node.kind ≡ kind → PairNode buffers node
+    → leaf_at told (rest_text node ++ rest) ≡ None
 unfolding PairNode IsPairKind leaf_at bounded_at labelled_at word_at rest_text name_words whole labelled
-no_leaf_by buffers node (sink_leaf id) rest e fits = absurd (subst IsPairKind e fits.0)
-no_leaf_by buffers node (pair_node left right buffer residue) rest e fits = rw e refl
+no_leaf_by told buffers node (sink_leaf id) rest e fits = absurd (subst IsPairKind e fits.0)
+no_leaf_by told buffers node (pair_node left right buffer residue) rest e fits = rw e refl
 
-pub node_rest_part : (buffers : ℕ) → buffers ≤ 2 ^ 16 → IsPart IsAny (RestFits buffers) rest_text (node_rest_at buffers)
+pub node_rest_part : (form : Form) → form.buffers ≤ 2 ^ 16 → IsPart IsAny (RestFits form) rest_text (node_rest_at form)
 unfolding node_rest_at
-node_rest_part buffers few =
-    first_part IsAny LeafNode (PairNode buffers) (RestFits buffers) rest_text leaf_at (pair_at buffers) leaf_part (pair_part buffers few)
-    (leaf_is buffers) (pair_is buffers) (λ node h. which_by buffers node node.kind refl h) (λ node rest fits. no_leaf_by buffers node node.kind rest refl fits)
+node_rest_part form few =
+    let told : Bool = tells_arrivals form.version in
+    first_part IsAny (LeafNode told) (PairNode form.buffers) (RestFits form) rest_text (leaf_at told) (pair_at form.buffers) (leaf_part told) (pair_part form.buffers few)
+    (leaf_is form) (pair_is form) (λ node h. which_by form node node.kind refl h) (λ node rest fits. no_leaf_by told form.buffers node node.kind rest refl fits)
 
 -- the line of the node of a number
 
@@ -458,19 +481,19 @@ is_number found number e = elim (eqb_tells found number) [ inl p ↦ p.1 | inr p
 pub same_number : (number : ℕ) → eqb number number ≡ true
 same_number number = elim (eqb_tells number number) [ inl p ↦ p.0 | inr p ↦ absurd (p.1 refl) ]
 
-unfoldable pub NodeFits : ℕ → List ℕ → ℕ → PrintedNode → Type 0
-NodeFits buffers stack todo node = RestFits buffers node × (joins_stack stack todo (printed_children node) ≡ true)
+unfoldable pub NodeFits : Form → List ℕ → ℕ → PrintedNode → Type 0
+NodeFits form stack todo node = RestFits form node × (joins_stack stack todo (printed_children node) ≡ true)
 
-pub node_part : (buffers number : ℕ) (stack : List ℕ) (todo : ℕ) → buffers ≤ 2 ^ 16 → number < 10 ^ 38
-    → IsPart IsAny (NodeFits buffers stack todo) (node_line number) (node_at buffers number stack todo)
+pub node_part : (form : Form) (number : ℕ) (stack : List ℕ) (todo : ℕ) → form.buffers ≤ 2 ^ 16 → number < 10 ^ 38
+    → IsPart IsAny (NodeFits form stack todo) (node_line number) (node_at form number stack todo)
 unfolding node_at NodeFits
-node_part buffers number stack todo few small =
-    map_part IsAny (λ (c : ℕ × PrintedNode). (IsShort c.0 × (eqb c.0 number ≡ true)) × (RestFits buffers c.1 × (joins_stack stack todo (printed_children c.1) ≡ true)))
-    (λ c. labelled (codes "node ") 0 c.0 ++ rest_text c.1) _ (NodeFits buffers stack todo) (node_line number) (λ c. c.1) (λ node. (number, node))
+node_part form number stack todo few small =
+    map_part IsAny (λ (c : ℕ × PrintedNode). (IsShort c.0 × (eqb c.0 number ≡ true)) × (RestFits form c.1 × (joins_stack stack todo (printed_children c.1) ≡ true)))
+    (λ c. labelled (codes "node ") 0 c.0 ++ rest_text c.1) _ (NodeFits form stack todo) (node_line number) (λ c. c.1) (λ node. (number, node))
     (both_part IsStop (λ found. IsShort found × (eqb found number ≡ true)) (labelled (codes "node ") 0) (λ bytes. kept_if (λ found. eqb found number) (labelled_at (codes "node ") 0 bytes))
-    IsAny (λ node. RestFits buffers node × (joins_stack stack todo (printed_children node) ≡ true)) rest_text (λ bytes. kept_if (λ node. joins_stack stack todo (printed_children node)) (node_rest_at buffers bytes))
+    IsAny (λ node. RestFits form node × (joins_stack stack todo (printed_children node) ≡ true)) rest_text (λ bytes. kept_if (λ node. joins_stack stack todo (printed_children node)) (node_rest_at form bytes))
     (kept_part IsStop IsShort (labelled (codes "node ") 0) (labelled_at (codes "node ") 0) (λ found. eqb found number) (labelled_part (codes "node ") 0))
-    (kept_part IsAny (RestFits buffers) rest_text (node_rest_at buffers) (λ node. joins_stack stack todo (printed_children node)) (node_rest_part buffers few))
+    (kept_part IsAny (RestFits form) rest_text (node_rest_at form) (λ node. joins_stack stack todo (printed_children node)) (node_rest_part form few))
     (λ b rest fits ends. rest_stop_by b b.kind rest refl))
     (λ c fits. (fits.1, line_by number c.1 c.1.kind refl ∙ ap (λ n. labelled (codes "node ") 0 n ++ rest_text c.1) (sym (is_number c.0 number fits.0.1))))
     (λ node fits. (((small, same_number number), fits), refl))

@@ -12,6 +12,7 @@ use Rattle.cts_report_reader.specs.NodeLine.{buffer_at, pair_at}
 use Rattle.cts_report_reader.specs.Nodes.{seen_node, seen_tail}
 use Rattle.cts_report_reader.specs.Seen.{FindsIn, FindsLines, seen_point}
 use Rattle.cts_report_reader.specs.Words.{word_at, labelled_at, bounded_at, place_at, tail_at}
+use Rattle.cts_report_reader.proofs.PointParts.{TailFits, no_arrival, tail_part}
 
 -- memory ran out
 not_false : ◌≡◌ {A = Bool} false true → ⊥
@@ -40,6 +41,11 @@ pub found_in : {T A : Type 0} (view : T → A) (value : T) (left : Bor (List ℕ
     → FindsIn {E = NoMemory} view (Ok (Some (value, left))) right → right ≡ Some (view value, left.now)
 found_in view value left None h = absurd h
 found_in view value left (Some x) h = ap Some (ap₂ (λ a b. (a, b)) (sym h.0) (sym h.1))
+
+-- the end of a pair's line has no arrival
+untold : (bytes : List ℕ) (tail : Tail) (rest : List ℕ) → tail_at false bytes ≡ Some (seen_tail tail, rest) → tail.arrival ≡ None
+unfolding TailFits
+untold bytes tail rest e = no_arrival tail.arrival ((((tail_part false).takes bytes (seen_tail tail) rest e).0).1.0)
 
 -- a pair whose line breaks off, and one whose line is there
 module _ (buffers : ℕ) (bytes : List ℕ) where
@@ -73,15 +79,16 @@ module _ (buffers : ℕ) (bytes : List ℕ) where
             pair_no_residue e = rw (is_left, is_right, is_place, is_buffer, is_load, e) refl
 
             module _ (residue : ℕ) (six : List ℕ) (is_residue : labelled_at (codes " residue ") 16 five ≡ Some (residue, six)) where
-              pub pair_no_tail : tail_at six ≡ None → pair_at buffers bytes ≡ None
+              pub pair_no_tail : tail_at false six ≡ None → pair_at buffers bytes ≡ None
               unfolding pair_at
               pair_no_tail e = rw (is_left, is_right, is_place, is_buffer, is_load, is_residue, e) refl
 
-              pub pair_there : (tail : Tail) (rest : List ℕ) (node : ReportNode) → tail_at six ≡ Some (seen_tail tail, rest)
+              pub pair_there : (tail : Tail) (rest : List ℕ) (node : ReportNode) → tail_at false six ≡ Some (seen_tail tail, rest)
                   → node ≡ record { kind = Pair left right buffer residue; place = place; load = load; delay = tail.delay; slew = tail.slew; wire = tail.wire; corners = tail.corners }
                   → pair_at buffers bytes ≡ Some (seen_node node, rest)
               unfolding pair_at
-              pair_there tail rest node e is = rw (is, is_left, is_right, is_place, is_buffer, is_load, is_residue, e) refl
+              pair_there tail rest node e is =
+                  rw (is, is_left, is_right, is_place, is_buffer, is_load, is_residue, e, untold six tail rest e) refl
 
 -- the count of the nodes
 is_count : ℕ → Bool

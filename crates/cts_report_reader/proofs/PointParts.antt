@@ -3,11 +3,11 @@ use Rattle.std.proofs.Common.{◌≡◌, ℕ, zero, suc, ◌+◌, ◌-◌, ◌*�
 use Rattle.std.specs.List.{flat_map}
 use Rattle.std.proofs.lemmas.Bool.Decides.{eqb_tells, leb_tells}
 use Rattle.std.proofs.lemmas.List.Elements.{All-nil, All-cons, All-head, All-tail}
-use Rattle.cts_report.specs.Lines.{labelled, coordinate, whole, point_words, corner_words}
+use Rattle.cts_report.specs.Lines.{labelled, coordinate, whole, time, point_words, corner_words, arrival_words}
 use Rattle.cts_report.specs.Printed.{PrintedPoint}
 use Rattle.cts_report_reader.specs.Reader.{PartReader, IsStop, IsAny, IsPart}
-use Rattle.cts_report_reader.specs.Bounds.{IsShort, IsPrintedCoordinate, IsPrintedPoint, IsPrintedPlace}
-use Rattle.cts_report_reader.specs.Words.{◌>>=◌, word_at, kept_if, labelled_at, bounded_at, both_at, mapped_at, is_coordinate, coordinate_at, point_of_two, point_at, is_even_place, place_at, points_at, corners_at, tail_at}
+use Rattle.cts_report_reader.specs.Bounds.{IsShort, IsPrintedCoordinate, IsPrintedPoint, IsPrintedPlace, IsArrival}
+use Rattle.cts_report_reader.specs.Words.{◌>>=◌, word_at, kept_if, labelled_at, bounded_at, both_at, mapped_at, is_coordinate, coordinate_at, point_of_two, point_at, is_even_place, place_at, points_at, corners_at, arrival_at, tail_at}
 use Rattle.cts_report_reader.proofs.Parts.{bind_part, kept_part, same_part, some_is, none_is}
 use Rattle.cts_report_reader.proofs.Labels.{word_part, labelled_part, bounded_part, le_bound}
 
@@ -182,19 +182,66 @@ corners_part =
     (λ ps fits. (fits.0, (refl, fits.1)))
     (λ ps rest fits ends. points_stop ps rest ends)
 
+-- arrivals
+
+arrival_joins : (arrival : ℕ) → IsShort arrival → IsArrival true (Some arrival) × (arrival_words (Some arrival) ≡ labelled (codes " arrival ") 16 arrival)
+unfolding arrival_words time
+arrival_joins arrival fits = (fits, refl)
+
+arrival_or : Option ℕ → ℕ
+arrival_or None = 0
+arrival_or (Some arrival) = arrival
+
+arrival_splits : (c : Option ℕ) → IsArrival true c → IsShort (arrival_or c) × (◌≡◌ {A = Option ℕ} (Some (arrival_or c)) c)
+unfolding arrival_or
+arrival_splits None fits = absurd fits
+arrival_splits (Some arrival) fits = (fits, refl)
+
+-- an arrival that is not told is none
+pub no_arrival : (c : Option ℕ) → IsArrival false c → c ≡ None
+no_arrival None fits = refl
+no_arrival (Some arrival) fits = absurd fits
+
+untold_takes : (bytes : List ℕ) (c : Option ℕ) (rest : List ℕ) → ◌≡◌ {A = Option (Option ℕ × List ℕ)} (Some (None, bytes)) (Some (c, rest))
+    → IsArrival false c × (bytes ≡ arrival_words c ++ rest)
+unfolding arrival_words
+untold_takes bytes None rest e = (tt, ap (λ (x : Option ℕ × List ℕ). x.1) (some_is e))
+untold_takes bytes (Some arrival) rest e = absurd (none_is (ap (λ (x : Option ℕ × List ℕ). x.0) (some_is e)))
+
+untold_again : (c : Option ℕ) (rest : List ℕ) → IsArrival false c → ◌≡◌ {A = Option (Option ℕ × List ℕ)} (Some (None, arrival_words c ++ rest)) (Some (c, rest))
+unfolding arrival_words
+untold_again None rest fits = refl
+untold_again (Some arrival) rest fits = absurd fits
+
+pub arrival_part : (told : Bool) → IsPart IsStop (IsArrival told) arrival_words (arrival_at told)
+unfolding arrival_at
+arrival_part false = record { takes = untold_takes; again = λ c rest fits ends. untold_again c rest fits }
+arrival_part true =
+    map_part IsStop IsShort (labelled (codes " arrival ") 16) (labelled_at (codes " arrival ") 16) (IsArrival true) arrival_words Some arrival_or
+    (labelled_part (codes " arrival ") 16) arrival_joins arrival_splits
+
 -- the end of a node's line
 
-unfoldable pub TailFits : ℕ × (ℕ × (ℕ × (List PrintedPoint × Unit {0}))) → Type 0
-TailFits c = IsShort c.0 × (IsShort c.1.0 × ((c.1.1.0 ≤ 2 ^ 31 - 1) × (CornersFit c.1.1.1.0 × Unit {0})))
+unfoldable pub TailFits : Bool → ℕ × (Option ℕ × (ℕ × (ℕ × (List PrintedPoint × Unit {0})))) → Type 0
+TailFits told c =
+    IsShort c.0 × (IsArrival told c.1.0 × (IsShort c.1.1.0 × ((c.1.1.1.0 ≤ 2 ^ 31 - 1) × (CornersFit c.1.1.1.1.0 × Unit {0}))))
 
-unfoldable pub tail_text : ℕ × (ℕ × (ℕ × (List PrintedPoint × Unit {0}))) → List ℕ
-tail_text c = labelled (codes " delay ") 16 c.0 ++ (labelled (codes " slew ") 16 c.1.0 ++ (labelled (codes " wire ") 3 c.1.1.0 ++ (corner_words c.1.1.1.0 ++ codes "\n")))
+unfoldable pub tail_text : ℕ × (Option ℕ × (ℕ × (ℕ × (List PrintedPoint × Unit {0})))) → List ℕ
+tail_text c =
+    labelled (codes " delay ") 16 c.0 ++ (arrival_words c.1.0 ++ (labelled (codes " slew ") 16 c.1.1.0 ++ (labelled (codes " wire ") 3 c.1.1.1.0 ++ (corner_words c.1.1.1.1.0 ++ codes "\n"))))
 
-pub tail_part : IsPart IsAny TailFits tail_text tail_at
+arrival_stop : (c : Option ℕ) (slew : ℕ) (tail rest : List ℕ) → IsStop ((arrival_words c ++ (labelled (codes " slew ") 16 slew ++ tail)) ++ rest)
+unfolding arrival_words time labelled
+arrival_stop None slew tail rest = refl
+arrival_stop (Some arrival) slew tail rest = refl
+
+pub tail_part : (told : Bool) → IsPart IsAny (TailFits told) tail_text (tail_at told)
 unfolding tail_at TailFits tail_text corner_words whole labelled
-tail_part =
-    both_part IsStop IsShort (labelled (codes " delay ") 16) (labelled_at (codes " delay ") 16) IsAny (λ (c : ℕ × (ℕ × (List PrintedPoint × Unit {0}))). IsShort c.0 × ((c.1.0 ≤ 2 ^ 31 - 1) × (CornersFit c.1.1.0 × Unit {0}))) (λ c. labelled (codes " slew ") 16 c.0 ++ (labelled (codes " wire ") 3 c.1.0 ++ (corner_words c.1.1.0 ++ codes "\n"))) _
+tail_part told =
+    both_part IsStop IsShort (labelled (codes " delay ") 16) (labelled_at (codes " delay ") 16) IsAny (λ (c : Option ℕ × (ℕ × (ℕ × (List PrintedPoint × Unit {0})))). IsArrival told c.0 × (IsShort c.1.0 × ((c.1.1.0 ≤ 2 ^ 31 - 1) × (CornersFit c.1.1.1.0 × Unit {0})))) (λ c. arrival_words c.0 ++ (labelled (codes " slew ") 16 c.1.0 ++ (labelled (codes " wire ") 3 c.1.1.0 ++ (corner_words c.1.1.1.0 ++ codes "\n")))) _
     (labelled_part (codes " delay ") 16)
+    (both_part IsStop (IsArrival told) arrival_words (arrival_at told) IsAny (λ (c : ℕ × (ℕ × (List PrintedPoint × Unit {0}))). IsShort c.0 × ((c.1.0 ≤ 2 ^ 31 - 1) × (CornersFit c.1.1.0 × Unit {0}))) (λ c. labelled (codes " slew ") 16 c.0 ++ (labelled (codes " wire ") 3 c.1.0 ++ (corner_words c.1.1.0 ++ codes "\n"))) _
+    (arrival_part told)
     (both_part IsStop IsShort (labelled (codes " slew ") 16) (labelled_at (codes " slew ") 16) IsAny (λ (c : ℕ × (List PrintedPoint × Unit {0})). (c.0 ≤ 2 ^ 31 - 1) × (CornersFit c.1.0 × Unit {0})) (λ c. labelled (codes " wire ") 3 c.0 ++ (corner_words c.1.0 ++ codes "\n")) _
     (labelled_part (codes " slew ") 16)
     (both_part IsStop (λ wire. wire ≤ 2 ^ 31 - 1) (labelled (codes " wire ") 3) (bounded_at (codes " wire ") 3 (2 ^ 31 - 1)) IsAny (λ (c : List PrintedPoint × Unit {0}). CornersFit c.0 × Unit {0}) (λ c. corner_words c.0 ++ codes "\n") _
@@ -203,4 +250,5 @@ tail_part =
     corners_part (word_part (codes "\n")) (λ b rest fits ends. refl))
     (λ b rest fits ends. refl))
     (λ b rest fits ends. refl))
-    (λ b rest fits ends. refl)
+    (λ b rest fits ends. refl))
+    (λ b rest fits ends. arrival_stop b.0 b.1.0 _ rest)

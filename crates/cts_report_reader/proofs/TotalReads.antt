@@ -1,14 +1,15 @@
 -- The lines on the whole tree, as the code reads them in three steps.
 use Rattle.std.proofs.Common.{◌≡◌, ℕ, ◌+◌, List, Option, Some, None, Result, Ok, Err, true, false, refl, sym, ap, ap₂, subst, codes}
 use Rattle.std.specs.Borrow.{Bor}
-use Rattle.cts_report.specs.Printed.{PrintedTotals}
-use Rattle.cts_report_reader.specs.declared.totals.Answers.{Answers}
+use Rattle.cts_instance.specs.declared.version.Version.{Version}
+use Rattle.cts_report.specs.Printed.{PrintedArrivals, PrintedTotals}
 use Rattle.cts_report_reader.specs.declared.totals.LaterTotals.{LaterTotals}
 use Rattle.cts_report_reader.specs.declared.totals.ReportTotals.{ReportTotals}
+use Rattle.cts_report_reader.specs.Forms.{arrival_count}
 use Rattle.cts_report_reader.specs.Lines.{answer_at, figure_at}
 use Rattle.cts_report_reader.specs.Seen.{FindsLine}
-use Rattle.cts_report_reader.specs.Totals.{seen_answers, seen_later, seen_totals}
-use Rattle.cts_report_reader.specs.Whole.{AnswersFound, LaterFound, totals_of, answers_at, later_at, totals_at}
+use Rattle.cts_report_reader.specs.Totals.{seen_later, seen_totals}
+use Rattle.cts_report_reader.specs.Whole.{ClosingFound, LaterFound, totals_of, arrivals_at, closing_at, later_at, totals_at}
 use Rattle.cts_report_reader.specs.Words.{Finds, labelled_at, same, word_at}
 
 -- what was found, as an equation
@@ -17,48 +18,17 @@ pub found_is : {T A : Type 0} (view : T → A) (value : T) (left : Bor (List ℕ
 found_is view value left None h = absurd h
 found_is view value left (Some x) h = ap Some (ap₂ (λ a b. (a, b)) (sym h.0) (sym h.1))
 
-abbrev later_with : ℕ → ℕ → ℕ → Result (AnswersFound × List ℕ) ℕ → Result (LaterFound × List ℕ) ℕ
-later_with least skew bound (Ok a) = Ok ((least, (skew, (bound, a.0))), a.1)
-later_with least skew bound (Err line) = Err line
-
-later_is : (at : ℕ) (bytes : List ℕ) (least skew bound : ℕ) (one two three : List ℕ)
-    → figure_at (codes "delay least ") 16 bytes ≡ Some (least, one) → figure_at (codes "skew ") 16 one ≡ Some (skew, two)
-    → figure_at (codes "bound ") 16 two ≡ Some (bound, three) → (o : Result (AnswersFound × List ℕ) ℕ) → answers_at at three ≡ o
-    → later_at at bytes ≡ later_with least skew bound o
-unfolding later_at
-later_is at bytes least skew bound one two three e f g (Ok a) h = rw (e, f, g, h) refl
-later_is at bytes least skew bound one two three e f g (Err line) h = rw (e, f, g, h) refl
-
-abbrev with_answers : ℕ → ℕ → ℕ → Result (Answers × Bor (List ℕ)) ℕ → Result (LaterTotals × Bor (List ℕ)) ℕ
-with_answers least skew bound (Ok found) = Ok (record { least = least; skew = skew; bound = bound; answers = found.0 }, found.1)
-with_answers least skew bound (Err line) = Err line
-
-later_seen : (least skew bound : ℕ) (found : Result (Answers × Bor (List ℕ)) ℕ) (right : Result (AnswersFound × List ℕ) ℕ)
-    → FindsLine seen_answers found right → FindsLine seen_later (with_answers least skew bound found) (later_with least skew bound right)
-later_seen least skew bound (Ok found) (Ok right) h = (ap (λ (x : AnswersFound). (least, (skew, (bound, x)))) h.0, h.1)
-later_seen least skew bound (Ok found) (Err line) h = absurd h
-later_seen least skew bound (Err line) (Ok right) h = absurd h
-later_seen least skew bound (Err line) (Err right) h = h
-
-pub later_found : (at : ℕ) (bytes : List ℕ) (least skew bound : ℕ) (one two three : Bor (List ℕ)) (found : Result (Answers × Bor (List ℕ)) ℕ)
-    → Finds same (Some (least, one)) (figure_at (codes "delay least ") 16 bytes) → Finds same (Some (skew, two)) (figure_at (codes "skew ") 16 one.now)
-    → Finds same (Some (bound, three)) (figure_at (codes "bound ") 16 two.now) → FindsLine seen_answers found (answers_at at three.now)
-    → FindsLine seen_later (with_answers least skew bound found) (later_at at bytes)
-later_found at bytes least skew bound one two three found e f g h =
-    let is = later_is at bytes least skew bound one.now two.now three.now (found_is same least one _ e) (found_is same skew two _ f) (found_is same bound three _ g) (answers_at at three.now) refl in
-    subst (FindsLine seen_later (with_answers least skew bound found)) (sym is) (later_seen least skew bound found (answers_at at three.now) h)
-
 abbrev totals_with : ℕ → ℕ → ℕ → Result (LaterFound × List ℕ) ℕ → Result (PrintedTotals × List ℕ) ℕ
 totals_with load wire greatest (Ok a) = Ok (totals_of (load, (wire, (greatest, a.0))), a.1)
 totals_with load wire greatest (Err line) = Err line
 
-totals_is : (at : ℕ) (bytes : List ℕ) (load wire greatest : ℕ) (one two three : List ℕ)
+totals_is : (version : Version) (at : ℕ) (bytes : List ℕ) (load wire greatest : ℕ) (one two three : List ℕ)
     → figure_at (codes "source load ") 6 bytes ≡ Some (load, one) → figure_at (codes "wire total ") 3 one ≡ Some (wire, two)
-    → figure_at (codes "delay greatest ") 16 two ≡ Some (greatest, three) → (o : Result (LaterFound × List ℕ) ℕ) → later_at at three ≡ o
-    → totals_at at bytes ≡ totals_with load wire greatest o
+    → figure_at (codes "delay greatest ") 16 two ≡ Some (greatest, three) → (o : Result (LaterFound × List ℕ) ℕ) → later_at version (at + 3) three ≡ o
+    → totals_at version at bytes ≡ totals_with load wire greatest o
 unfolding totals_at
-totals_is at bytes load wire greatest one two three e f g (Ok a) h = rw (e, f, g, h) refl
-totals_is at bytes load wire greatest one two three e f g (Err line) h = rw (e, f, g, h) refl
+totals_is version at bytes load wire greatest one two three e f g (Ok a) h = rw (e, f, g, h) refl
+totals_is version at bytes load wire greatest one two three e f g (Err line) h = rw (e, f, g, h) refl
 
 abbrev with_later : ℕ → ℕ → ℕ → Result (LaterTotals × Bor (List ℕ)) ℕ → Result (ReportTotals × Bor (List ℕ)) ℕ
 with_later load wire greatest (Ok found) =
@@ -68,10 +38,11 @@ with_later load wire greatest (Ok found) =
         wire_total = wire;
         greatest = greatest;
         least = (found.0).least;
-        skew = (found.0).skew;
-        bound = (found.0).bound;
-        load_met = (found.0).answers.load_met;
-        slew_met = (found.0).answers.slew_met;
+        arrivals = (found.0).arrivals;
+        skew = (found.0).closing.skew;
+        bound = (found.0).closing.bound;
+        load_met = (found.0).closing.load_met;
+        slew_met = (found.0).closing.slew_met;
       },
       found.1,
     )
@@ -84,13 +55,13 @@ totals_seen load wire greatest (Ok found) (Err line) h = absurd h
 totals_seen load wire greatest (Err line) (Ok right) h = absurd h
 totals_seen load wire greatest (Err line) (Err right) h = h
 
-pub totals_found : (at : ℕ) (bytes : List ℕ) (load wire greatest : ℕ) (one two three : Bor (List ℕ)) (found : Result (LaterTotals × Bor (List ℕ)) ℕ)
+pub totals_found : (version : Version) (at : ℕ) (bytes : List ℕ) (load wire greatest : ℕ) (one two three : Bor (List ℕ)) (found : Result (LaterTotals × Bor (List ℕ)) ℕ)
     → Finds same (Some (load, one)) (figure_at (codes "source load ") 6 bytes) → Finds same (Some (wire, two)) (figure_at (codes "wire total ") 3 one.now)
-    → Finds same (Some (greatest, three)) (figure_at (codes "delay greatest ") 16 two.now) → FindsLine seen_later found (later_at at three.now)
-    → FindsLine seen_totals (with_later load wire greatest found) (totals_at at bytes)
-totals_found at bytes load wire greatest one two three found e f g h =
-    let is = totals_is at bytes load wire greatest one.now two.now three.now (found_is same load one _ e) (found_is same wire two _ f) (found_is same greatest three _ g) (later_at at three.now) refl in
-    subst (FindsLine seen_totals (with_later load wire greatest found)) (sym is) (totals_seen load wire greatest found (later_at at three.now) h)
+    → Finds same (Some (greatest, three)) (figure_at (codes "delay greatest ") 16 two.now) → FindsLine seen_later found (later_at version (at + 3) three.now)
+    → FindsLine seen_totals (with_later load wire greatest found) (totals_at version at bytes)
+totals_found version at bytes load wire greatest one two three found e f g h =
+    let is = totals_is version at bytes load wire greatest one.now two.now three.now (found_is same load one _ e) (found_is same wire two _ f) (found_is same greatest three _ g) (later_at version (at + 3) three.now) refl in
+    subst (FindsLine seen_totals (with_later load wire greatest found)) (sym is) (totals_seen load wire greatest found (later_at version (at + 3) three.now) h)
 
 -- nothing was found, as an equation
 pub nothing_is : {T A : Type 0} (view : T → A) (right : Option (A × List ℕ)) → Finds view None right → right ≡ None
@@ -139,31 +110,38 @@ pub line_missed : {T A : Type 0} (view : T → A) (line other : ℕ) (right : Re
     → FindsLine view (Err line) right
 line_missed view line other right e f = rw e f
 
-module _ (at : ℕ) (bytes : List ℕ) where
-  pub later_no_least : figure_at (codes "delay least ") 16 bytes ≡ None → later_at at bytes ≡ Err (at + 3 + 1)
+-- lines that are there
+pub line_is : {T A : Type 0} (view : T → A) (value : T) (left : Bor (List ℕ)) (right : Result (A × List ℕ) ℕ) → FindsLine view (Ok (value, left)) right
+    → right ≡ Ok (view value, left.now)
+line_is view value left (Ok x) h = ap Ok (ap₂ (λ a b. (a, b)) (sym h.0) (sym h.1))
+line_is view value left (Err line) h = absurd h
+
+pub line_there : {T A : Type 0} (view : T → A) (value : T) (left : Bor (List ℕ)) (right : Result (A × List ℕ) ℕ) → right ≡ Ok (view value, left.now)
+    → FindsLine view (Ok (value, left)) right
+line_there view value left right e = rw e (refl, refl)
+
+module _ (version : Version) (at : ℕ) (bytes : List ℕ) where
+  pub later_no_least : figure_at (codes "delay least ") 16 bytes ≡ None → later_at version at bytes ≡ Err (at + 1)
   unfolding later_at
   later_no_least e = rw e refl
 
-  pub later_no_skew : (least : ℕ) (one : List ℕ) → figure_at (codes "delay least ") 16 bytes ≡ Some (least, one) → figure_at (codes "skew ") 16 one ≡ None
-      → later_at at bytes ≡ Err (at + 4 + 1)
+  pub later_there : (least : ℕ) (one : List ℕ) → figure_at (codes "delay least ") 16 bytes ≡ Some (least, one)
+      → (arrivals : Option PrintedArrivals) (two : List ℕ) → arrivals_at version (at + 1) one ≡ Ok (arrivals, two)
+      → (closing : ClosingFound) (rest : List ℕ) → closing_at (at + 1 + arrival_count version) two ≡ Ok (closing, rest)
+      → later_at version at bytes ≡ Ok ((least, (arrivals, closing)), rest)
   unfolding later_at
-  later_no_skew least one e f = rw (e, f) refl
+  later_there least one e arrivals two f closing rest g = rw (e, f, g) refl
 
-  pub later_no_bound : (least skew : ℕ) (one two : List ℕ) → figure_at (codes "delay least ") 16 bytes ≡ Some (least, one)
-      → figure_at (codes "skew ") 16 one ≡ Some (skew, two) → figure_at (codes "bound ") 16 two ≡ None → later_at at bytes ≡ Err (at + 5 + 1)
-  unfolding later_at
-  later_no_bound least skew one two e f g = rw (e, f, g) refl
-
-  pub totals_no_load : figure_at (codes "source load ") 6 bytes ≡ None → totals_at at bytes ≡ Err (at + 1)
+  pub totals_no_load : figure_at (codes "source load ") 6 bytes ≡ None → totals_at version at bytes ≡ Err (at + 1)
   unfolding totals_at
   totals_no_load e = rw e refl
 
   pub totals_no_wire : (load : ℕ) (one : List ℕ) → figure_at (codes "source load ") 6 bytes ≡ Some (load, one) → figure_at (codes "wire total ") 3 one ≡ None
-      → totals_at at bytes ≡ Err (at + 1 + 1)
+      → totals_at version at bytes ≡ Err (at + 1 + 1)
   unfolding totals_at
   totals_no_wire load one e f = rw (e, f) refl
 
   pub totals_no_greatest : (load wire : ℕ) (one two : List ℕ) → figure_at (codes "source load ") 6 bytes ≡ Some (load, one)
-      → figure_at (codes "wire total ") 3 one ≡ Some (wire, two) → figure_at (codes "delay greatest ") 16 two ≡ None → totals_at at bytes ≡ Err (at + 2 + 1)
+      → figure_at (codes "wire total ") 3 one ≡ Some (wire, two) → figure_at (codes "delay greatest ") 16 two ≡ None → totals_at version at bytes ≡ Err (at + 2 + 1)
   unfolding totals_at
   totals_no_greatest load wire one two e f g = rw (e, f, g) refl

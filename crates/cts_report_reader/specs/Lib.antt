@@ -1,4 +1,5 @@
 pub mod Bounds
+pub mod Forms
 pub mod Lines
 pub mod NodeLine
 pub mod Nodes

@@ -1,5 +1,5 @@
 -- The words of a report's lines, read from the front of bytes.
-use Rattle.std.specs.Prelude.{◌≡◌, ℕ, zero, suc, ◌+◌, ◌-◌, ◌*◌, ◌/◌, ◌%◌, ◌^◌, Bool, ◌&&◌, if◌then◌else◌, nat_le, List, [], ◌∷◌, take, drop, codes, Option, Some, None, ◌==◌}
+use Rattle.std.specs.Prelude.{◌≡◌, ℕ, zero, suc, ◌+◌, ◌*◌, ◌/◌, ◌%◌, ◌^◌, Bool, true, false, ◌&&◌, if◌then◌else◌, nat_le, List, [], ◌∷◌, take, drop, codes, Option, Some, None, ◌==◌}
 use Rattle.std.specs.Borrow.{Bor}
 use Rattle.std.specs.List.{prefix_len}
 use Rattle.cts_num.specs.Canonical.{canonical_of}
@@ -93,9 +93,15 @@ abbrev pub first_of : {A : Type 0} → Option A → Option A → Option A
 first_of (Some found) other = Some found
 first_of None other = other
 
--- what every line of a node ends with: delay, slew, wire and corners
-unfoldable pub tail_at : PartReader (ℕ × (ℕ × (ℕ × (List PrintedPoint × Unit))))
-tail_at =
+-- an arrival, where it is told
+unfoldable pub arrival_at : Bool → PartReader (Option ℕ)
+arrival_at false bytes = Some (None, bytes)
+arrival_at true bytes = mapped_at Some (labelled_at (codes " arrival ") 16) bytes
+
+-- what every line of a node ends with: delay, arrival where it is told, slew, wire and corners
+unfoldable pub tail_at : Bool → PartReader (ℕ × (Option ℕ × (ℕ × (ℕ × (List PrintedPoint × Unit)))))
+tail_at told =
     both_at (labelled_at (codes " delay ") 16)
+    (both_at (arrival_at told)
     (both_at (labelled_at (codes " slew ") 16)
-    (both_at (bounded_at (codes " wire ") 3 max_length) (both_at corners_at (word_at (codes "\n")))))
+    (both_at (bounded_at (codes " wire ") 3 max_length) (both_at corners_at (word_at (codes "\n"))))))

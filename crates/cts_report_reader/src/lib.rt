@@ -1,6 +1,7 @@
 //! Reports read from bytes: what a report prints, or the first line with which no report begins.
 //!
-//! The layers above may use [`read_report`] and the types of what it finds. `specs/Reports.antt` says
+//! The layers above may use [`read_report`] and the types of what it finds. The form of an instance's
+//! reports, its version and the size of its library, is in `specs/Forms.antt`. `specs/Reports.antt` says
 //! what a reading tells: `cts_report` has the text of a report as a function of what is printed, and
 //! `specs/Bounds.antt` has what can be printed, so that some bytes are the text of one report at most
 //! and bytes that are none go wrong at one line (`specs/Text.antt`, and the laws of [`laws`]).
@@ -12,6 +13,7 @@
 #![tactic(auto)]
 
 mod digits;
+mod form;
 pub mod laws;
 mod node;
 mod points;
@@ -21,4 +23,4 @@ mod words;
 
 pub use node::{ReportKind, ReportNode};
 pub use report::{Reading, Report, read_report};
-pub use totals::ReportTotals;
+pub use totals::{ReportArrivals, ReportTotals};

@@ -4,10 +4,12 @@ ghost use Rattle.std.specs.Prelude.{◌≡◌, ℕ, ◌+◌, ◌^◌, ◌<◌, �
 ghost use Rattle.cts_postorder.specs.Stack.{stack_after};
 ghost use Rattle.cts_report_reader.specs.Bounds.{children_of_kind};
 ghost use Rattle.cts_report_reader.specs.NodeLine.{joins_stack, buffer_at, leaf_at, node_at, node_rest_at, pair_at};
-ghost use Rattle.cts_report_reader.specs.Nodes.{IsSeenNode, seen_buffer, seen_kind, seen_node, seen_tail};
+ghost use Rattle.cts_report.specs.Printed.{sink_leaf};
+ghost use Rattle.cts_report_reader.specs.Nodes.{IsSeenNode, seen_arrival, seen_buffer, seen_kind, seen_node, seen_tail};
 ghost use Rattle.cts_report_reader.specs.Seen.{FindsIn, IsSeen};
-ghost use Rattle.cts_report_reader.specs.Words.{Finds, tail_at};
+ghost use Rattle.cts_report_reader.specs.Words.{Finds, arrival_at, same, tail_at};
 
+use crate::form::{Form, tells_arrivals};
 use crate::points::{corners, place};
 use crate::words::{after_word, bounded, labelled};
 use cts_geom::Half;
@@ -27,6 +29,11 @@ pub enum ReportKind {
     /// A sink, by its id.
     Leaf {
         id: u32,
+    },
+    /// A sink, by its id, whose arrival in 10^-16 ps is told, as a report of version 2 does.
+    TimedLeaf {
+        id: u32,
+        arrival: u128,
     },
     /// A pair of two parts, by the numbers of their roots, the index of its buffer in the library, if
     /// it has one, and its residue in 10^-16 ps.
@@ -60,18 +67,35 @@ pub struct ReportNode {
 #[derive(Drop)]
 pub struct Tail {
     delay: u128,
+    arrival: Option<u128>,
     slew: u128,
     wire: u32,
     corners: Corners,
 }
 
-/// Delay, slew, wire and corners, and the end of the line.
+/// An arrival, where it is told.
+#[tactic(auto, unfolding(crate::specs::Words::arrival_at))]
+#[inline(always)]
+fn arrival(told: bool, bytes: &[u8]) -> Option<(Option<u128>, &[u8])>
+    ensures { Finds same result (arrival_at told bytes.now) }
+{
+    if !told {
+        return Some((None, bytes));
+    }
+    let (arrival, rest) = labelled(bytes, b" arrival ", 16)?;
+    Some((Some(arrival), rest))
+}
+
+/// Delay, arrival where it is told, slew, wire and corners, and the end of the line.
 #[tactic(auto, unfolding(crate::specs::Words::tail_at))]
-fn node_tail(alloc: Global, bytes: &[u8]) -> Result<Option<(Tail, &[u8])>, NoMemory>
-    ensures found { FindsIn seen_tail result (tail_at bytes.now) }
+fn node_tail(alloc: Global, told: bool, bytes: &[u8]) -> Result<Option<(Tail, &[u8])>, NoMemory>
+    ensures found { FindsIn seen_tail result (tail_at told bytes.now) }
     ensures seen { IfOk result (λ found. IfSome found (λ tail. All IsSeen tail.0.corners)) }
 {
     let Some((delay, rest)) = labelled(bytes, b" delay ", 16) else {
+        return Ok(None);
+    };
+    let Some((arrival, rest)) = arrival(told, rest) else {
         return Ok(None);
     };
     let Some((slew, rest)) = labelled(rest, b" slew ", 16) else {
@@ -89,6 +113,7 @@ fn node_tail(alloc: Global, bytes: &[u8]) -> Result<Option<(Tail, &[u8])>, NoMem
     Ok(Some((
         Tail {
             delay,
+            arrival,
             slew,
             wire: wire as u32,
             corners,
@@ -97,10 +122,21 @@ fn node_tail(alloc: Global, bytes: &[u8]) -> Result<Option<(Tail, &[u8])>, NoMem
     )))
 }
 
+/// A leaf, with its arrival where it is told.
+fn leaf_kind(id: u32, arrival: Option<u128>) -> ReportKind
+    ensures leaf { seen_kind result ≡ sink_leaf id }
+    ensures arrival { seen_arrival result ≡ arrival }
+{
+    match arrival {
+        None => ReportKind::Leaf { id },
+        Some(arrival) => ReportKind::TimedLeaf { id, arrival },
+    }
+}
+
 /// The line of a leaf from its id on.
 #[tactic(auto, unfolding(crate::specs::NodeLine::leaf_at))]
-fn leaf(alloc: Global, bytes: &[u8]) -> Result<Option<(ReportNode, &[u8])>, NoMemory>
-    ensures found { FindsIn seen_node result (leaf_at bytes.now) }
+fn leaf(alloc: Global, told: bool, bytes: &[u8]) -> Result<Option<(ReportNode, &[u8])>, NoMemory>
+    ensures found { FindsIn seen_node result (leaf_at told bytes.now) }
     ensures seen { IfOk result (λ found. IfSome found (λ node. IsSeenNode node.0)) }
 {
     let Some((id, rest)) = bounded(bytes, b" leaf ", 0, 999_999_999) else {
@@ -112,10 +148,10 @@ fn leaf(alloc: Global, bytes: &[u8]) -> Result<Option<(ReportNode, &[u8])>, NoMe
     let Some((load, rest)) = labelled(rest, b" load ", 6) else {
         return Ok(None);
     };
-    let Some((tail, rest)) = node_tail(alloc, rest)? else {
+    let Some((tail, rest)) = node_tail(alloc, told, rest)? else {
         return Ok(None);
     };
-    let kind = ReportKind::Leaf { id: id as u32 };
+    let kind = leaf_kind(id as u32, tail.arrival);
     Ok(Some((node_of(kind, place, load, tail), rest)))
 }
 
@@ -128,6 +164,7 @@ fn node_of(kind: ReportKind, place: Half, load: u128, tail: Tail) -> ReportNode
         slew,
         wire,
         corners,
+        ..
     } = tail;
     ReportNode {
         kind,
@@ -182,7 +219,7 @@ fn pair(alloc: Global, buffers: u64, bytes: &[u8]) -> Result<Option<(ReportNode,
     let Some((residue, rest)) = labelled(rest, b" residue ", 16) else {
         return Ok(None);
     };
-    let Some((tail, rest)) = node_tail(alloc, rest)? else {
+    let Some((tail, rest)) = node_tail(alloc, false, rest)? else {
         return Ok(None);
     };
     let kind = ReportKind::Pair {
@@ -198,17 +235,17 @@ fn pair(alloc: Global, buffers: u64, bytes: &[u8]) -> Result<Option<(ReportNode,
 #[tactic(auto, unfolding(crate::specs::NodeLine::node_rest_at))]
 fn node_rest(
     alloc: Global,
-    buffers: u64,
+    form: Form,
     bytes: &[u8],
 ) -> Result<Option<(ReportNode, &[u8])>, NoMemory>
-    requires { buffers ≤ 2 ^ 16 }
-    ensures found { FindsIn seen_node result (node_rest_at buffers bytes.now) }
+    requires { form.buffers ≤ 2 ^ 16 }
+    ensures found { FindsIn seen_node result (node_rest_at form bytes.now) }
     ensures seen { IfOk result (λ found. IfSome found (λ node. IsSeenNode node.0)) }
 {
-    if let Some(found) = leaf(alloc, bytes)? {
+    if let Some(found) = leaf(alloc, tells_arrivals(form.version), bytes)? {
         return Ok(Some(found));
     }
-    pair(alloc, buffers, bytes)
+    pair(alloc, form.buffers, bytes)
 }
 
 /// Whether a node joins the stack, whose latest tree is the last: a pair takes the two latest, and the
@@ -217,7 +254,7 @@ fn joins(stack: &[u32], todo: usize, kind: &ReportKind) -> bool
     ensures { result ≡ joins_stack (reverse stack.now) todo (children_of_kind (seen_kind kind.now)) }
 {
     match kind {
-        ReportKind::Leaf { .. } => stack.len() <= todo,
+        ReportKind::Leaf { .. } | ReportKind::TimedLeaf { .. } => stack.len() <= todo,
         ReportKind::Pair { left, right, .. } => takes_last(stack, *left, *right),
     }
 }
@@ -238,7 +275,7 @@ pub fn stack_node(stack: &mut Vec<u32>, kind: &ReportKind, number: u32) -> Resul
         ≡ stack_after (children_of_kind (seen_kind kind.now)) (reverse stack.old.items) number) }
 {
     match kind {
-        ReportKind::Leaf { .. } => push_leaf(stack, number),
+        ReportKind::Leaf { .. } | ReportKind::TimedLeaf { .. } => push_leaf(stack, number),
         ReportKind::Pair { .. } => push_pair(stack, number),
     }
 }
@@ -263,14 +300,14 @@ fn push_pair(stack: &mut Vec<u32>, number: u32) -> Result<(), NoMemory>
 #[tactic(auto, unfolding(crate::specs::NodeLine::node_at))]
 pub fn node<'a>(
     alloc: Global,
-    buffers: u64,
+    form: Form,
     number: u32,
     stack: &[u32],
     todo: usize,
     bytes: &'a [u8],
 ) -> Result<Option<(ReportNode, &'a [u8])>, NoMemory>
-    requires { buffers ≤ 2 ^ 16 }
-    ensures found { FindsIn seen_node result (node_at buffers number (reverse stack.now) todo bytes.now) }
+    requires { form.buffers ≤ 2 ^ 16 }
+    ensures found { FindsIn seen_node result (node_at form number (reverse stack.now) todo bytes.now) }
     ensures seen { IfOk result (λ found. IfSome found (λ node. IsSeenNode node.0)) }
 {
     let Some((found, rest)) = labelled(bytes, b"node ", 0) else {
@@ -279,7 +316,7 @@ pub fn node<'a>(
     if found != u128::from(number) {
         return Ok(None);
     }
-    let Some((node, rest)) = node_rest(alloc, buffers, rest)? else {
+    let Some((node, rest)) = node_rest(alloc, form, rest)? else {
         return Ok(None);
     };
     if joins(stack, todo, &node.kind) {

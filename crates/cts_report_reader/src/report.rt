@@ -1,14 +1,18 @@
 //! A whole report.
 
 ghost use Rattle.std.specs.Prelude.{◌≡◌, ℕ, ◌+◌, ◌^◌, ◌<◌, ◌≤◌, [], length, map, All, IfOk};
+ghost use Rattle.cts_instance.specs.Validity.{IsValid};
+ghost use Rattle.cts_report_reader.specs.Forms.{arrival_count, form_of};
 ghost use Rattle.cts_report_reader.specs.Nodes.{IsSeenNode, seen_nodes};
 ghost use Rattle.cts_report_reader.specs.Reports.{IsEnd, IsReading, IsSeenReading, seen_report};
 ghost use Rattle.cts_report_reader.specs.Seen.{FindsLine, FindsLines};
 ghost use Rattle.cts_report_reader.specs.Whole.{after_nodes, body_at, nodes_at, report_at, totals_at};
 
+use crate::form::{Form, arrival_count, form_of, title};
 use crate::node::{ReportNode, node, stack_node};
 use crate::totals::{ReportTotals, count, totals};
 use crate::words::after_word;
+use cts_instance::{Instance, Version};
 use cts_num::NoMemory;
 use std::alloc::Global;
 
@@ -35,13 +39,13 @@ const SHORTEST_LINE: usize = 111;
 /// The nodes of a report, so many of them.
 fn nodes(
     alloc: Global,
-    buffers: u64,
+    form: Form,
     count: u32,
     bytes: &[u8],
 ) -> Result<Result<(Vec<ReportNode>, &[u8]), u32>, NoMemory>
-    requires buffers { buffers ≤ 2 ^ 16 }
+    requires buffers { form.buffers ≤ 2 ^ 16 }
     requires count { count ≤ 131071 }
-    ensures found { FindsLines (λ nodes. seen_nodes nodes.items) result (nodes_at buffers count 0 [] bytes.now) }
+    ensures found { FindsLines (λ nodes. seen_nodes nodes.items) result (nodes_at form count 0 [] bytes.now) }
     ensures seen { IfOk result (λ found. IfOk found (λ nodes. All IsSeenNode nodes.0.items)) }
     ensures long { IfOk result (λ found. IfOk found (λ nodes. length nodes.0.items ≡ count)) }
 {
@@ -50,7 +54,7 @@ fn nodes(
     let mut rest = bytes;
     for number in 0..count {
         let todo = (count - number - 1) as usize;
-        let Some((next, after)) = node(alloc, buffers, number, stack.as_slice(), todo, rest)? else {
+        let Some((next, after)) = node(alloc, form, number, stack.as_slice(), todo, rest)? else {
             return Ok(Err(number + 3));
         };
         stack_node(&mut stack, &next.kind, number)?;
@@ -62,12 +66,17 @@ fn nodes(
 
 /// The lines on the whole tree, after the nodes, before which `at` lines stand.
 #[tactic(auto)]
-fn with_totals(nodes: Vec<ReportNode>, bytes: &[u8], at: u32) -> Result<(Report, &[u8]), u32>
+fn with_totals(
+    version: Version,
+    nodes: Vec<ReportNode>,
+    bytes: &[u8],
+    at: u32,
+) -> Result<(Report, &[u8]), u32>
     requires { at ≤ 2 ^ 20 }
-    ensures found { FindsLine seen_report result (after_nodes (seen_nodes nodes.items) (totals_at at bytes.now)) }
+    ensures found { FindsLine seen_report result (after_nodes (seen_nodes nodes.items) (totals_at version at bytes.now)) }
     ensures same { IfOk result (λ found. found.0.nodes.items ≡ nodes.items) }
 {
-    match totals(bytes, at) {
+    match totals(version, bytes, at) {
         Ok((totals, rest)) => Ok((Report { nodes, totals }, rest)),
         Err(line) => Err(line),
     }
@@ -77,68 +86,72 @@ fn with_totals(nodes: Vec<ReportNode>, bytes: &[u8], at: u32) -> Result<(Report,
 #[tactic(auto, unfolding(crate::specs::Whole::body_at))]
 fn body(
     alloc: Global,
-    buffers: u64,
+    form: Form,
     count: u32,
     bytes: &[u8],
 ) -> Result<Result<(Report, &[u8]), u32>, NoMemory>
-    requires buffers { buffers ≤ 2 ^ 16 }
+    requires buffers { form.buffers ≤ 2 ^ 16 }
     requires count { count ≤ 131071 }
-    ensures found { FindsLines seen_report result (body_at buffers count bytes.now) }
+    ensures found { FindsLines seen_report result (body_at form count bytes.now) }
     ensures seen { IfOk result (λ found. IfOk found (λ report. All IsSeenNode report.0.nodes.items)) }
     ensures few { IfOk result (λ found. IfOk found (λ report. length report.0.nodes.items ≤ 131071)) }
 {
-    match nodes(alloc, buffers, count, bytes)? {
-        Ok((nodes, rest)) => Ok(with_totals(nodes, rest, count + 2)),
+    match nodes(alloc, form, count, bytes)? {
+        Ok((nodes, rest)) => Ok(with_totals(form.version, nodes, rest, count + 2)),
         Err(line) => Ok(Err(line)),
     }
 }
 
 /// A report up to its last line.
 #[tactic(auto, unfolding(crate::specs::Whole::report_at))]
-fn lines(
-    alloc: Global,
-    buffers: u64,
-    bytes: &[u8],
-) -> Result<Result<(Report, &[u8]), u32>, NoMemory>
-    requires { buffers ≤ 2 ^ 16 }
-    ensures found { FindsLines seen_report result (report_at buffers bytes.now) }
+fn lines(alloc: Global, form: Form, bytes: &[u8]) -> Result<Result<(Report, &[u8]), u32>, NoMemory>
+    requires { form.buffers ≤ 2 ^ 16 }
+    ensures found { FindsLines seen_report result (report_at form bytes.now) }
     ensures seen { IfOk result (λ found. IfOk found (λ report. All IsSeenNode report.0.nodes.items)) }
     ensures few { IfOk result (λ found. IfOk found (λ report. length report.0.nodes.items ≤ 131071)) }
 {
-    let Some(((), rest)) = after_word(bytes, b"cts report 1\n") else {
+    let Some(((), rest)) = after_word(bytes, title(form.version)) else {
         return Ok(Err(1));
     };
     let Some((count, rest)) = count(rest) else {
         return Ok(Err(2));
     };
-    body(alloc, buffers, count, rest)
+    body(alloc, form, count, rest)
 }
 
-/// The report whose text the bytes are, where the library of the instance has so many buffers; or the
-/// first line with which no report begins.
+/// The report of this instance whose text the bytes are, or the first line with which none begins.
 ///
 /// It takes time and memory in proportion to the bytes.
-pub fn read_report(alloc: Global, buffers: usize, bytes: &[u8]) -> Result<Reading, NoMemory>
-    requires { buffers ≤ 2 ^ 16 }
-    ensures told { IfOk result (IsReading buffers bytes.now) }
+pub fn read_report(alloc: Global, instance: &Instance, bytes: &[u8]) -> Result<Reading, NoMemory>
+    ensures told { IfOk result (IsReading (form_of instance.now) bytes.now) }
+    ensures seen { IfOk result IsSeenReading }
+    ensures valid { IsValid instance.now }
+{
+    read_with(alloc, form_of(instance), bytes)
+}
+
+/// The same, by the form of the instance's reports.
+fn read_with(alloc: Global, form: Form, bytes: &[u8]) -> Result<Reading, NoMemory>
+    requires { form.buffers ≤ 2 ^ 16 }
+    ensures told { IfOk result (IsReading form bytes.now) }
     ensures seen { IfOk result IsSeenReading }
 {
-    match lines(alloc, buffers as u64, bytes)? {
-        Ok((report, rest)) => Ok(at_the_end(report, rest)),
+    match lines(alloc, form, bytes)? {
+        Ok((report, rest)) => Ok(at_the_end(form.version, report, rest)),
         Err(line) => Ok(Reading::NotText { line }),
     }
 }
 
-/// A report that has to end here: 11 lines stand beside those of its nodes.
-fn at_the_end(report: Report, rest: &[u8]) -> Reading
+/// A report that has to end here: 11 lines and those on arrivals stand beside those of its nodes.
+fn at_the_end(version: Version, report: Report, rest: &[u8]) -> Reading
     requires { length report.nodes.items ≤ 131071 }
-    ensures { IsEnd report rest.now result }
+    ensures { IsEnd version report rest.now result }
 {
     if rest.is_empty() {
         Reading::Text { report }
     } else {
         Reading::NotText {
-            line: report.nodes.len() as u32 + 12,
+            line: report.nodes.len() as u32 + 12 + arrival_count(version),
         }
     }
 }

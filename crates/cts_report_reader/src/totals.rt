@@ -1,13 +1,22 @@
 //! The lines of a report but those of its nodes.
 
-ghost use Rattle.std.specs.Prelude.{◌≡◌, ℕ, ◌+◌, ◌^◌, ◌<◌, ◌≤◌, length, IfSome};
+ghost use Rattle.std.specs.Prelude.{◌≡◌, ℕ, ◌+◌, ◌^◌, ◌<◌, ◌≤◌, ◌-◌, length, IfSome};
 ghost use Rattle.cts_report_reader.specs.Lines.{answer_at, count_at, figure_at};
 ghost use Rattle.cts_report_reader.specs.Seen.{FindsLine};
-ghost use Rattle.cts_report_reader.specs.Totals.{seen_answers, seen_later, seen_totals};
-ghost use Rattle.cts_report_reader.specs.Whole.{answers_at, later_at, totals_at};
+ghost use Rattle.cts_report_reader.specs.Totals.{seen_arrivals, seen_closing, seen_later, seen_totals};
+ghost use Rattle.cts_report_reader.specs.Whole.{arrivals_at, closing_at, later_at, totals_at};
 ghost use Rattle.cts_report_reader.specs.Words.{Finds, same};
 
+use crate::form::arrival_count;
 use crate::words::{after_word, labelled};
+use cts_instance::Version;
+
+/// The greatest and the least arrival that a report prints, in 10^-16 ps.
+#[derive(Clone, Copy, Debug, PartialEq, Eq)]
+pub struct ReportArrivals {
+    pub greatest: u128,
+    pub least: u128,
+}
 
 /// The figures of the whole tree that a report prints.
 #[derive(Clone, Copy, Debug, PartialEq, Eq)]
@@ -20,6 +29,8 @@ pub struct ReportTotals {
     pub greatest: u128,
     /// The least delay in 10^-16 ps.
     pub least: u128,
+    /// The arrivals, where they are told.
+    pub arrivals: Option<ReportArrivals>,
     /// The skew in 10^-16 ps.
     pub skew: u128,
     /// The bound on the skew in 10^-16 ps.
@@ -68,9 +79,11 @@ pub fn count(bytes: &[u8]) -> Option<(u32, &[u8])>
     Some((value as u32, rest))
 }
 
-/// Whether the limits are met.
+/// The figures from the skew on.
 #[derive(Clone, Copy)]
-struct Answers {
+struct Closing {
+    skew: u128,
+    bound: u128,
     load_met: bool,
     slew_met: bool,
 }
@@ -79,63 +92,88 @@ struct Answers {
 #[derive(Clone, Copy)]
 struct LaterTotals {
     least: u128,
-    skew: u128,
-    bound: u128,
-    answers: Answers,
+    arrivals: Option<ReportArrivals>,
+    closing: Closing,
 }
 
-/// The last lines on the whole tree, which has `at` lines before the first of them.
-#[tactic(auto, unfolding(crate::specs::Whole::answers_at))]
-fn read_answers(bytes: &[u8], at: u32) -> Result<(Answers, &[u8]), u32>
-    requires { at ≤ 2 ^ 20 }
-    ensures { FindsLine seen_answers result (answers_at at bytes.now) }
+/// The lines of the greatest and the least arrival, which only version 2 has, after `at` others.
+#[tactic(auto, unfolding(crate::specs::Whole::arrivals_at))]
+fn read_arrivals(
+    version: Version,
+    bytes: &[u8],
+    at: u32,
+) -> Result<(Option<ReportArrivals>, &[u8]), u32>
+    requires { at ≤ 2 ^ 21 }
+    ensures { FindsLine seen_arrivals result (arrivals_at version at bytes.now) }
 {
-    let Some((load_met, rest)) = answer(bytes, b"load met") else {
-        return Err(at + 7);
-    };
-    let Some((slew_met, rest)) = answer(rest, b"slew met") else {
-        return Err(at + 8);
-    };
-    let Some(((), rest)) = after_word(rest, b"end\n") else {
-        return Err(at + 9);
-    };
-    Ok((Answers { load_met, slew_met }, rest))
+    match version {
+        Version::One => Ok((None, bytes)),
+        Version::Two => {
+            let Some((greatest, rest)) = figure(bytes, b"arrival greatest ", 16) else {
+                return Err(at + 1);
+            };
+            let Some((least, rest)) = figure(rest, b"arrival least ", 16) else {
+                return Err(at + 2);
+            };
+            Ok((Some(ReportArrivals { greatest, least }), rest))
+        }
+    }
 }
 
-/// The lines from the least delay on.
-#[tactic(auto, unfolding(crate::specs::Whole::later_at))]
-fn later(bytes: &[u8], at: u32) -> Result<(LaterTotals, &[u8]), u32>
-    requires { at ≤ 2 ^ 20 }
-    ensures { FindsLine seen_later result (later_at at bytes.now) }
+/// The lines from the skew on, after `at` others.
+#[tactic(auto, unfolding(crate::specs::Whole::closing_at))]
+fn read_closing(bytes: &[u8], at: u32) -> Result<(Closing, &[u8]), u32>
+    requires { at ≤ 2 ^ 21 }
+    ensures { FindsLine seen_closing result (closing_at at bytes.now) }
 {
-    let Some((least, rest)) = figure(bytes, b"delay least ", 16) else {
-        return Err(at + 4);
-    };
-    let Some((skew, rest)) = figure(rest, b"skew ", 16) else {
-        return Err(at + 5);
+    let Some((skew, rest)) = figure(bytes, b"skew ", 16) else {
+        return Err(at + 1);
     };
     let Some((bound, rest)) = figure(rest, b"bound ", 16) else {
-        return Err(at + 6);
+        return Err(at + 2);
     };
-    match read_answers(rest, at) {
-        Ok((answers, rest)) => {
-            let later = LaterTotals {
-                least,
-                skew,
-                bound,
-                answers,
-            };
-            Ok((later, rest))
-        }
-        Err(line) => Err(line),
-    }
+    let Some((load_met, rest)) = answer(rest, b"load met") else {
+        return Err(at + 3);
+    };
+    let Some((slew_met, rest)) = answer(rest, b"slew met") else {
+        return Err(at + 4);
+    };
+    let Some(((), rest)) = after_word(rest, b"end\n") else {
+        return Err(at + 5);
+    };
+    let closing = Closing {
+        skew,
+        bound,
+        load_met,
+        slew_met,
+    };
+    Ok((closing, rest))
+}
+
+/// The lines from the least delay on, after `at` others.
+#[tactic(auto, unfolding(crate::specs::Whole::later_at))]
+fn later(version: Version, bytes: &[u8], at: u32) -> Result<(LaterTotals, &[u8]), u32>
+    requires { at ≤ 2 ^ 21 - 3 }
+    ensures { FindsLine seen_later result (later_at version at bytes.now) }
+{
+    let Some((least, rest)) = figure(bytes, b"delay least ", 16) else {
+        return Err(at + 1);
+    };
+    let (arrivals, rest) = read_arrivals(version, rest, at + 1)?;
+    let (closing, rest) = read_closing(rest, at + 1 + arrival_count(version))?;
+    let later = LaterTotals {
+        least,
+        arrivals,
+        closing,
+    };
+    Ok((later, rest))
 }
 
 /// The lines on the whole tree, after `at` others.
 #[tactic(auto, unfolding(crate::specs::Whole::totals_at))]
-pub fn totals(bytes: &[u8], at: u32) -> Result<(ReportTotals, &[u8]), u32>
+pub fn totals(version: Version, bytes: &[u8], at: u32) -> Result<(ReportTotals, &[u8]), u32>
     requires { at ≤ 2 ^ 20 }
-    ensures { FindsLine seen_totals result (totals_at at bytes.now) }
+    ensures { FindsLine seen_totals result (totals_at version at bytes.now) }
 {
     let Some((source_load, rest)) = figure(bytes, b"source load ", 6) else {
         return Err(at + 1);
@@ -146,17 +184,18 @@ pub fn totals(bytes: &[u8], at: u32) -> Result<(ReportTotals, &[u8]), u32>
     let Some((greatest, rest)) = figure(rest, b"delay greatest ", 16) else {
         return Err(at + 3);
     };
-    match later(rest, at) {
+    match later(version, rest, at + 3) {
         Ok((later, rest)) => {
             let totals = ReportTotals {
                 source_load,
                 wire_total,
                 greatest,
                 least: later.least,
-                skew: later.skew,
-                bound: later.bound,
-                load_met: later.answers.load_met,
-                slew_met: later.answers.slew_met,
+                arrivals: later.arrivals,
+                skew: later.closing.skew,
+                bound: later.closing.bound,
+                load_met: later.closing.load_met,
+                slew_met: later.closing.slew_met,
             };
             Ok((totals, rest))
         }

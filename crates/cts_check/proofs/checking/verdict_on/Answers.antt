@@ -1,5 +1,6 @@
-use Rattle.std.proofs.Common.{length, subst}
+use Rattle.std.proofs.Common.{subst}
 use Rattle.rayon.proofs.ListFacts.{IfOk-then}
+use Rattle.cts_report_reader.specs.Forms.{form_of}
 use Rattle.cts_report_reader.specs.Reports.{IsReading, seen_report}
 use Rattle.cts_check.specs.Judgement.{Judges}
 use Rattle.cts_check.specs.Verdict.{IsVerdict}
@@ -10,4 +11,4 @@ pub returns-in-Text : goal.returns-in-Text
 returns-in-Text g c = λ bytes told.
     IfOk-then c.judge.result (Judges c.args.instance.now (seen_report c.in-Text.report)) (IsVerdict c.args.instance.now bytes) c.judge.ensures
     (λ verdict h. judged c.args.instance.now c.requires.valid bytes (seen_report c.in-Text.report)
-    (subst (IsReading (length c.args.instance.now.params.library) bytes) c.in-Text.is told) verdict h)
+    (subst (IsReading (form_of c.args.instance.now) bytes) c.in-Text.is told) verdict h)

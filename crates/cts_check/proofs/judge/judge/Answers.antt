@@ -8,6 +8,7 @@ use Rattle.cts_tree.specs.Nodes.{tree_children}
 use Rattle.cts_elmore.specs.Figures.{AreFigures}
 use Rattle.cts_elmore.specs.Measurement.{IsMeasured}
 use Rattle.cts_elmore.specs.Fits.{FitsInstance}
+use Rattle.cts_report_reader.specs.Forms.{form_of}
 use Rattle.cts_report_reader.specs.Nodes.{seen_node, seen_nodes}
 use Rattle.cts_report_reader.specs.Reports.{seen_report}
 use Rattle.cts_check.specs.declared.verdict.Rule.TheVariants.{Sinks, Limit, Figure}
@@ -26,7 +27,7 @@ use Rattle.cts_check.proofs.judge.judge.Goals as goal
 pub told_nodes_of-requires-clause-nodes : goal.told_nodes_of-requires-clause-nodes
 told_nodes_of-requires-clause-nodes g c =
     subst (All IsTellable) (sym c.as_mut_slice.ensures.value)
-    (tellable (length c.args.instance.now.params.library) c.args.report.nodes.items c.requires.report.each c.requires.seen)
+    (tellable (form_of c.args.instance.now) c.args.report.nodes.items c.requires.report.each c.requires.seen)
 
 pub first_broken-requires-clause-post_order : goal.first_broken-requires-clause-post_order
 first_broken-requires-clause-post_order g c =
@@ -41,7 +42,7 @@ first_broken-requires-clause-names g c =
 pub first_broken-requires-clause-in_range : goal.first_broken-requires-clause-in_range
 first_broken-requires-clause-in_range g c =
     subst (All IsInRange) (sym (c.as_slice.ensures.value ∙ (c.in_ok-told.ensures.tree ∙ ap (λ ns. told_nodes c.sinks.result.now (seen_nodes ns)) c.as_mut_slice.ensures.value ∙ ap (λ qs. told_nodes qs (seen_report c.args.report).nodes) c.sinks.ensures.part)))
-    (told_in_range c.args.instance.now.sinks (length c.args.instance.now.params.library) (seen_report c.args.report).nodes c.requires.report.each)
+    (told_in_range c.args.instance.now.sinks (form_of c.args.instance.now) (seen_report c.args.report).nodes c.requires.report.each)
 
 pub of-tree-requires : goal.of-tree-requires
 of-tree-requires g c =
@@ -80,6 +81,8 @@ returns-in-Some-first_wrong_figure g c =
     None None refl (over_first c.args.instance.now c.of-tree.result None has.within)) in
     let are : AreFigures c.args.instance.now (told_nodes c.args.instance.now.sinks (seen_report c.args.report).nodes) c.in-Within.figures =
     subst (λ ns. AreFigures c.args.instance.now ns c.in-Within.figures) told has.are_figures in
+    let agreed = subst (λ version. IsFirstFailing (Agrees version (claims_seen c.as_slice-2.result.now) c.args.report.totals c.in-Within.figures) c.first_wrong_figure.result)
+    c.version.ensures.part c.first_wrong_figure.ensures in
     let back = take_at c.told_nodes_of.new.nodes _ c.args.report.nodes.len (omega (arith, c.told_nodes_of.auto.nodes, c.as_mut_slice.ensures.len, c.args.report.nodes.ok.0)) in
     let claims = ap claims_seen (c.as_slice-2.ensures.value ∙ back) ∙ c.told_nodes_of.ensures.claims ∙ ap claims_seen c.as_mut_slice.ensures.value
     ∙ sym (map-map claim_of seen_node c.args.report.nodes.items) in
@@ -89,7 +92,7 @@ returns-in-Some-first_wrong_figure g c =
     c.args.report.totals refl c.in-Within.figures are
     (has.one_each ∙ ap length told ∙ length-map (seen_report c.args.report).nodes (told_node c.args.instance.now.sinks))
     (Some c.in-Some-first_wrong_figure.node)
-    (subst (IsFirstFailing (Agrees (claims_seen c.as_slice-2.result.now) c.args.report.totals c.in-Within.figures)) c.in-Some-first_wrong_figure.is c.first_wrong_figure.ensures)))
+    (subst (IsFirstFailing (Agrees c.args.instance.now.version (claims_seen c.as_slice-2.result.now) c.args.report.totals c.in-Within.figures)) c.in-Some-first_wrong_figure.is agreed)))
 
 pub returns : goal.returns
 returns g c =
@@ -101,6 +104,8 @@ returns g c =
     None None refl (over_first c.args.instance.now c.of-tree.result None has.within)) in
     let are : AreFigures c.args.instance.now (told_nodes c.args.instance.now.sinks (seen_report c.args.report).nodes) c.in-Within.figures =
     subst (λ ns. AreFigures c.args.instance.now ns c.in-Within.figures) told has.are_figures in
+    let agreed = subst (λ version. IsFirstFailing (Agrees version (claims_seen c.as_slice-2.result.now) c.args.report.totals c.in-Within.figures) c.first_wrong_figure.result)
+    c.version.ensures.part c.first_wrong_figure.ensures in
     let back = take_at c.told_nodes_of.new.nodes _ c.args.report.nodes.len (omega (arith, c.told_nodes_of.auto.nodes, c.as_mut_slice.ensures.len, c.args.report.nodes.ok.0)) in
     let claims = ap claims_seen (c.as_slice-2.ensures.value ∙ back) ∙ c.told_nodes_of.ensures.claims ∙ ap claims_seen c.as_mut_slice.ensures.value
     ∙ sym (map-map claim_of seen_node c.args.report.nodes.items) in
@@ -110,7 +115,7 @@ returns g c =
           c.args.report.totals refl c.in-Within.figures are
           (has.one_each ∙ ap length told ∙ length-map (seen_report c.args.report).nodes (told_node c.args.instance.now.sinks))
           (None)
-          (subst (IsFirstFailing (Agrees (claims_seen c.as_slice-2.result.now) c.args.report.totals c.in-Within.figures)) c.in-None.is c.first_wrong_figure.ensures)));
+          (subst (IsFirstFailing (Agrees c.args.instance.now.version (claims_seen c.as_slice-2.result.now) c.args.report.totals c.in-Within.figures)) c.in-None.is agreed)));
       figures = c.in-Within.figures;
       are_figures = are;
     }

@@ -15,7 +15,7 @@ loop-place-init c = record {
 pub loop-place-preserved : goal.loop-place-preserved
 loop-place-preserved c =
     let place = c.loop-place.place in
-    let none : Sink = record { id = 0; x = pos 0; y = pos 0; cap = 0 } in
+    let none : Sink = record { id = 0; x = pos 0; y = pos 0; cap = 0; offset = 0 } in
     let named : NamedSink = record { id = (get_or c.args.sinks.now place none).id; place = place } in
     subst (λ ids. AreNamedTo c.args.sinks.now ids (place + 1)) (sym c.in_ok-push.ensures.items)
     (named_more c.args.sinks.now c.loop-place.ids.items place named c.loop-place.invariant refl (record {

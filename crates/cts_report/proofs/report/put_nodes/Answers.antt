@@ -10,7 +10,7 @@ use Rattle.cts_report.proofs.report.put_nodes.Goals as goal
 
 -- what a list of figures gives past its end
 abbrev no_figure : NodeFigure
-no_figure = record { below = 0; residue = 0; delay = 0; stage = 0 }
+no_figure = record { below = 0; offset = 0; residue = 0; delay = 0; stage = 0 }
 
 pub loop-number-init : goal.loop-number-init
 unfolding node_lines
@@ -19,15 +19,15 @@ loop-number-init g c = puts_nothing _ _ _ _
 pub loop-number-preserved : goal.loop-number-preserved
 loop-number-preserved g c =
     subst (λ text. Puts g.K.ByteSink.held g.K.ByteSink.faults c.args.sink.now c.args.out.now c.put_node.new.sink c.put_node.new.out text)
-    (ap (λ node. concat (node_lines 0 (take c.loop-number.number (printed_nodes c.args.nodes.now c.args.figures.now)))
-    ++ node_line c.loop-number.number (printed_node node (get_or c.args.figures.now c.loop-number.number no_figure)))
+    (ap (λ node. concat (node_lines 0 (take c.loop-number.number (printed_nodes c.args.version c.args.nodes.now c.args.figures.now)))
+    ++ node_line c.loop-number.number (printed_node c.args.version node (get_or c.args.figures.now c.loop-number.number no_figure)))
     c.index-nodes-number.is
-    ∙ sym (lines_before_more c.args.nodes.now c.args.figures.now c.loop-number.number c.index-nodes-number.result no_figure
+    ∙ sym (lines_before_more c.args.version c.args.nodes.now c.args.figures.now c.loop-number.number c.index-nodes-number.result no_figure
     c.requires.long c.loop-number-test.true))
     (c.loop-number.invariant ▸ c.put_node.ensures)
 
 pub returns : goal.returns
 returns g c =
-    rw (sym (take_all c.loop-number.number (printed_nodes c.args.nodes.now c.args.figures.now)
-    (omega (arith, length-printed_nodes c.args.nodes.now c.args.figures.now c.requires.long, c.loop-number-test.false))))
+    rw (sym (take_all c.loop-number.number (printed_nodes c.args.version c.args.nodes.now c.args.figures.now)
+    (omega (arith, length-printed_nodes c.args.version c.args.nodes.now c.args.figures.now c.requires.long, c.loop-number-test.false))))
     c.loop-number.invariant

@@ -4,4 +4,4 @@ use Rattle.cts_report_reader.proofs.Wholes.{first_line_is_one}
 use Rattle.cts_report_reader.proofs.laws.first_line_is_one.Goals as goal
 
 pub returns : goal.returns
-returns c = λ buffers bytes line other. first_line_is_one (IsReport buffers) report_lines bytes line other
+returns c = λ form bytes line other. first_line_is_one (IsReport form) (report_lines form.version) bytes line other

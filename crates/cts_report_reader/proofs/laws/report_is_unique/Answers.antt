@@ -6,4 +6,5 @@ use Rattle.cts_report_reader.proofs.Wholes.{pieces_are_unique}
 use Rattle.cts_report_reader.proofs.laws.report_is_unique.Goals as goal
 
 pub returns : goal.returns
-returns c = λ buffers bytes printed other few. pieces_are_unique (IsReport buffers) report_lines (report_at buffers) (report_piece buffers few) bytes printed other
+returns c = λ form bytes printed other few.
+    pieces_are_unique (IsReport form) (report_lines form.version) (report_at form) (report_piece form few) bytes printed other

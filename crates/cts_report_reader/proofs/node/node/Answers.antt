@@ -17,12 +17,12 @@ labelled-requires c = omega arith
 pub returns-in_default-clause-found : goal.returns-in_default-clause-found
 returns-in_default-clause-found c =
     finds_in_none seen_node _
-    (node_unlabelled c.args.buffers c.args.number (reverse c.args.stack.now) c.args.todo c.args.bytes.now (nothing_is same _ c.in_default.ensures.found))
+    (node_unlabelled c.args.form c.args.number (reverse c.args.stack.now) c.args.todo c.args.bytes.now (nothing_is same _ c.in_default.ensures.found))
 
 pub returns-then-found-from-clause-found : goal.returns-then-found-from-clause-found
 returns-then-found-from-clause-found c =
     finds_in_none seen_node _
-    (node_other c.args.buffers c.args.number (reverse c.args.stack.now) c.args.todo c.args.bytes.now c.in-Some.found c.in-Some.rest.now
+    (node_other c.args.form c.args.number (reverse c.args.stack.now) c.args.todo c.args.bytes.now c.in-Some.found c.in-Some.rest.now
     (found_is same c.in-Some.found c.in-Some.rest _ c.in-Some.ensures.found) (λ e. c.if-found-from.true (e ∙ sym c.from.ensures)))
 
 pub node_rest-requires : goal.node_rest-requires
@@ -30,18 +30,18 @@ node_rest-requires c = c.requires
 
 pub returns-in_default-2-clause-found : goal.returns-in_default-2-clause-found
 returns-in_default-2-clause-found c =
-    let found = subst (λ (o : Option (ReportNode × Bor (List ℕ))). FindsIn {E = NoMemory} seen_node (Ok o) (node_rest_at c.args.buffers c.in-Some.rest.now)) c.in_default-2.is c.in_ok-node.ensures.found in
+    let found = subst (λ (o : Option (ReportNode × Bor (List ℕ))). FindsIn {E = NoMemory} seen_node (Ok o) (node_rest_at c.args.form c.in-Some.rest.now)) c.in_default-2.is c.in_ok-node.ensures.found in
     let number : c.in-Some.found ≡ c.args.number = omega arith in
     finds_in_none seen_node _
-    (node_nothing c.args.buffers c.args.number (reverse c.args.stack.now) c.args.todo c.args.bytes.now c.in-Some.found c.in-Some.rest.now
+    (node_nothing c.args.form c.args.number (reverse c.args.stack.now) c.args.todo c.args.bytes.now c.in-Some.found c.in-Some.rest.now
     (found_is same c.in-Some.found c.in-Some.rest _ c.in-Some.ensures.found) number (nothing_in seen_node _ found))
 
 pub returns-then-joins-clause-found : goal.returns-then-joins-clause-found
 returns-then-joins-clause-found c =
-    let found = subst (λ (o : Option (ReportNode × Bor (List ℕ))). FindsIn {E = NoMemory} seen_node (Ok o) (node_rest_at c.args.buffers c.in-Some.rest.now)) c.in-Some-2.is c.in_ok-node.ensures.found in
+    let found = subst (λ (o : Option (ReportNode × Bor (List ℕ))). FindsIn {E = NoMemory} seen_node (Ok o) (node_rest_at c.args.form c.in-Some.rest.now)) c.in-Some-2.is c.in_ok-node.ensures.found in
     let number : c.in-Some.found ≡ c.args.number = omega arith in
     finds_in_some seen_node c.in-Some-2.node c.in-Some-2.rest _
-    (node_there c.args.buffers c.args.number (reverse c.args.stack.now) c.args.todo c.args.bytes.now c.in-Some.found c.in-Some.rest.now
+    (node_there c.args.form c.args.number (reverse c.args.stack.now) c.args.todo c.args.bytes.now c.in-Some.found c.in-Some.rest.now
     (found_is same c.in-Some.found c.in-Some.rest _ c.in-Some.ensures.found) number (seen_node c.in-Some-2.node) c.in-Some-2.rest.now
     (found_in seen_node c.in-Some-2.node c.in-Some-2.rest _ found) (sym c.joins.ensures ∙ c.if-joins.true))
 
@@ -51,10 +51,10 @@ returns-then-joins-clause-seen c =
 
 pub returns-clause-found : goal.returns-clause-found
 returns-clause-found c =
-    let found = subst (λ (o : Option (ReportNode × Bor (List ℕ))). FindsIn {E = NoMemory} seen_node (Ok o) (node_rest_at c.args.buffers c.in-Some.rest.now)) c.in-Some-2.is c.in_ok-node.ensures.found in
+    let found = subst (λ (o : Option (ReportNode × Bor (List ℕ))). FindsIn {E = NoMemory} seen_node (Ok o) (node_rest_at c.args.form c.in-Some.rest.now)) c.in-Some-2.is c.in_ok-node.ensures.found in
     let number : c.in-Some.found ≡ c.args.number = omega arith in
     finds_in_none seen_node _
-    (node_apart c.args.buffers c.args.number (reverse c.args.stack.now) c.args.todo c.args.bytes.now c.in-Some.found c.in-Some.rest.now
+    (node_apart c.args.form c.args.number (reverse c.args.stack.now) c.args.todo c.args.bytes.now c.in-Some.found c.in-Some.rest.now
     (found_is same c.in-Some.found c.in-Some.rest _ c.in-Some.ensures.found) number (seen_node c.in-Some-2.node) c.in-Some-2.rest.now
     (found_in seen_node c.in-Some-2.node c.in-Some-2.rest _ found) (sym c.joins.ensures ∙ c.if-joins.false))
 

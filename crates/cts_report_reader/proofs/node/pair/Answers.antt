@@ -1,4 +1,4 @@
-use Rattle.std.proofs.Common.{ℕ, List, Ok, Option, IfSome, Bor, All, sym, subst, arith}
+use Rattle.std.proofs.Common.{ℕ, false, List, Ok, Option, IfSome, Bor, All, sym, subst, arith}
 use Rattle.cts_num.specs.declared.error.NoMemory.{NoMemory}
 use Rattle.cts_report_reader.specs.declared.node.Tail.{Tail}
 use Rattle.cts_report_reader.specs.Nodes.{IsSeenNode, seen_buffer, seen_node, seen_tail}
@@ -69,7 +69,7 @@ returns-in_default-labelled-2-clause-found c =
 
 pub returns-in_default-2-clause-found : goal.returns-in_default-2-clause-found
 returns-in_default-2-clause-found c =
-    let found = subst (λ (o : Option (Tail × Bor (List ℕ))). FindsIn {E = NoMemory} seen_tail (Ok o) (tail_at c.in-Some-labelled-2.rest.now)) c.in_default-2.is c.in_ok-tail.ensures.found in
+    let found = subst (λ (o : Option (Tail × Bor (List ℕ))). FindsIn {E = NoMemory} seen_tail (Ok o) (tail_at false c.in-Some-labelled-2.rest.now)) c.in_default-2.is c.in_ok-tail.ensures.found in
     finds_in_none seen_node _
     (pair_no_tail c.args.buffers c.args.bytes.now c.in-Some.left c.in-Some.rest.now (found_is same c.in-Some.left c.in-Some.rest _ c.in-Some.ensures.found)
     c.in-Some-bounded.right c.in-Some-bounded.rest.now (found_is same c.in-Some-bounded.right c.in-Some-bounded.rest _ c.in-Some-bounded.ensures.found)
@@ -87,7 +87,7 @@ overflow_cast-kind-2 c = omega (arith, c.in-Some-bounded.ensures.small)
 
 pub returns-clause-found : goal.returns-clause-found
 returns-clause-found c =
-    let found = subst (λ (o : Option (Tail × Bor (List ℕ))). FindsIn {E = NoMemory} seen_tail (Ok o) (tail_at c.in-Some-labelled-2.rest.now)) c.in-Some-2.is c.in_ok-tail.ensures.found in
+    let found = subst (λ (o : Option (Tail × Bor (List ℕ))). FindsIn {E = NoMemory} seen_tail (Ok o) (tail_at false c.in-Some-labelled-2.rest.now)) c.in-Some-2.is c.in_ok-tail.ensures.found in
     finds_in_some seen_node c.node_of.result c.in-Some-2.rest _
     (pair_there c.args.buffers c.args.bytes.now c.in-Some.left c.in-Some.rest.now (found_is same c.in-Some.left c.in-Some.rest _ c.in-Some.ensures.found)
     c.in-Some-bounded.right c.in-Some-bounded.rest.now (found_is same c.in-Some-bounded.right c.in-Some-bounded.rest _ c.in-Some-bounded.ensures.found)

@@ -17,8 +17,8 @@ loop-number-init c =
     let items = c.in_ok-items.ensures.items in
     let stack = c.new-stack.ensures.items in
     record {
-      found = ap₂ (λ (ns : List ReportNode) (s : List _). fronted_lines (seen_nodes ns) (nodes_at c.args.buffers (c.args.count - 0) 0 (reverse s) c.args.bytes.now)) items stack
-          ∙ nodes_begin c.args.buffers c.args.count c.args.bytes.now;
+      found = ap₂ (λ (ns : List ReportNode) (s : List _). fronted_lines (seen_nodes ns) (nodes_at c.args.form (c.args.count - 0) 0 (reverse s) c.args.bytes.now)) items stack
+          ∙ nodes_begin c.args.form c.args.count c.args.bytes.now;
       seen = subst (All IsSeenNode) (sym items) (All-nil IsSeenNode);
       long = ap length items;
     }
@@ -29,13 +29,13 @@ loop-number-preserved c =
     let lt : l.number < c.args.count = c.loop-number-test.true in
     let pushed = c.in_ok-push.ensures.items in
     let slice = c.as_slice.ensures.value in
-    let h = ap (λ (s : List _). fronted_lines (seen_nodes l.items.items) (nodes_at c.args.buffers (c.args.count - l.number) l.number (reverse s) l.rest.now)) slice ∙ l.invariant.found in
+    let h = ap (λ (s : List _). fronted_lines (seen_nodes l.items.items) (nodes_at c.args.form (c.args.count - l.number) l.number (reverse s) l.rest.now)) slice ∙ l.invariant.found in
     let after = c.in_ok-stack_node.ensures ∙ ap (λ (s : List _). stack_after (printed_children (seen_node c.in-Some.next)) (reverse s) l.number) (sym slice) in
-    let found = subst (λ (o : Option (ReportNode × Bor (List _))). FindsIn {E = NoMemory} seen_node (Ok o) (node_at c.args.buffers l.number (reverse c.as_slice.result.now) (c.args.count - l.number - 1) l.rest.now)) c.in-Some.is c.in_ok-next.ensures.found in
+    let found = subst (λ (o : Option (ReportNode × Bor (List _))). FindsIn {E = NoMemory} seen_node (Ok o) (node_at c.args.form l.number (reverse c.as_slice.result.now) (c.args.count - l.number - 1) l.rest.now)) c.in-Some.is c.in_ok-next.ensures.found in
     let seen = subst (λ (o : Option (ReportNode × Bor (List _))). IfSome o (λ x. IsSeenNode x.0)) c.in-Some.is c.in_ok-next.ensures.seen in
     record {
-      found = ap (λ ns. fronted_lines (seen_nodes ns) (nodes_at c.args.buffers (c.args.count - (l.number + 1)) (l.number + 1) (reverse c.stack_node.new.stack.items) c.in-Some.after.now)) pushed
-          ∙ nodes_step c.args.buffers c.args.count l.number (reverse c.as_slice.result.now) (reverse c.stack_node.new.stack.items) l.items.items _ l.rest.now c.in-Some.next c.in-Some.after lt h found after;
+      found = ap (λ ns. fronted_lines (seen_nodes ns) (nodes_at c.args.form (c.args.count - (l.number + 1)) (l.number + 1) (reverse c.stack_node.new.stack.items) c.in-Some.after.now)) pushed
+          ∙ nodes_step c.args.form c.args.count l.number (reverse c.as_slice.result.now) (reverse c.stack_node.new.stack.items) l.items.items _ l.rest.now c.in-Some.next c.in-Some.after lt h found after;
       seen = subst (All IsSeenNode) (sym pushed) (All-push IsSeenNode l.items.items c.in-Some.next l.invariant.seen seen);
       long = omega (arith, ap length pushed, length-append l.items.items (c.in-Some.next ∷ []), l.invariant.long);
     }
@@ -45,17 +45,17 @@ returns-in_default-clause-found c =
     let l = c.loop-number in
     let lt : l.number < c.args.count = c.loop-number-test.true in
     let slice = c.as_slice.ensures.value in
-    let h = ap (λ (s : List _). fronted_lines (seen_nodes l.items.items) (nodes_at c.args.buffers (c.args.count - l.number) l.number (reverse s) l.rest.now)) slice ∙ l.invariant.found in
-    let found = subst (λ (o : Option (ReportNode × Bor (List _))). FindsIn {E = NoMemory} seen_node (Ok o) (node_at c.args.buffers l.number (reverse c.as_slice.result.now) (c.args.count - l.number - 1) l.rest.now)) c.in_default.is c.in_ok-next.ensures.found in
+    let h = ap (λ (s : List _). fronted_lines (seen_nodes l.items.items) (nodes_at c.args.form (c.args.count - l.number) l.number (reverse s) l.rest.now)) slice ∙ l.invariant.found in
+    let found = subst (λ (o : Option (ReportNode × Bor (List _))). FindsIn {E = NoMemory} seen_node (Ok o) (node_at c.args.form l.number (reverse c.as_slice.result.now) (c.args.count - l.number - 1) l.rest.now)) c.in_default.is c.in_ok-next.ensures.found in
     missed_line (λ (ns : Vec ReportNode Global). seen_nodes ns.items) (l.number + 3) _
-    (nodes_none c.args.buffers c.args.count l.number (reverse c.as_slice.result.now) (seen_nodes l.items.items) _ l.rest.now lt h found)
+    (nodes_none c.args.form c.args.count l.number (reverse c.as_slice.result.now) (seen_nodes l.items.items) _ l.rest.now lt h found)
 
 pub returns-clause-found : goal.returns-clause-found
 returns-clause-found c =
     let l = c.loop-number in
     let e : l.number ≡ c.args.count = omega arith in
     found_lines (λ (ns : Vec ReportNode Global). seen_nodes ns.items) l.items l.rest _
-    (nodes_done c.args.buffers c.args.count l.number (reverse l.stack.items) (seen_nodes l.items.items) _ l.rest.now e l.invariant.found)
+    (nodes_done c.args.form c.args.count l.number (reverse l.stack.items) (seen_nodes l.items.items) _ l.rest.now e l.invariant.found)
 
 pub overflow_sub-todo : goal.overflow_sub-todo
 overflow_sub-todo c = omega arith

@@ -1,18 +1,16 @@
-use Rattle.std.proofs.Common.{ℕ, List, Bor, Result, Ok, subst}
-use Rattle.cts_num.specs.declared.error.NoMemory.{NoMemory}
-use Rattle.cts_report_reader.specs.declared.report.Report.{Report}
-use Rattle.cts_report_reader.specs.Reports.{seen_report}
-use Rattle.cts_report_reader.specs.Seen.{FindsLines}
-use Rattle.cts_report_reader.specs.Whole.{report_at}
-use Rattle.cts_report_reader.proofs.ReportReads.{read_found, read_missed}
+use Rattle.std.proofs.Common.{IfOk, subst}
+use Rattle.cts_report_reader.specs.Reports.{IsReading}
 use Rattle.cts_report_reader.proofs.report.read_report.Goals as goal
 
-pub returns-in-Ok-clause-told : goal.returns-in-Ok-clause-told
-returns-in-Ok-clause-told c =
-    let found = subst (λ (o : Result (Report × Bor (List ℕ)) ℕ). FindsLines {E = NoMemory} seen_report (Ok o) (report_at c.args.buffers c.args.bytes.now)) c.in-Ok.is c.in_ok-report.ensures.found in
-    read_found c.args.buffers c.args.bytes.now c.in-Ok.report c.in-Ok.rest c.at_the_end.result c.requires found c.at_the_end.ensures
+pub read_with-requires : goal.read_with-requires
+read_with-requires c = c.form_of.ensures.few
 
-pub returns-in-Err-clause-told : goal.returns-in-Err-clause-told
-returns-in-Err-clause-told c =
-    let found = subst (λ (o : Result (Report × Bor (List ℕ)) ℕ). FindsLines {E = NoMemory} seen_report (Ok o) (report_at c.args.buffers c.args.bytes.now)) c.in-Err.is c.in_ok-report.ensures.found in
-    read_missed c.args.buffers c.args.bytes.now c.in-Err.line c.requires found
+pub returns-clause-told : goal.returns-clause-told
+returns-clause-told c =
+    subst (λ form. IfOk c.read_with.result (IsReading form c.args.bytes.now)) c.form_of.ensures.same c.read_with.ensures.told
+
+pub returns-clause-seen : goal.returns-clause-seen
+returns-clause-seen c = c.read_with.ensures.seen
+
+pub returns-clause-valid : goal.returns-clause-valid
+returns-clause-valid c = c.form_of.ensures.valid
