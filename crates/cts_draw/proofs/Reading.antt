@@ -1,5 +1,6 @@
 -- Why an input spells no instance and no report.
-use Rattle.std.proofs.Common.{ℕ, ◌≤◌, List, length}
+use Rattle.std.proofs.Common.{◌≡◌, ℕ, ◌-◌, ◌≤◌, List, length, length-drop, take, drop, arith}
+use Rattle.std.proofs.lemmas.List.{take_all}
 use Rattle.cts_instance.specs.declared.parts.Parts.{Parts}
 use Rattle.cts_read.specs.declared.stop.ReadStop.{ReadStop}
 use Rattle.cts_read.specs.declared.stop.ReadStop.TheVariants.{Refused, NoMemory}
@@ -24,3 +25,7 @@ report_refused bytes i rest stop.TooLong front none = absurd none
 report_refused bytes i rest (stop.Refused line cause) front none = absurd none
 report_refused bytes i rest stop.ReadFault front none = absurd none
 report_refused bytes i rest stop.WriteFault front none = absurd none
+
+-- a slice up to the end is what is left
+pub rest_taken : (used : ℕ) (bytes : List ℕ) → take (length bytes - used) (drop used bytes) ≡ drop used bytes
+rest_taken used bytes = take_all (length bytes - used) (drop used bytes) (omega (arith, length-drop used bytes))

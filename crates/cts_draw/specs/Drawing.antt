@@ -10,6 +10,7 @@ use Rattle.cts_read.specs.declared.stop.ReadStop.TheVariants as text
 use Rattle.cts_report.specs.Lines.{report_lines}
 use Rattle.cts_report.specs.Printed.{Printed}
 use Rattle.cts_report_reader.specs.Bounds.{IsReport}
+use Rattle.cts_report_reader.specs.Forms.{form_of}
 use Rattle.cts_report_reader.specs.Text.{Spells, IsNotText}
 use Rattle.cts_picture.specs.Picture.{picture_text}
 use Rattle.cts_notes.specs.Front.{SpellsFront, front_of, input_limit}
@@ -18,13 +19,13 @@ use Rattle.cts_notes.specs.declared.status.Status.TheVariants as status
 use Rattle.cts_draw.specs.declared.stop.Stop.{Stop}
 use Rattle.cts_draw.specs.declared.stop.Stop.TheVariants as stop
 
--- the bytes are the text of this report, where the instance has these parts
+-- the bytes are the text of this report, in the version of an instance with these parts
 abbrev pub SpellsReport : Parts → List ℕ → Printed → Type 0
-SpellsReport i bytes printed = Spells (IsReport (length i.params.library)) report_lines bytes printed
+SpellsReport i bytes printed = Spells (IsReport (form_of i)) (report_lines i.version) bytes printed
 
 -- the bytes are the text of no report, and this is the first line with which none begins
 abbrev pub IsNoReport : Parts → List ℕ → ℕ → Type 0
-IsNoReport i bytes line = IsNotText (IsReport (length i.params.library)) report_lines bytes line
+IsNoReport i bytes line = IsNotText (IsReport (form_of i)) (report_lines i.version) bytes line
 
 -- The input is not too long, and spells this instance and then this report, and nothing else.
 pub record SpellsBoth (bytes : List ℕ) (i : Parts) (printed : Printed) : Type 0 where

@@ -36,8 +36,7 @@ fn report_of(alloc: Global, instance: &Instance, bytes: &[u8]) -> Result<Report,
     ensures drawable { IfOk result IsDrawable }
     ensures explained { IfErr result (λ stop. ExplainsReport instance.now bytes.now stop) }
 {
-    let buffers = instance.params().library.items().len();
-    match read_report(alloc, buffers, bytes)? {
+    match read_report(alloc, instance, bytes)? {
         Reading::Text { report } => Ok(report),
         Reading::NotText { line } => Err(Stop::NotText { line }),
     }

@@ -1,7 +1,8 @@
--- The texts of some items, one more item at a time.
-use Rattle.std.proofs.Common.{◌≡◌, ℕ, ◌+◌, ◌<◌, List, [], ◌∷◌, ◌++◌, length, map, take, get_or, sym, ap, subst, ◌∙◌, append-nil}
+-- The texts of some items, and what is folded over them, one more item at a time.
+use Rattle.std.proofs.Common.{◌≡◌, ℕ, ◌+◌, ◌<◌, List, [], ◌∷◌, ◌++◌, length, map, take, get_or, fold, sym, ap, subst, ◌∙◌, append-nil}
 use Rattle.std.specs.List.{flat_map}
 use Rattle.std.proofs.lemmas.List.{take_more, map_more}
+use Rattle.std.proofs.lemmas.List.Sums.{fold-append}
 use Rattle.std.proofs.lemmas.Grind.{flat_map-append}
 
 -- what holds of the texts of the items before a number, and of that item's, holds of those up to it
@@ -33,3 +34,11 @@ pub lent_step : {A B : Type 0} (P : List ℕ → Type 0) (text : B → List ℕ)
     → x ≡ get_or xs k x → P (flat_map text (map seen (take k xs)) ++ text (seen x)) → P (flat_map text (map seen (take (k + 1) xs)))
 lent_step P text seen xs k x w is here =
     seen_step P text seen xs k x w (subst (λ y. P (flat_map text (map seen (take k xs)) ++ text (seen y))) is here)
+
+-- what is folded over what is seen of the items
+pub folded_step : {A B C : Type 0} (f : C → B → C) (from : C) (seen : A → B) (xs : List A) (k : ℕ) (x : A) → k < length xs
+    → x ≡ get_or xs k x → fold f from (map seen (take (k + 1) xs)) ≡ f (fold f from (map seen (take k xs))) (seen x)
+folded_step f from seen xs k x w is =
+    ap (fold f from) (map_more seen xs k x w)
+    ∙ fold-append f from (map seen (take k xs)) (seen (get_or xs k x) ∷ [])
+    ∙ ap (λ y. f (fold f from (map seen (take k xs))) (seen y)) (sym is)

@@ -22,7 +22,7 @@ use Rattle.cts_picture.specs.Wires.{scale_of, wires_text}
 -- the sinks of a valid instance lie where a die can lie
 pub sinks_in_place : (parts : Parts) → IsValid parts → All (λ (pin : Sink). IsPlace pin.x pin.y) parts.sinks
 sinks_in_place parts valid = λ k d h.
-    let pin : IsSink parts.die _ = valid.sinks k d h in
+    let pin : IsSink parts.version parts.die _ = valid.sinks k d h in
     record {
       x_low = omega (arith, ints, pin.in_die.west, valid.die.x_low);
       x_high = omega (arith, ints, pin.in_die.east, valid.die.x_high);
@@ -39,7 +39,7 @@ module _ (parts : Parts) (report : Report) where
       → source ≡ source_point parts → nodes ≡ report.nodes.items → sinks ≡ parts.sinks → height ≡ height_on_page (frame_for parts)
       → sheet_text frame blocks ++ wires_text scale source (map seen_node nodes)
       ++ marks_text frame (map seen_node nodes) sinks source
-      ++ legend_text height frame.bar (length sinks) (seen_totals report.totals) scale.start
+      ++ legend_text height frame.bar (length sinks) (seen_report report) scale.start
       ≡ picture_text parts (seen_report report)
   unfolding picture_text
   whole_picture frame blocks scale source nodes sinks height f b c s n k h = rw (f, b, c, s, n, k, h) refl

@@ -6,6 +6,7 @@ use Rattle.cts_block.specs.declared.blocks.Block.{Block}
 use Rattle.cts_instance.specs.declared.parts.Parts.{Parts}
 use Rattle.cts_instance.specs.Validity.{IsValid}
 use Rattle.cts_report.specs.Printed.{PrintedPoint, PrintedNode}
+use Rattle.cts_report_reader.specs.declared.form.Form.{Form}
 use Rattle.cts_report_reader.specs.declared.report.Report.{Report}
 use Rattle.cts_report_reader.specs.declared.report.Reading.TheVariants.{Text}
 use Rattle.cts_report_reader.specs.Bounds.{printed_children}
@@ -20,7 +21,7 @@ use Rattle.cts_picture.specs.Wires.{DrawnWire, wire_points, wires_of}
 -- a report that was read can be drawn
 abbrev pub ReadingsCanBeDrawn : Type 0
 ReadingsCanBeDrawn =
-    (buffers : ℕ) (bytes : List ℕ) (report : Report) → IsReading buffers bytes (Text report) → IsSeenReading (Text report)
+    (form : Form) (bytes : List ℕ) (report : Report) → IsReading form bytes (Text report) → IsSeenReading (Text report)
     → IsDrawable report
 
 -- in the picture of a tree each node has exactly one wire

@@ -33,5 +33,5 @@ picture_text parts printed =
     sheet_text (frame_for parts) parts.blocks
     ++ wires_text (scale_of printed.nodes printed.totals) (source_point parts) printed.nodes
     ++ marks_text (frame_for parts) printed.nodes parts.sinks (source_point parts)
-    ++ legend_text (height_on_page (frame_for parts)) (frame_for parts).bar (length parts.sinks) printed.totals
+    ++ legend_text (height_on_page (frame_for parts)) (frame_for parts).bar (length parts.sinks) printed
     (scale_of printed.nodes printed.totals).start

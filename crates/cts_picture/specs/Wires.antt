@@ -3,7 +3,7 @@ use Rattle.std.specs.Prelude.{ℕ, ◌+◌, ◌-◌, ◌*◌, ◌/◌, min, nat_
 use Rattle.std.specs.List.{flat_map}
 use Rattle.std.specs.Option.{option_map_or}
 use Rattle.cts_report.specs.Printed.{PrintedPoint, PrintedKind, sink_leaf, pair_node, PrintedNode, PrintedTotals}
-use Rattle.cts_report.specs.Lines.{whole, length_in_um, coordinate, capacitance, time}
+use Rattle.cts_report.specs.Lines.{whole, length_in_um, coordinate, capacitance, time, arrival_words}
 use Rattle.cts_picture.specs.declared.wire.Scale.{Scale}
 use Rattle.cts_picture.specs.Sheet.{point_words}
 
@@ -68,12 +68,12 @@ delay_class scale delay = min 7 ((delay - scale.start) / scale.step)
 unfoldable pub dash_words : ℕ → ℕ → List ℕ
 dash_words wire route = if nat_lt route (10 * wire) then codes " l" else []
 
--- what is shown under the pointer, in the digits of the report
+-- what is shown under the pointer, in the digits of the report, which tells the arrivals of leaves or tells none
 unfoldable pub title_text : ℕ → ℕ → PrintedNode → List ℕ
 title_text number route node =
     whole (codes "'><title>node ") number ++ length_in_um (codes " wire ") node.wire ++ coordinate (codes " route ") route
-    ++ capacitance (codes " load ") node.load ++ time (codes " delay ") node.delay ++ time (codes " slew ") node.slew
-    ++ codes "</title></path>\n"
+    ++ capacitance (codes " load ") node.load ++ time (codes " delay ") node.delay ++ arrival_words node.arrival
+    ++ time (codes " slew ") node.slew ++ codes "</title></path>\n"
 
 -- a wire along its corners
 unfoldable pub wire_text : Scale → DrawnWire → List ℕ

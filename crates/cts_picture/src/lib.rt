@@ -2,7 +2,8 @@
 //!
 //! The text is a function of the instance and of what the report prints (`specs/Picture.antt`): the page
 //! and its style, the die and the blocks (`specs/Sheet.antt`), the wires (`specs/Wires.antt`), and what is
-//! written below them (`specs/Legend.antt`). The report needn't be that of a sound tree. Numbers in the
+//! written below them (`specs/Legend.antt`). The report needn't be that of a sound tree. Where it tells
+//! arrivals, so do titles and legend; colours go by delays in both versions. Numbers in the
 //! picture are those of the report without their points: lengths count in 10^-4 µm, the y axis goes up.
 //! The writer takes no memory, and gives the sink some KiB at a time.
 #![tactic(auto)]

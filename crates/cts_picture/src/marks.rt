@@ -113,7 +113,9 @@ fn put_buffer<K: ByteSink>(
             buffer: Some(_),
             ..
         } => put_square(out, sink, stroke, place),
-        ReportKind::Pair { buffer: None, .. } | ReportKind::Leaf { .. } => out.put(sink, b""),
+        ReportKind::Pair { buffer: None, .. }
+        | ReportKind::Leaf { .. }
+        | ReportKind::TimedLeaf { .. } => out.put(sink, b""),
     }
 }
 

@@ -50,7 +50,7 @@ pub fn write_picture<K: ByteSink>(
         frame.height_on_page(),
         frame.bar,
         sinks.len() as u64,
-        report.totals,
+        report,
         scale.start,
     );
     out.finish(sink)

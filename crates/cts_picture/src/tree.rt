@@ -77,7 +77,7 @@ fn put_wires_from<K: ByteSink>(
         (flat_map (wire_text scale.now) (wires_from (map seen_node nodes.now) (seen_point place) (seen_kind kind))) }
 {
     match kind {
-        ReportKind::Leaf { .. } => out.put(sink, b""),
+        ReportKind::Leaf { .. } | ReportKind::TimedLeaf { .. } => out.put(sink, b""),
         ReportKind::Pair { left, right, .. } => {
             let upper = dot_of(place);
             put_wire_to(out, sink, scale, nodes, upper, left as usize);

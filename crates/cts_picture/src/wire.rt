@@ -3,9 +3,10 @@
 ghost use Rattle.std.specs.Prelude.{◌≡◌, ◌+◌, ◌*◌, ◌^◌, ◌<◌, ◌≤◌, [], ◌∷◌, ◌++◌, length, map, All};
 ghost use Rattle.std.specs.List.{flat_map};
 ghost use Rattle.cts_io.specs.Text.{Puts};
-ghost use Rattle.cts_report_reader.specs.Nodes.{seen_node};
+ghost use Rattle.cts_report.specs.Lines.{arrival_words};
+ghost use Rattle.cts_report_reader.specs.Nodes.{seen_arrival, seen_node};
 ghost use Rattle.cts_report_reader.specs.Seen.{IsSeen, seen_point};
-ghost use Rattle.cts_picture.specs.Drawable.{IsDot, IsDrawableNode, IsPlace, IsScale};
+ghost use Rattle.cts_picture.specs.Drawable.{IsDot, IsDrawableArrival, IsDrawableNode, IsPlace, IsScale};
 ghost use Rattle.cts_picture.specs.Dots.{drawn_point, seen_dot};
 ghost use Rattle.cts_picture.specs.Sheet.{point_words};
 ghost use Rattle.cts_picture.specs.Wires.{course, dash_words, delay_class, gap, route_length, title_text, way_length, wire_text};
@@ -14,7 +15,7 @@ use crate::frame::drawn;
 use crate::words::{put_capacitance, put_coordinate, put_length, put_time, put_whole};
 use cts_geom::Half;
 use cts_io::{ByteSink, SinkBuffer};
-use cts_report_reader::ReportNode;
+use cts_report_reader::{ReportKind, ReportNode};
 
 /// A point of a picture, in 10^-4 µm.
 #[derive(Clone, Copy, Debug, PartialEq, Eq)]
@@ -168,6 +169,17 @@ fn put_dash<K: ByteSink>(out: &mut SinkBuffer, sink: &mut K, wire: u32, route: u
     out.put(sink, dash);
 }
 
+/// The arrival of a leaf, where the report tells it.
+fn put_arrival<K: ByteSink>(out: &mut SinkBuffer, sink: &mut K, kind: ReportKind)
+    requires { IsDrawableArrival (seen_arrival kind) }
+    ensures { Puts K.held K.faults sink.old out.old sink.new out.new (arrival_words (seen_arrival kind)) }
+{
+    match kind {
+        ReportKind::TimedLeaf { arrival, .. } => put_time(out, sink, b" arrival ", arrival),
+        ReportKind::Leaf { .. } | ReportKind::Pair { .. } => {}
+    }
+}
+
 /// What is shown under the pointer.
 fn put_title<K: ByteSink>(
     out: &mut SinkBuffer,
@@ -184,6 +196,7 @@ fn put_title<K: ByteSink>(
     put_coordinate(out, sink, b" route ", route);
     put_capacitance(out, sink, b" load ", node.load);
     put_time(out, sink, b" delay ", node.delay);
+    put_arrival(out, sink, node.kind);
     put_time(out, sink, b" slew ", node.slew);
     out.put(sink, b"</title></path>\n");
 }

@@ -1,4 +1,3 @@
-use Rattle.std.proofs.Common.{arith}
 use Rattle.cts_io.proofs.Chains.{◌▸◌}
 use Rattle.cts_picture.specs.Sheet.{square_text}
 use Rattle.cts_picture.proofs.marks.put_square.Goals as goal

@@ -6,4 +6,4 @@ pub returns : goal.returns
 unfolding title_text
 returns g c =
     c.put_whole.ensures ▸ c.put_length.ensures ▸ c.put_coordinate.ensures ▸ c.put_capacitance.ensures
-    ▸ c.put_time.ensures ▸ c.put_time-2.ensures ▸ c.put.ensures
+    ▸ c.put_time.ensures ▸ c.put_arrival.ensures ▸ c.put_time-2.ensures ▸ c.put.ensures
