@@ -6,6 +6,7 @@ use Rattle.cts_geom.specs.declared.bounds.Die.{Die}
 use Rattle.cts_units.specs.declared.params.Wire.{Wire}
 use Rattle.cts_units.specs.declared.params.Buffer.{Buffer}
 use Rattle.cts_units.specs.declared.params.Sink.{Sink}
+use Rattle.cts_instance.specs.declared.version.Version.{Version}
 use Rattle.cts_read.specs.declared.header.Source.{Source}
 use Rattle.cts_read.specs.declared.read.Head.{Head}
 use Rattle.cts_read.specs.declared.read.Lists.{Lists}
@@ -136,26 +137,26 @@ module _ (last : ℕ) where
   end_reader : IsReader end_at
   end_reader = record { goes_by = end_by; late = end_all IsLate }
 
-  abbrev with_limits : Die → Source → Wire → Left → Result (Head × Left) Refusal
-  with_limits die source wire left = item_at limits_of left >>= λ x. Ok (record { die = die; source = source; wire = wire; limits = x.0 }, x.1)
+  abbrev with_limits : Version → Die → Source → Wire → Left → Result (Head × Left) Refusal
+  with_limits version die source wire left = item_at limits_of left >>= λ x. Ok (record { version = version; die = die; source = source; wire = wire; limits = x.0 }, x.1)
 
-  abbrev with_wire : Die → Source → Left → Result (Head × Left) Refusal
-  with_wire die source left = item_at wire_of left >>= λ x. with_limits die source x.0 x.1
+  abbrev with_wire : Version → Die → Source → Left → Result (Head × Left) Refusal
+  with_wire version die source left = item_at wire_of left >>= λ x. with_limits version die source x.0 x.1
 
-  abbrev with_source : Die → Left → Result (Head × Left) Refusal
-  with_source die left = item_at (source_of die) left >>= λ x. with_wire die x.0 x.1
+  abbrev with_source : Version → Die → Left → Result (Head × Left) Refusal
+  with_source version die left = item_at (source_of die) left >>= λ x. with_wire version die x.0 x.1
 
-  abbrev with_die : Left → Result (Head × Left) Refusal
-  with_die left = item_at die_of left >>= λ x. with_source x.0 x.1
+  abbrev with_die : Version → Left → Result (Head × Left) Refusal
+  with_die version left = item_at die_of left >>= λ x. with_source version x.0 x.1
 
   head_reader : IsReader head_at
   unfolding head_at
   head_reader =
-      then (item_at version_of) (λ _. with_die) (item_reader version_of) (λ _.
-      then (item_at die_of) with_source (item_reader die_of) (λ die.
-      then (item_at (source_of die)) (with_wire die) (item_reader (source_of die)) (λ source.
-      then (item_at wire_of) (with_limits die source) (item_reader wire_of) (λ wire.
-      then (item_at limits_of) (λ limits left. Ok (record { die = die; source = source; wire = wire; limits = limits }, left))
+      then (item_at version_of) with_die (item_reader version_of) (λ version.
+      then (item_at die_of) (with_source version) (item_reader die_of) (λ die.
+      then (item_at (source_of die)) (with_wire version die) (item_reader (source_of die)) (λ source.
+      then (item_at wire_of) (with_limits version die source) (item_reader wire_of) (λ wire.
+      then (item_at limits_of) (λ limits left. Ok (record { version = version; die = die; source = source; wire = wire; limits = limits }, left))
       (item_reader limits_of) (λ limits. done _)))))
 
   abbrev with_blocks : Head → List Buffer → List Sink → ℕ → Left → Result (Lists × Left) Refusal
@@ -167,7 +168,7 @@ module _ (last : ℕ) where
   with_block_count head buffers sinks left = item_at block_count_of left >>= λ x. with_blocks head buffers sinks x.0 x.1
 
   abbrev with_sinks : Head → List Buffer → ℕ → Left → Result (Lists × Left) Refusal
-  with_sinks head buffers count left = list_at (sink_of head.die) count [] left >>= λ x. with_block_count head buffers x.0 x.1
+  with_sinks head buffers count left = list_at (sink_of head.version head.die) count [] left >>= λ x. with_block_count head buffers x.0 x.1
 
   abbrev with_sink_count : Head → List Buffer → Left → Result (Lists × Left) Refusal
   with_sink_count head buffers left = item_at sink_count_of left >>= λ x. with_sinks head buffers x.0 x.1
@@ -181,7 +182,7 @@ module _ (last : ℕ) where
       then (item_at buffer_count_of) (with_buffers head) (item_reader buffer_count_of) (λ buffer_count.
       then (list_at buffer_of buffer_count []) (with_sink_count head) (list_reader buffer_of buffer_count []) (λ buffers.
       then (item_at sink_count_of) (with_sinks head buffers) (item_reader sink_count_of) (λ sink_count.
-      then (list_at (sink_of head.die) sink_count []) (with_block_count head buffers) (list_reader (sink_of head.die) sink_count []) (λ sinks.
+      then (list_at (sink_of head.version head.die) sink_count []) (with_block_count head buffers) (list_reader (sink_of head.version head.die) sink_count []) (λ sinks.
       then (item_at block_count_of) (with_blocks head buffers sinks) (item_reader block_count_of) (λ block_count.
       then (list_at (block_of head.die head.source.x head.source.y sinks) block_count [])
       (λ blocks left. Ok (record { buffers = buffers; sinks = sinks; blocks = blocks }, left))

@@ -11,8 +11,10 @@ use Rattle.cts_num.proofs.Computed.{reading_of_is}
 use Rattle.cts_num.proofs.Fronts.{byte_at_point}
 use Rattle.cts_read.specs.Lines.{is_blank, is_printable, is_printable_byte, words_of}
 use Rattle.cts_read.specs.Grammar.{fields_of, number_of}
-use Rattle.cts_read.specs.Items.{sink_numbers}
-use Rattle.cts_read.specs.Plain.{IsPlainEnd, IsPlainNumber}
+use Rattle.cts_instance.specs.declared.version.Version.{Version}
+use Rattle.cts_instance.specs.declared.version.Version.TheVariants.{One, Two}
+use Rattle.cts_read.specs.Items.{offset_of, sink_numbers}
+use Rattle.cts_read.specs.Plain.{IsPlainEnd, IsPlainNumber, IsPlainOffset}
 use Rattle.cts_read.proofs.WordLists.{words_of_blank, words_of_empty, words_of_front, words_of_next}
 
 -- a byte that may stand within a word
@@ -86,16 +88,34 @@ printable_empty : (bytes : List ℕ) → length bytes ≡ 0 → is_printable byt
 printable_empty [] none = refl
 printable_empty (b ∷ bs) none = absurd (omega (arith, none))
 
--- a sink's line of such words
-pub plain_line : (line rest₀ rest₁ rest₂ rest₃ rest₄ : List ℕ) (id x y cap : ℕ) → line ≡ codes "sink " ++ rest₀ → IsPlainNumber 0 rest₀ id rest₁
-    → IsPlainNumber 3 rest₁ x rest₂ → IsPlainNumber 3 rest₂ y rest₃ → IsPlainNumber 6 rest₃ cap rest₄ → length rest₄ ≡ 0
-    → sink_numbers line ≡ Ok (record { id = min id (2 ^ 32 - 1); x = pos x; y = pos y; cap = cap })
-unfolding sink_numbers fields_of number_of
-plain_line line rest₀ rest₁ rest₂ rest₃ rest₄ id x y cap e a b c d none =
-    let key : words_of line ≡ codes "sink" ∷ words_of rest₀ =
-    ap words_of e ∙ words_of_next (codes "sink") 32 rest₀ (omega arith) key_in_word refl ∙ ap (λ ws. codes "sink" ∷ ws) (words_of_blank 32 rest₀ refl) in
-    let words : words_of line ≡ codes "sink" ∷ a.word ∷ b.word ∷ c.word ∷ d.word ∷ [] =
-    key ∙ ap (λ ws. codes "sink" ∷ ws) (a.words ∙ ap (λ ws. a.word ∷ ws) (b.words ∙ ap (λ ws. b.word ∷ ws) (c.words ∙ ap (λ ws. c.word ∷ ws)
-    (d.words ∙ ap (λ ws. d.word ∷ ws) (words_of_empty rest₄ none))))) in
-    let printable : is_printable line ≡ true = ap is_printable e ∙ a.printable ∙ b.printable ∙ c.printable ∙ d.printable ∙ printable_empty rest₄ none in
-    rw (printable, words, a.reading, b.reading, c.reading, d.reading) refl
+-- a sink's line whose first words are four such numbers
+module _ (line rest₀ rest₁ rest₂ rest₃ rest₄ : List ℕ) (id x y cap : ℕ) (e : line ≡ codes "sink " ++ rest₀) (a : IsPlainNumber 0 rest₀ id rest₁)
+    (b : IsPlainNumber 3 rest₁ x rest₂) (c : IsPlainNumber 3 rest₂ y rest₃) (d : IsPlainNumber 6 rest₃ cap rest₄) where
+  words_before : words_of line ≡ codes "sink" ∷ a.word ∷ b.word ∷ c.word ∷ d.word ∷ words_of rest₄
+  words_before =
+      ap words_of e ∙ words_of_next (codes "sink") 32 rest₀ (omega arith) key_in_word refl
+      ∙ ap (λ ws. codes "sink" ∷ ws) (words_of_blank 32 rest₀ refl ∙ a.words ∙ ap (λ ws. a.word ∷ ws) (b.words ∙ ap (λ ws. b.word ∷ ws)
+      (c.words ∙ ap (λ ws. c.word ∷ ws) d.words)))
+
+  printable_before : is_printable line ≡ is_printable rest₄
+  printable_before = ap is_printable e ∙ a.printable ∙ b.printable ∙ c.printable ∙ d.printable
+
+  -- where no other word follows
+  first_line_of : length rest₄ ≡ 0
+      → sink_numbers One line ≡ Ok (record { id = min id (2 ^ 32 - 1); x = pos x; y = pos y; cap = cap; offset = 0 })
+  unfolding sink_numbers fields_of number_of offset_of
+  first_line_of none =
+      rw (printable_before ∙ printable_empty rest₄ none, words_before, words_of_empty rest₄ none, a.reading, b.reading, c.reading, d.reading) refl
+
+  -- where an offset follows
+  second_line_of : (offset : ℕ) (rest₅ : List ℕ) → IsPlainNumber 15 rest₄ offset rest₅ → length rest₅ ≡ 0
+      → sink_numbers Two line ≡ Ok (record { id = min id (2 ^ 32 - 1); x = pos x; y = pos y; cap = cap; offset = offset })
+  unfolding sink_numbers fields_of number_of offset_of
+  second_line_of offset rest₅ o none =
+      rw (printable_before ∙ o.printable ∙ printable_empty rest₅ none, words_before, o.words, words_of_empty rest₅ none, a.reading, b.reading, c.reading, d.reading, o.reading) refl
+
+  -- a sink's line of such words
+  pub plain_line : (version : Version) (offset : ℕ) (rest₅ : List ℕ) → IsPlainOffset version rest₄ offset rest₅ → length rest₅ ≡ 0
+      → sink_numbers version line ≡ Ok (record { id = min id (2 ^ 32 - 1); x = pos x; y = pos y; cap = cap; offset = offset })
+  plain_line One offset rest₅ o none = rw o.0 (first_line_of (ap length (sym o.1) ∙ none))
+  plain_line Two offset rest₅ o none = second_line_of offset rest₅ o none

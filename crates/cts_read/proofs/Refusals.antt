@@ -78,7 +78,7 @@ module _ (P : ℕ → Type 0) where
       bind_all (item_at buffer_count_of left) _ (item_all buffer_count_of left all) (λ buffer_count a.
       bind_all (list_at buffer_of buffer_count.0 [] buffer_count.1) _ (list_all buffer_of buffer_count.0 [] buffer_count.1 a) (λ buffers b.
       bind_all (item_at sink_count_of buffers.1) _ (item_all sink_count_of buffers.1 b) (λ sink_count d.
-      bind_all (list_at (sink_of head.die) sink_count.0 [] sink_count.1) _ (list_all (sink_of head.die) sink_count.0 [] sink_count.1 d) (λ sinks e.
+      bind_all (list_at (sink_of head.version head.die) sink_count.0 [] sink_count.1) _ (list_all (sink_of head.version head.die) sink_count.0 [] sink_count.1 d) (λ sinks e.
       bind_all (item_at block_count_of sinks.1) _ (item_all block_count_of sinks.1 e) (λ block_count f.
       bind_all (list_at (block_of head.die head.source.x head.source.y sinks.0) block_count.0 [] block_count.1) _
       (list_all (block_of head.die head.source.x head.source.y sinks.0) block_count.0 [] block_count.1 f) (λ blocks g. g))))))

@@ -3,6 +3,8 @@ use Rattle.std.specs.Prelude.{ℕ, pos, List, [], ◌∷◌, if◌then◌else◌
 use Rattle.std.specs.Str.{bytes_eq}
 use Rattle.cts_geom.specs.declared.bounds.Die.{Die}
 use Rattle.cts_units.specs.declared.params.Wire.{Wire}
+use Rattle.cts_instance.specs.declared.version.Version.{Version}
+use Rattle.cts_instance.specs.declared.version.Version.TheVariants.{One, Two}
 use Rattle.cts_instance.specs.FirstFault.{die_fault, source_fault, wire_fault, limits_fault}
 use Rattle.cts_read.specs.declared.header.Source.{Source}
 use Rattle.cts_read.specs.declared.header.Limits.{Limits}
@@ -10,16 +12,16 @@ use Rattle.cts_read.specs.declared.stop.Cause.{Cause}
 use Rattle.cts_read.specs.declared.stop.Cause.TheVariants.{Word}
 use Rattle.cts_read.specs.Grammar.{◌>>=◌, fields_of, number_of, refuse}
 
--- one word is spelled so
-abbrev pub spelled : List ℕ → List (List ℕ) → Result Unit Cause
-spelled word [] = Err Word
-spelled word (w ∷ ws) = if bytes_eq w word then Ok tt else Err Word
+-- the version of an instance, which is one of two words
+unfoldable pub version_in : List (List ℕ) → Result Version Cause
+version_in [] = Err Word
+version_in (w ∷ ws) = if bytes_eq w (codes "1") then Ok One else (if bytes_eq w (codes "2") then Ok Two else Err Word)
 
--- `cts 1`
-unfoldable pub version_of : List ℕ → Result Unit Cause
+-- `cts 1` or `cts 2`
+unfoldable pub version_of : List ℕ → Result Version Cause
 version_of line = do
   words ← fields_of (codes "cts") 1 line
-  spelled (codes "1") words
+  version_in words
 
 -- `die X1 Y1 X2 Y2`, in nm
 unfoldable pub die_of : List ℕ → Result Die Cause

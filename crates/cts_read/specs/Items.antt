@@ -7,6 +7,8 @@ use Rattle.cts_units.specs.declared.params.Buffer.{Buffer}
 use Rattle.cts_block.specs.declared.blocks.Block.{Block}
 use Rattle.cts_block.specs.declared.blocks.Kind.{Kind}
 use Rattle.cts_block.specs.declared.blocks.Kind.TheVariants as kind
+use Rattle.cts_instance.specs.declared.version.Version.{Version}
+use Rattle.cts_instance.specs.declared.version.Version.TheVariants.{One, Two}
 use Rattle.cts_instance.specs.FirstFault.{buffer_count_fault, sink_count_fault, block_count_fault, buffer_line, sink_line, block_line}
 use Rattle.cts_read.specs.declared.stop.Cause.{Cause}
 use Rattle.cts_read.specs.declared.stop.Cause.TheVariants.{Word}
@@ -46,15 +48,27 @@ buffer_numbers line = do
   intrinsic ← number_of 15 rout.1
   Ok (record { cin = cin.0; rout = rout.0; intrinsic = intrinsic.0 })
 
--- `sink ID X Y CAP`, in nm and zF; an id that is past all ids is as good as the last one, which is out of range too
-unfoldable pub sink_numbers : List ℕ → Result Sink Cause
-sink_numbers line = do
-  words ← fields_of (codes "sink") 4 line
+-- how many words follow the first one of a sink's line
+abbrev pub sink_word_count : Version → ℕ
+sink_word_count One = 4
+sink_word_count Two = 5
+
+-- the offset of a sink, a word of version 2 alone, and the words after it
+unfoldable pub offset_of : Version → List (List ℕ) → Result (ℕ × List (List ℕ)) Cause
+offset_of One words = Ok (0, words)
+offset_of Two words = number_of 15 words
+
+-- `sink ID X Y CAP`, in nm and zF, and in version 2 `sink ID X Y CAP OFFSET`, the offset in 10^-27 s; an id that is past all
+-- ids is as good as the last one, which is out of range too
+unfoldable pub sink_numbers : Version → List ℕ → Result Sink Cause
+sink_numbers version line = do
+  words ← fields_of (codes "sink") (sink_word_count version) line
   id ← number_of 0 words
   x ← number_of 3 id.1
   y ← number_of 3 x.1
   cap ← number_of 6 y.1
-  Ok (record { id = min id.0 (2 ^ 32 - 1); x = pos x.0; y = pos y.0; cap = cap.0 })
+  offset ← offset_of version cap.1
+  Ok (record { id = min id.0 (2 ^ 32 - 1); x = pos x.0; y = pos y.0; cap = cap.0; offset = offset.0 })
 
 -- the kind of a block, which is one of two words
 unfoldable pub kind_of : List (List ℕ) → Result (Kind × List (List ℕ)) Cause
@@ -86,10 +100,10 @@ buffer_of before line = do
   _ ← refuse (buffer_line before buffer)
   Ok buffer
 
-unfoldable pub sink_of : Die → List Sink → List ℕ → Result Sink Cause
-sink_of die before line = do
-  sink ← sink_numbers line
-  _ ← refuse (sink_line die before sink)
+unfoldable pub sink_of : Version → Die → List Sink → List ℕ → Result Sink Cause
+sink_of version die before line = do
+  sink ← sink_numbers version line
+  _ ← refuse (sink_line version die before sink)
   Ok sink
 
 unfoldable pub block_of : Die → ℤ → ℤ → List Sink → List Block → List ℕ → Result Block Cause

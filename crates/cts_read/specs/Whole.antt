@@ -28,7 +28,7 @@ head_at left = do
   source ← item_at (source_of die.0) die.1
   wire ← item_at wire_of source.1
   limits ← item_at limits_of wire.1
-  Ok (record { die = die.0; source = source.0; wire = wire.0; limits = limits.0 }, limits.1)
+  Ok (record { version = version.0; die = die.0; source = source.0; wire = wire.0; limits = limits.0 }, limits.1)
 
 -- the lists, each after its count
 unfoldable pub lists_at : Head → Left → Result (Lists × Left) Refusal
@@ -36,7 +36,7 @@ lists_at head left = do
   buffer_count ← item_at buffer_count_of left
   buffers ← list_at buffer_of buffer_count.0 [] buffer_count.1
   sink_count ← item_at sink_count_of buffers.1
-  sinks ← list_at (sink_of head.die) sink_count.0 [] sink_count.1
+  sinks ← list_at (sink_of head.version head.die) sink_count.0 [] sink_count.1
   block_count ← item_at block_count_of sinks.1
   blocks ← list_at (block_of head.die head.source.x head.source.y sinks.0) block_count.0 [] block_count.1
   Ok (record { buffers = buffers.0; sinks = sinks.0; blocks = blocks.0 }, blocks.1)
@@ -51,12 +51,13 @@ pub record IsSoundHead (head : Head) : Type 0 where
 -- none of the lines of the lists has a fault
 pub record IsSoundLists (head : Head) (lists : Lists) : Type 0 where
   pub buffers : buffers_fault lists.buffers ≡ None
-  pub sinks : sinks_fault head.die lists.sinks ≡ None
+  pub sinks : sinks_fault head.version head.die lists.sinks ≡ None
   pub blocks : blocks_fault head.die head.source.x head.source.y lists.sinks lists.blocks ≡ None
 
 -- the parts of an instance that these lines are
 abbrev pub parts_of : Head → Lists → Parts
 parts_of head lists = record {
+  version = head.version;
   die = head.die;
   source_x = head.source.x;
   source_y = head.source.y;

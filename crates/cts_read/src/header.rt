@@ -3,12 +3,14 @@
 ghost use Rattle.std.specs.Prelude.{◌≡◌, None, IfOk};
 ghost use Rattle.cts_instance.specs.FirstFault.{die_fault, limits_fault, source_fault, wire_fault};
 ghost use Rattle.cts_read.specs.Grammar.{Finds};
-ghost use Rattle.cts_read.specs.Header.{die_of, limits_of, source_of, version_of, wire_of};
+ghost use Rattle.cts_read.specs.Header.{die_of, limits_of, source_of, version_in, version_of, wire_of};
+ghost use Rattle.cts_read.specs.Lines.{words_of};
 
 use crate::fields::{fields, number, refuse};
 use crate::stop::Cause;
 use crate::words::word_at;
 use cts_geom::Die;
+use cts_instance::Version;
 use cts_instance::lines::{die_fault, limits_fault, source_fault, wire_fault};
 use cts_units::Wire;
 
@@ -28,16 +30,24 @@ pub struct Limits {
     pub slew: u64,
 }
 
-/// The version, whose one number is compared as a word.
-#[tactic(auto, unfolding(crate::specs::Header::version_of))]
-pub fn version_of(line: &[u8]) -> Result<(), Cause>
-    ensures { result ≡ version_of line.now }
+/// The version, whose number is compared as a word.
+#[tactic(auto, unfolding(crate::specs::Header::version_in))]
+fn version_in(words: &[u8]) -> Result<Version, Cause>
+    ensures { result ≡ version_in (words_of words.now) }
 {
-    let rest = fields(b"cts", 1, line)?;
-    match word_at(rest) {
-        Some((b"1", _)) => Ok(()),
+    match word_at(words) {
+        Some((word, _)) if word == b"1".as_slice() => Ok(Version::One),
+        Some((word, _)) if word == b"2".as_slice() => Ok(Version::Two),
         _ => Err(Cause::Word),
     }
+}
+
+/// The first line, which says the version.
+#[tactic(auto, unfolding(crate::specs::Header::version_of))]
+pub fn version_of(line: &[u8]) -> Result<Version, Cause>
+    ensures { result ≡ version_of line.now }
+{
+    version_in(fields(b"cts", 1, line)?)
 }
 
 /// The die: its lower left and its upper right corner, in nm.

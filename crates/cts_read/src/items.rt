@@ -3,7 +3,7 @@
 ghost use Rattle.std.specs.Prelude.{◌≡◌, ◌-◌, ◌^◌, ◌<◌, None, IfOk};
 ghost use Rattle.cts_instance.specs.FirstFault.{block_count_fault, buffer_count_fault, sink_count_fault};
 ghost use Rattle.cts_read.specs.Grammar.{Finds};
-ghost use Rattle.cts_read.specs.Items.{block_count_of, block_numbers, buffer_count_of, buffer_numbers, count_of, end_of, kind_of, sink_count_of, sink_numbers};
+ghost use Rattle.cts_read.specs.Items.{block_count_of, block_numbers, buffer_count_of, buffer_numbers, count_of, end_of, kind_of, offset_of, sink_count_of, sink_numbers, sink_word_count};
 ghost use Rattle.cts_read.specs.Lines.{words_of};
 
 use crate::fields::{fields, number, refuse};
@@ -11,6 +11,7 @@ use crate::plain::plain_sink;
 use crate::stop::Cause;
 use crate::words::word_at;
 use cts_block::{Block, Kind};
+use cts_instance::Version;
 use cts_instance::lines::{block_count_fault, buffer_count_fault, sink_count_fault};
 use cts_units::{Buffer, Sink};
 
@@ -76,32 +77,55 @@ pub fn buffer_numbers(line: &[u8]) -> Result<Buffer, Cause>
     })
 }
 
-/// A sink: its id, its place in nm and its capacitance in zF.
-pub fn sink_numbers(line: &[u8]) -> Result<Sink, Cause>
-    ensures { result ≡ sink_numbers line.now }
+/// A sink: its id, its place in nm, its capacitance in zF, and in version 2 its offset in 10^-27 s.
+pub fn sink_numbers(version: Version, line: &[u8]) -> Result<Sink, Cause>
+    ensures { result ≡ sink_numbers version line.now }
 {
-    match plain_sink(line) {
+    match plain_sink(version, line) {
         Some(sink) => Ok(sink),
-        None => any_sink(line),
+        None => any_sink(version, line),
     }
 }
 
 /// As [`sink_numbers`], word by word.
 #[tactic(auto, unfolding(crate::specs::Items::sink_numbers))]
-fn any_sink(line: &[u8]) -> Result<Sink, Cause>
-    ensures { result ≡ sink_numbers line.now }
+fn any_sink(version: Version, line: &[u8]) -> Result<Sink, Cause>
+    ensures { result ≡ sink_numbers version line.now }
 {
-    let rest = fields(b"sink", 4, line)?;
+    let rest = fields(b"sink", sink_word_count(version), line)?;
     let (id, rest) = number(0, rest)?;
     let (x, rest) = number(3, rest)?;
     let (y, rest) = number(3, rest)?;
-    let (cap, _) = number(6, rest)?;
+    let (cap, rest) = number(6, rest)?;
+    let (offset, _) = offset_of(version, rest)?;
     Ok(Sink {
         id: id.min(u64::from(u32::MAX)) as u32,
         x: x as i64,
         y: y as i64,
         cap,
+        offset,
     })
+}
+
+/// How many words follow the first one of a sink's line.
+fn sink_word_count(version: Version) -> usize
+    ensures { result ≡ sink_word_count version }
+{
+    match version {
+        Version::One => 4,
+        Version::Two => 5,
+    }
+}
+
+/// The offset of a sink, a word of version 2 alone, and what comes after it.
+#[tactic(auto, unfolding(crate::specs::Items::offset_of))]
+fn offset_of(version: Version, words: &[u8]) -> Result<(u64, &[u8]), Cause>
+    ensures { Finds (λ x. (x.0, words_of x.1.now)) result (offset_of version (words_of words.now)) }
+{
+    match version {
+        Version::One => Ok((0, words)),
+        Version::Two => number(15, words),
+    }
 }
 
 /// The kind of a block, and what comes after it.

@@ -15,7 +15,7 @@ use crate::stop::{Cause, ReadStop};
 use cts_block::Block;
 use cts_geom::Die;
 use cts_instance::lines::{block_fault, buffer_fault, sink_fault};
-use cts_instance::{BlockCounts, SinkIds};
+use cts_instance::{BlockCounts, SinkIds, Version};
 use cts_units::{Buffer, Sink};
 use std::alloc::Global;
 
@@ -45,18 +45,23 @@ fn read_buffer(lines: &mut Cursor<'_>, before: &[Buffer]) -> Result<Buffer, Read
 
 /// The next sink, after those whose ids are `ids`.
 #[tactic(auto, unfolding(crate::specs::Grammar::item_at, crate::specs::Items::sink_of, cts_instance::specs::FirstFault::sink_line))]
-fn read_sink(lines: &mut Cursor<'_>, die: &Die, ids: &mut SinkIds) -> Result<Sink, ReadStop>
+fn read_sink(
+    lines: &mut Cursor<'_>,
+    version: Version,
+    die: &Die,
+    ids: &mut SinkIds,
+) -> Result<Sink, ReadStop>
     requires { length ids.old < 2 ^ 32 }
     ensures read { (before : List Sink) → ids.old ≡ map (λ sink. sink.id) before
-        → Gives (λ x. x) result (left_of lines.new) (item_at (sink_of die.now before) (left_of lines.old)) }
+        → Gives (λ x. x) result (left_of lines.new) (item_at (sink_of version die.now before) (left_of lines.old)) }
     ensures sound { (before : List Sink) → ids.old ≡ map (λ sink. sink.id) before
-        → IfOk result (λ sink. sink_line die.now before sink ≡ None) }
+        → IfOk result (λ sink. sink_line version die.now before sink ≡ None) }
     ensures added { IfOk result (λ sink. ids.new ≡ ids.old ++ sink.id ∷ []) }
     ensures text { lines.new.text ≡ lines.old.text }
 {
     let (number, line) = next_line(lines)?;
-    let sink = at_line(number, sink_numbers(line))?;
-    at_line(number, refuse(sink_fault(die, ids, &sink)?))?;
+    let sink = at_line(number, sink_numbers(version, line))?;
+    at_line(number, refuse(sink_fault(version, die, ids, &sink)?))?;
     Ok(sink)
 }
 
@@ -111,20 +116,21 @@ pub fn read_buffers(
 pub fn read_sinks(
     alloc: Global,
     lines: &mut Cursor<'_>,
+    version: Version,
     die: &Die,
     count: usize,
 ) -> Result<Vec<Sink>, ReadStop>
     requires count { count < 2 ^ 32 }
     requires announced { sink_count_fault count ≡ None }
-    ensures read { Gives (λ v. v.items) result (left_of lines.new) (list_at (sink_of die.now) count [] (left_of lines.old)) }
+    ensures read { Gives (λ v. v.items) result (left_of lines.new) (list_at (sink_of version die.now) count [] (left_of lines.old)) }
     ensures many { IfOk result (λ v. length v.items ≡ count) }
-    ensures sound { IfOk result (λ v. sinks_fault die.now v.items ≡ None) }
+    ensures sound { IfOk result (λ v. sinks_fault version die.now v.items ≡ None) }
     ensures text { lines.new.text ≡ lines.old.text }
 {
     let mut sinks = Vec::with_capacity(alloc, count)?;
     let mut ids = SinkIds::with_capacity(alloc, count)?;
     for _ in 0..count {
-        let sink = read_sink(lines, die, &mut ids)?;
+        let sink = read_sink(lines, version, die, &mut ids)?;
         sinks.push(sink)?;
     }
     Ok(sinks)

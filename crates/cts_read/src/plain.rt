@@ -2,21 +2,23 @@
 
 ghost use Rattle.std.specs.Prelude.{◌≡◌, ◌^◌, ◌<◌, ◌≤◌, ◌++◌, codes, Ok, IfSome};
 ghost use Rattle.cts_read.specs.Items.{sink_numbers};
-ghost use Rattle.cts_read.specs.Plain.{IsPlainNumber, IsPlainEnd};
+ghost use Rattle.cts_read.specs.Plain.{IsPlainEnd, IsPlainNumber, IsPlainOffset};
 
+use cts_instance::Version;
 use cts_num::read_front;
 use cts_units::Sink;
 
 /// A sink, where the words of its line stand one space apart and no number has a fault. Other lines
 /// are not looked into any further.
-pub fn plain_sink(line: &[u8]) -> Option<Sink>
-    ensures { IfSome result (λ sink. sink_numbers line.now ≡ Ok sink) }
+pub fn plain_sink(version: Version, line: &[u8]) -> Option<Sink>
+    ensures { IfSome result (λ sink. sink_numbers version line.now ≡ Ok sink) }
 {
     let rest = after_key(line)?;
     let (id, rest) = plain_number(rest, 0)?;
     let (x, rest) = plain_number(rest, 3)?;
     let (y, rest) = plain_number(rest, 3)?;
     let (cap, rest) = plain_number(rest, 6)?;
+    let (offset, rest) = plain_offset(version, rest)?;
     if !rest.is_empty() {
         return None;
     }
@@ -25,6 +27,7 @@ pub fn plain_sink(line: &[u8]) -> Option<Sink>
         x: x as i64,
         y: y as i64,
         cap,
+        offset,
     })
 }
 
@@ -50,6 +53,17 @@ fn plain_number(bytes: &[u8], places: u32) -> Option<(u64, &[u8])>
     };
     let rest = after_word(&bytes[size..])?;
     Some((value, rest))
+}
+
+/// The offset, a word of version 2 alone, and what follows it and a space.
+#[inline(always)]
+fn plain_offset(version: Version, bytes: &[u8]) -> Option<(u64, &[u8])>
+    ensures { IfSome result (λ found. IsPlainOffset version bytes.now found.0 found.1.now) }
+{
+    match version {
+        Version::One => Some((0, bytes)),
+        Version::Two => plain_number(bytes, 15),
+    }
 }
 
 /// What follows a space, or the end.

@@ -17,7 +17,7 @@ use crate::left::none_left;
 use crate::lists::{at_line, read_blocks, read_buffers, read_sinks};
 use crate::stop::{Cause, ReadStop};
 use cts_geom::Die;
-use cts_instance::{Blocks, Instance, Parts, Sinks};
+use cts_instance::{Blocks, Instance, Parts, Sinks, Version};
 use cts_io::Lines;
 use cts_units::{Library, Params, Wire};
 use std::alloc::Global;
@@ -25,6 +25,7 @@ use std::alloc::Global;
 /// What comes before the lists.
 #[derive(Drop)]
 struct Head {
+    version: Version,
     die: Die,
     source: Source,
     wire: Wire,
@@ -68,12 +69,13 @@ fn read_head(lines: &mut Cursor<'_>) -> Result<Head, ReadStop>
     ensures sound { IfOk result IsSoundHead }
     ensures text { lines.new.text ≡ lines.old.text }
 {
-    read_line(lines, version_of)?;
+    let version = read_line(lines, version_of)?;
     let die = read_line(lines, die_of)?;
     let source = read_line(lines, |line| source_of(&die, line))?;
     let wire = read_line(lines, wire_of)?;
     let limits = read_line(lines, limits_of)?;
     Ok(Head {
+        version,
         die,
         source,
         wire,
@@ -99,7 +101,7 @@ fn read_lists(alloc: Global, lines: &mut Cursor<'_>, head: &Head) -> Result<List
     let buffer_count = read_line(lines, buffer_count_of)?;
     let buffers = read_buffers(alloc, lines, buffer_count)?;
     let sink_count = read_line(lines, sink_count_of)?;
-    let sinks = read_sinks(alloc, lines, &head.die, sink_count)?;
+    let sinks = read_sinks(alloc, lines, head.version, &head.die, sink_count)?;
     let block_count = read_line(lines, block_count_of)?;
     let blocks = read_blocks(alloc, lines, &head.die, &head.source, &sinks, block_count)?;
     Ok(Lists {
@@ -128,6 +130,7 @@ fn assembled(head: Head, lists: Lists) -> Instance
     ensures { result ≡ parts_of head lists }
 {
     Instance::of(Parts {
+        version: head.version,
         die: head.die,
         source_x: head.source.x,
         source_y: head.source.y,

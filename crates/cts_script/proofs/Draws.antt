@@ -47,15 +47,15 @@ draw_below seed number limit h p = drawn_below limit (state_after seed (number +
 pub sink_from_states : (seed number t u v : ℕ)
     → t ≡ state_after seed (3 * number + 1) → u ≡ state_after seed (3 * number + 1 + 1) → v ≡ state_after seed (3 * (number + 1))
     → (x y c : ℕ) → x ≡ drawn 10000001 t → y ≡ drawn 10000001 u → c ≡ drawn 31 v
-    → ◌≡◌ {A = Sink} (record { id = number + 1; x = pos x; y = pos y; cap = (20 + c) * 1000000 }) (made_sink seed number)
+    → ◌≡◌ {A = Sink} (record { id = number + 1; x = pos x; y = pos y; cap = (20 + c) * 1000000; offset = 0 }) (made_sink seed number)
 sink_from_states seed number t u v ht hu hv x y c hx hy hc =
     let ex : x ≡ draw seed (3 * number) 10000001 = hx ∙ ap (drawn 10000001) ht in
     let ey : y ≡ draw seed (3 * number + 1) 10000001 = hy ∙ ap (drawn 10000001) hu in
     let ec : c ≡ draw seed (3 * number + 2) 31 =
     hc ∙ ap (drawn 31) (hv ∙ ap (state_after seed) {x = 3 * (number + 1)} {y = 3 * number + 2 + 1} (omega arith)) in
-    ap (λ v. record { id = number + 1; x = pos v; y = pos y; cap = (20 + c) * 1000000 }) ex
-    ∙ ap (λ v. record { id = number + 1; x = pos (draw seed (3 * number) 10000001); y = pos v; cap = (20 + c) * 1000000 }) ey
-    ∙ ap (λ v. record { id = number + 1; x = pos (draw seed (3 * number) 10000001); y = pos (draw seed (3 * number + 1) 10000001); cap = (20 + v) * 1000000 }) ec
+    ap (λ v. record { id = number + 1; x = pos v; y = pos y; cap = (20 + c) * 1000000; offset = 0 }) ex
+    ∙ ap (λ v. record { id = number + 1; x = pos (draw seed (3 * number) 10000001); y = pos v; cap = (20 + c) * 1000000; offset = 0 }) ey
+    ∙ ap (λ v. record { id = number + 1; x = pos (draw seed (3 * number) 10000001); y = pos (draw seed (3 * number + 1) 10000001); cap = (20 + v) * 1000000; offset = 0 }) ec
 
 -- one more sink
 pub sinks_more : (seed count : ℕ) (old new : List Sink) (sink : Sink) → new ≡ old ++ sink ∷ []

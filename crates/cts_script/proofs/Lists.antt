@@ -19,14 +19,14 @@ lines_more line first items k d h =
 pub text_by_lists : (parts : Parts) → instance_text parts
     ≡ concat (head_lines parts)
     ++ concat (list_lines (codes "buffers") buffer_line parts.params.library)
-    ++ concat (list_lines (codes "sinks") sink_line parts.sinks)
+    ++ concat (list_lines (codes "sinks") (sink_line parts.version) parts.sinks)
     ++ concat (list_lines (codes "blocks") block_line parts.blocks)
     ++ concat (end_line ∷ [])
 unfolding instance_lines
 text_by_lists parts =
     let head : List (List ℕ) = head_lines parts in
     let buffers : List (List ℕ) = list_lines (codes "buffers") buffer_line parts.params.library in
-    let sinks : List (List ℕ) = list_lines (codes "sinks") sink_line parts.sinks in
+    let sinks : List (List ℕ) = list_lines (codes "sinks") (sink_line parts.version) parts.sinks in
     let blocks : List (List ℕ) = list_lines (codes "blocks") block_line parts.blocks in
     concat-append (head ++ buffers ++ sinks ++ blocks) (end_line ∷ [])
     ∙ ap (λ t. t ++ concat (end_line ∷ []))

@@ -1,5 +1,5 @@
 -- Made parts are valid.
-use Rattle.std.proofs.Common.{◌≡◌, ◌≢◌, ℕ, zero, suc, ◌+◌, ◌*◌, ◌^◌, ◌<◌, ◌≤◌, pos, List, [], ◌∷◌, length, get_or, All, AllPairs, subst, sym, ap, ◌∙◌, arith, None}
+use Rattle.std.proofs.Common.{◌≡◌, ◌≢◌, ℕ, zero, suc, ◌+◌, ◌*◌, ◌^◌, ◌<◌, ◌≤◌, pos, List, [], ◌∷◌, length, get_or, All, AllPairs, refl, subst, sym, ap, ◌∙◌, arith, None}
 use Rattle.std.proofs.lemmas.Int.{ints}
 use Rattle.std.proofs.lemmas.List.FromFn.{get_or-map-range_with_len, length-map-range_with_len}
 use Rattle.cts_units.specs.declared.params.Sink.{Sink}
@@ -8,6 +8,7 @@ use Rattle.cts_block.specs.declared.blocks.Block.{Block}
 use Rattle.cts_block.specs.declared.blocks.Kind.TheVariants as kind
 use Rattle.cts_instance.specs.declared.parts.Parts.{Parts}
 use Rattle.cts_instance.specs.FirstFault.{first_fault}
+use Rattle.cts_instance.specs.declared.version.Version.TheVariants.{One}
 use Rattle.cts_instance.specs.Validity.{IsBlock, IsClear, IsSink, IsValid}
 use Rattle.cts_instance.proofs.ValidityLemmas.{no_fault_from_valid}
 use Rattle.cts_script.specs.Generator.{draw, made_parts, made_sink, made_sinks, parts_with}
@@ -42,7 +43,7 @@ block_is_valid = record {
 block_is_clear : (sinks : List Sink) → IsClear (pos 0) (pos 0) sinks block
 block_is_clear sinks = record { of_source = λ stops. absurd stops; of_sinks = λ stops. absurd stops }
 
-valid_sink : (seed number : ℕ) → seed < 2 ^ 31 → number < 65536 → IsSink (parts_with []).die (made_sink seed number)
+valid_sink : (seed number : ℕ) → seed < 2 ^ 31 → number < 65536 → IsSink One (parts_with []).die (made_sink seed number)
 valid_sink seed number h w =
     let x : draw seed (3 * number) 10000001 < 10000001 = draw_below seed (3 * number) 10000001 h (omega arith) in
     let y : draw seed (3 * number + 1) 10000001 < 10000001 = draw_below seed (3 * number + 1) 10000001 h (omega arith) in
@@ -50,14 +51,16 @@ valid_sink seed number h w =
     record {
       id = omega arith;
       cap = omega arith;
+      offset = omega arith;
+      no_offset = λ _. refl;
       in_die = record { west = omega (arith, ints); east = omega (arith, ints); south = omega (arith, ints); north = omega (arith, ints) };
     }
 
-valid_sinks : (seed count : ℕ) → seed < 2 ^ 31 → count ≤ 65536 → All (IsSink (parts_with []).die) (made_sinks seed count)
+valid_sinks : (seed count : ℕ) → seed < 2 ^ 31 → count ≤ 65536 → All (IsSink One (parts_with []).die) (made_sinks seed count)
 unfolding made_sinks
 valid_sinks seed count h w i d inside =
     let below : i < count = subst (λ n. i < n) (length-map-range_with_len (made_sink seed) 0 count) inside in
-    subst (IsSink (parts_with []).die) (sym (get_or-map-range_with_len (made_sink seed) 0 count i i d below (omega arith)))
+    subst (IsSink One (parts_with []).die) (sym (get_or-map-range_with_len (made_sink seed) 0 count i i d below (omega arith)))
     (valid_sink seed i h (omega arith))
 
 distinct_ids : (seed count : ℕ) → AllPairs (λ (a b : Sink). a.id ≢ b.id) (made_sinks seed count)

@@ -11,6 +11,7 @@ use Rattle.cts_units.specs.Limits.{IsBuffer}
 use Rattle.cts_block.specs.declared.blocks.Block.{Block}
 use Rattle.cts_instance.specs.declared.parts.Parts.{Parts}
 use Rattle.cts_instance.specs.FirstFault as faults
+use Rattle.cts_instance.specs.declared.version.Version.{Version}
 use Rattle.cts_instance.specs.FirstFault.{block_count_fault, blocks_fault, buffer_count_fault, buffers_fault, die_fault, first_fault, first_of, limits_fault, sink_count_fault, sinks_fault, source_fault, wire_fault}
 use Rattle.cts_instance.specs.Places.{IsInDie}
 use Rattle.cts_instance.specs.Validity.{IsBlock, IsDie, IsSink, IsValid}
@@ -20,11 +21,11 @@ use Rattle.cts_read.specs.Lines.{is_skipped}
 use Rattle.cts_read.specs.Header.{die_of, limits_of, source_of, version_of, wire_of}
 use Rattle.cts_read.specs.Items.{block_count_of, block_of, buffer_count_of, buffer_of, sink_count_of, sink_of}
 use Rattle.cts_read.specs.Whole.{end_at, head_at, instance_at, instance_of, lists_at}
-use Rattle.cts_script.specs.Text.{block_line, buffer_line, count_line, die_line, end_line, head_lines, instance_lines, instance_text, limits_line, sink_line, source_line, version_line, wire_line}
+use Rattle.cts_script.specs.Text.{block_line, buffer_line, count_line, die_line, end_line, head_lines, instance_lines, instance_text, limits_line, sink_line, sink_words, source_line, version_line, version_word, wire_line}
 use Rattle.cts_script.specs.Laws.{InstancesComeBack, NothingIsLeft}
 use Rattle.cts_script.proofs.Lists.{text_by_lists}
 use Rattle.cts_script.proofs.WrittenWords.{IsWord, body_of, decimal_word, literal}
-use Rattle.cts_script.proofs.WrittenLines.{IsWritten, block_are_words, block_back, block_words, buffer_are_words, buffer_back, buffer_words, count_back, die_are_words, die_back, die_words, end_back, found, is_written, limits_are_words, limits_back, limits_words, sink_are_words, sink_back, sink_words, source_are_words, source_back, source_words, version_back, wire_are_words, wire_back, wire_words}
+use Rattle.cts_script.proofs.WrittenLines.{IsWritten, block_are_words, block_back, block_words, buffer_are_words, buffer_back, buffer_words, count_back, die_are_words, die_back, die_words, end_back, found, is_written, limits_are_words, limits_back, limits_words, sink_are_words, sink_back, source_are_words, source_back, source_words, version_back, version_is_word, wire_are_words, wire_back, wire_words}
 use Rattle.cts_script.proofs.WrittenText.{IsBody, at, is_body, item_line, line-then, line_back, list_back, or_none}
 
 -- a point of a valid die can be written
@@ -47,7 +48,7 @@ record HasNoFault (parts : Parts) : Type 0 where
   buffer_count : buffer_count_fault (length parts.params.library) ≡ None
   buffers : first_of faults.buffer_line [] parts.params.library ≡ None
   sink_count : sink_count_fault (length parts.sinks) ≡ None
-  sinks : first_of (faults.sink_line parts.die) [] parts.sinks ≡ None
+  sinks : first_of (faults.sink_line parts.version parts.die) [] parts.sinks ≡ None
   block_count : block_count_fault (length parts.blocks) ≡ None
   blocks : first_of (faults.block_line parts.die parts.source_x parts.source_y parts.sinks) [] parts.blocks ≡ None
 
@@ -79,12 +80,13 @@ no_fault parts v =
 -- what comes after each line of the head, up to the lists
 abbrev after_head : Parts → List ℕ → List ℕ
 after_head parts rest =
-    version_line ++ (die_line parts.die ++ (source_line parts.source_x parts.source_y parts.source_r
+    version_line parts.version ++ (die_line parts.die ++ (source_line parts.source_x parts.source_y parts.source_r
     ++ (wire_line parts.params.wire ++ (limits_line parts.params.insert_at parts.load_limit parts.slew_limit ++ rest))))
 
 head_back : (parts : Parts) (text rest : List ℕ) → IsValid parts
     → head_at (left_of (at text (after_head parts rest) 0)) ≡ Ok (
       record {
+        version = parts.version;
         die = parts.die;
         source = record { x = parts.source_x; y = parts.source_y; r = parts.source_r };
         wire = parts.params.wire;
@@ -101,8 +103,8 @@ head_back parts text rest v =
     let y1 = is_written d.y1 v.die.y_low (omega (arith, ints, v.die.y_order, v.die.y_high)) in
     let x2 = is_written d.x2 (omega (arith, ints, v.die.x_low, v.die.x_order)) v.die.x_high in
     let y2 = is_written d.y2 (omega (arith, ints, v.die.y_low, v.die.y_order)) v.die.y_high in
-    found _ _ _ _ (item_line version_of tt text (codes "cts") (codes "1" ∷ []) _ 0
-    (is_body (codes "cts") (codes "1" ∷ []) (literal (codes "cts") (omega arith) refl) (literal (codes "1") (omega arith) refl, tt) refl) version_back)
+    found _ _ _ _ (item_line version_of parts.version text (codes "cts") (version_word parts.version ∷ []) _ 0
+    (is_body (codes "cts") (version_word parts.version ∷ []) (literal (codes "cts") (omega arith) refl) (version_is_word parts.version, tt) refl) (version_back parts.version))
     (found _ _ _ _ (item_line die_of parts.die text (codes "die") (die_words parts.die) _ 1
     (is_body (codes "die") (die_words parts.die) (literal (codes "die") (omega arith) refl) (die_are_words parts.die) refl) (die_back parts.die x1 y1 x2 y2 sound.die))
     (found _ _ _ _ (item_line (source_of parts.die) _ text (codes "source") (source_words parts.source_x parts.source_y parts.source_r) _ 2
@@ -120,9 +122,10 @@ buffer_is_body : (buffer : Buffer) → IsBody (body_of (codes "buffer") (buffer_
 unfolding is_skipped
 buffer_is_body buffer = is_body (codes "buffer") (buffer_words buffer) (literal (codes "buffer") (omega arith) refl) (buffer_are_words buffer) refl
 
-sink_is_body : (sink : Sink) → IsBody (body_of (codes "sink") (sink_words sink))
+sink_is_body : (version : Version) (sink : Sink) → IsBody (body_of (codes "sink") (sink_words version sink))
 unfolding is_skipped
-sink_is_body sink = is_body (codes "sink") (sink_words sink) (literal (codes "sink") (omega arith) refl) (sink_are_words sink) refl
+sink_is_body version sink =
+    is_body (codes "sink") (sink_words version sink) (literal (codes "sink") (omega arith) refl) (sink_are_words version sink) refl
 
 block_is_body : (block : Block) → IsBody (body_of (codes "block") (block_words block))
 unfolding is_skipped
@@ -134,12 +137,13 @@ unfolding buffer_of
 buffer_of_back before buffer b sound =
     found _ _ _ _ (buffer_back buffer (omega (arith, b.cin)) b.rout b.intrinsic) (found _ _ tt _ (ap refuse sound) refl)
 
-sink_of_back : (die : Die) → IsDie die → (before : List Sink) (sink : Sink) → IsSink die sink → faults.sink_line die before sink ≡ None
-    → sink_of die before (body_of (codes "sink") (sink_words sink)) ≡ Ok sink
+sink_of_back : (version : Version) (die : Die) → IsDie die → (before : List Sink) (sink : Sink) → IsSink version die sink
+    → faults.sink_line version die before sink ≡ None
+    → sink_of version die before (body_of (codes "sink") (sink_words version sink)) ≡ Ok sink
 unfolding sink_of
-sink_of_back die d before sink s sound =
+sink_of_back version die d before sink s sound =
     let p = written_point die sink.x sink.y d s.in_die in
-    found _ _ _ _ (sink_back sink s.id p.x p.y (omega (arith, s.cap))) (found _ _ tt _ (ap refuse sound) refl)
+    found _ _ _ _ (sink_back sink s.id p.x p.y (omega (arith, s.cap)) version s.offset s.no_offset) (found _ _ tt _ (ap refuse sound) refl)
 
 block_of_back : (die : Die) → IsDie die → (x y : ℤ) (sinks : List Sink) (before : List Block) (block : Block) → IsBlock die block
     → faults.block_line die x y sinks before block ≡ None
@@ -176,7 +180,7 @@ block_count_back count sound less =
 abbrev lists_then : Parts → List ℕ → List ℕ
 lists_then parts rest =
     count_line (codes "buffers") (length parts.params.library) ++ (concat (map buffer_line parts.params.library)
-    ++ (count_line (codes "sinks") (length parts.sinks) ++ (concat (map sink_line parts.sinks)
+    ++ (count_line (codes "sinks") (length parts.sinks) ++ (concat (map (sink_line parts.version) parts.sinks)
     ++ (count_line (codes "blocks") (length parts.blocks) ++ (concat (map block_line parts.blocks) ++ rest)))))
 
 -- the number of the last line of the lists
@@ -185,6 +189,7 @@ lists_end parts = 5 + 1 + length parts.params.library + 1 + length parts.sinks +
 
 lists_back : (parts : Parts) (text rest : List ℕ) → IsValid parts
     → lists_at (record {
+      version = parts.version;
       die = parts.die;
       source = record { x = parts.source_x; y = parts.source_y; r = parts.source_r };
       wire = parts.params.wire;
@@ -206,8 +211,9 @@ lists_back parts text rest v =
     (found _ _ _ _ (item_line sink_count_of s text (codes "sinks") (decimal_text 0 s ∷ []) _ (6 + b)
     (count_is_body (codes "sinks") s (literal (codes "sinks") (omega arith) refl) refl)
     (sink_count_back s sound.sink_count (omega (arith, v.sink_count))))
-    (found _ _ _ _ (list_back (sink_of parts.die) (faults.sink_line parts.die) sink_line (λ sink. body_of (codes "sink") (sink_words sink)) (IsSink parts.die)
-    (λ sink. line-then (codes "sink") (sink_words sink)) (λ sink _. sink_is_body sink) (sink_of_back parts.die v.die)
+    (found _ _ _ _ (list_back (sink_of parts.version parts.die) (faults.sink_line parts.version parts.die) (sink_line parts.version)
+    (λ sink. body_of (codes "sink") (sink_words parts.version sink)) (IsSink parts.version parts.die)
+    (λ sink. line-then (codes "sink") (sink_words parts.version sink)) (λ sink _. sink_is_body parts.version sink) (sink_of_back parts.version parts.die v.die)
     parts.sinks [] text _ (6 + b + 1) v.sinks sound.sinks)
     (found _ _ _ _ (item_line block_count_of k text (codes "blocks") (decimal_text 0 k ∷ []) _ (6 + b + 1 + s)
     (count_is_body (codes "blocks") k (literal (codes "blocks") (omega arith) refl) refl)
@@ -236,10 +242,10 @@ text_then : (parts : Parts) (rest : List ℕ) → instance_text parts ++ rest �
 unfolding head_lines
 text_then parts rest =
     ap (λ t. t ++ rest) (text_by_lists parts)
-    ∙ regroup version_line (die_line parts.die) (source_line parts.source_x parts.source_y parts.source_r) (wire_line parts.params.wire)
+    ∙ regroup (version_line parts.version) (die_line parts.die) (source_line parts.source_x parts.source_y parts.source_r) (wire_line parts.params.wire)
     (limits_line parts.params.insert_at parts.load_limit parts.slew_limit)
     (count_line (codes "buffers") (length parts.params.library)) (concat (map buffer_line parts.params.library))
-    (count_line (codes "sinks") (length parts.sinks)) (concat (map sink_line parts.sinks))
+    (count_line (codes "sinks") (length parts.sinks)) (concat (map (sink_line parts.version) parts.sinks))
     (count_line (codes "blocks") (length parts.blocks)) (concat (map block_line parts.blocks)) end_line rest
 
 count_lines : {A : Type 0} (head bs cs ks : List A) (b c k e : A)
@@ -262,11 +268,11 @@ unfolding instance_lines head_lines
 lines_are parts =
     omega (
       arith,
-      count_lines (head_lines parts) (map buffer_line parts.params.library) (map sink_line parts.sinks) (map block_line parts.blocks)
+      count_lines (head_lines parts) (map buffer_line parts.params.library) (map (sink_line parts.version) parts.sinks) (map block_line parts.blocks)
           (count_line (codes "buffers") (length parts.params.library)) (count_line (codes "sinks") (length parts.sinks))
           (count_line (codes "blocks") (length parts.blocks)) end_line,
       map_length buffer_line parts.params.library,
-      map_length sink_line parts.sinks,
+      map_length (sink_line parts.version) parts.sinks,
       map_length block_line parts.blocks,
     )
 

@@ -1,5 +1,5 @@
 -- Lines that are written are read back, kind by kind.
-use Rattle.std.proofs.Common.{◌≡◌, ℕ, ◌^◌, ◌<◌, ◌≤◌, ◌-◌, true, ℤ, pos, negsuc, ◌≤ℤ◌, unsigned_abs, List, [], ◌∷◌, Ok, Result, None, refl, ap, ◌∙◌, arith, min, codes}
+use Rattle.std.proofs.Common.{◌≡◌, ℕ, ◌^◌, ◌<◌, ◌≤◌, ◌-◌, true, ℤ, pos, negsuc, ◌≤ℤ◌, unsigned_abs, List, [], ◌∷◌, Ok, Result, None, refl, sym, ap, ◌∙◌, arith, min, codes}
 use Rattle.std.specs.Str.{bytes_eq}
 use Rattle.std.proofs.lemmas.Int.{ints}
 use Rattle.cts_num.specs.Decimal.{decimal_text}
@@ -10,12 +10,14 @@ use Rattle.cts_units.specs.declared.params.Buffer.{Buffer}
 use Rattle.cts_block.specs.declared.blocks.Block.{Block}
 use Rattle.cts_block.specs.declared.blocks.Kind.{Kind}
 use Rattle.cts_block.specs.declared.blocks.Kind.TheVariants as kind
+use Rattle.cts_instance.specs.declared.version.Version.{Version}
+use Rattle.cts_instance.specs.declared.version.Version.TheVariants.{One, Two}
 use Rattle.cts_instance.specs.FirstFault.{die_fault, limits_fault, source_fault, wire_fault}
 use Rattle.cts_read.specs.declared.header.Source.{Source}
 use Rattle.cts_read.specs.Grammar.{◌>>=◌, refuse}
-use Rattle.cts_read.specs.Header.{die_of, limits_of, source_of, version_of, wire_of}
-use Rattle.cts_read.specs.Items.{block_numbers, buffer_numbers, count_of, end_of, kind_of, sink_numbers}
-use Rattle.cts_script.specs.Text.{coordinate, kind_word}
+use Rattle.cts_read.specs.Header.{die_of, limits_of, source_of, version_in, version_of, wire_of}
+use Rattle.cts_read.specs.Items.{block_numbers, buffer_numbers, count_of, end_of, kind_of, offset_of, sink_numbers}
+use Rattle.cts_script.specs.Text.{coordinate, kind_word, offset_words, sink_words, version_word}
 use Rattle.cts_script.proofs.WrittenWords.{AreWords, IsWord, body_of, decimal_word, fields_back, literal, number_back}
 
 -- what goes on with a result that was found
@@ -36,10 +38,20 @@ is_written (pos n) low high = record { low = low; less = omega (arith, ints, hig
 is_written (negsuc n) low high = absurd (omega (arith, ints, low))
 
 -- a line that says nothing but its words
-pub version_back : version_of (body_of (codes "cts") (codes "1" ∷ [])) ≡ Ok tt
+pub version_is_word : (version : Version) → IsWord (version_word version)
+version_is_word One = literal (codes "1") (omega arith) refl
+version_is_word Two = literal (codes "2") (omega arith) refl
+
+version_in_back : (version : Version) → version_in (version_word version ∷ []) ≡ Ok version
+unfolding version_in
+version_in_back One = refl
+version_in_back Two = refl
+
+pub version_back : (version : Version) → version_of (body_of (codes "cts") (version_word version ∷ [])) ≡ Ok version
 unfolding version_of
-version_back =
-    found _ _ _ _ (fields_back (codes "cts") (codes "1" ∷ []) 1 (literal (codes "cts") (omega arith) refl) (literal (codes "1") (omega arith) refl, tt) refl refl) refl
+version_back version =
+    found _ _ _ _ (fields_back (codes "cts") (version_word version ∷ []) 1 (literal (codes "cts") (omega arith) refl) (version_is_word version, tt) refl refl)
+    (version_in_back version)
 
 pub end_back : end_of (body_of (codes "end") []) ≡ Ok tt
 unfolding end_of
@@ -136,25 +148,38 @@ buffer_back buffer hc hr hi =
     (found _ _ _ _ (number_back 6 buffer.rout _ hr)
     (found _ _ _ _ (number_back 15 buffer.intrinsic _ hi) refl)))
 
-abbrev pub sink_words : Sink → List (List ℕ)
-sink_words sink = decimal_text 0 sink.id ∷ coordinate sink.x ∷ coordinate sink.y ∷ decimal_text 6 sink.cap ∷ []
+offset_are_words : (version : Version) (offset : ℕ) → AreWords (offset_words version offset)
+offset_are_words One offset = tt
+offset_are_words Two offset = (decimal_word 15 _, tt)
 
-pub sink_are_words : (sink : Sink) → AreWords (sink_words sink)
-sink_are_words sink = (decimal_word 0 _, (decimal_word 3 _, (decimal_word 3 _, (decimal_word 6 _, tt))))
+pub sink_are_words : (version : Version) (sink : Sink) → AreWords (sink_words version sink)
+sink_are_words version sink = (decimal_word 0 _, (decimal_word 3 _, (decimal_word 3 _, (decimal_word 6 _, offset_are_words version sink.offset))))
 
-pub sink_back : (sink : Sink) → sink.id ≤ 999999999 → IsWritten sink.x → IsWritten sink.y → sink.cap < 10 ^ 18
-    → sink_numbers (body_of (codes "sink") (sink_words sink)) ≡ Ok sink
-unfolding sink_numbers
-sink_back sink hi hx hy hc =
-    let id : min sink.id (2 ^ 32 - 1) ≡ sink.id = omega (arith, hi) in
-    let same : ◌≡◌ {A = Sink}
-    (record { id = min sink.id (2 ^ 32 - 1); x = pos (unsigned_abs sink.x); y = pos (unsigned_abs sink.y); cap = sink.cap }) sink =
-    rw (id, whole sink.x hx, whole sink.y hy) refl in
-    found _ _ _ _ (fields_back (codes "sink") (sink_words sink) 4 (literal (codes "sink") (omega arith) refl) (sink_are_words sink) refl refl)
-    (found _ _ _ _ (number_back 0 sink.id _ (omega (arith, hi)))
-    (found _ _ _ _ (number_back 3 (unsigned_abs sink.x) _ hx.less)
-    (found _ _ _ _ (number_back 3 (unsigned_abs sink.y) _ hy.less)
-    (found _ _ _ _ (number_back 6 sink.cap _ hc) (ap Ok same)))))
+module _ (sink : Sink) (hi : sink.id ≤ 999999999) (hx : IsWritten sink.x) (hy : IsWritten sink.y) (hc : sink.cap < 10 ^ 18) where
+  -- the sink that is read, but for its offset
+  read_back : (offset : ℕ) → offset ≡ sink.offset
+      → ◌≡◌ {A = Sink}
+      (record { id = min sink.id (2 ^ 32 - 1); x = pos (unsigned_abs sink.x); y = pos (unsigned_abs sink.y); cap = sink.cap; offset = offset }) sink
+  read_back offset same =
+      let id : min sink.id (2 ^ 32 - 1) ≡ sink.id = omega (arith, hi) in
+      rw (id, whole sink.x hx, whole sink.y hy, same) refl
+
+  pub sink_back : (version : Version) → sink.offset < 10 ^ 18 → (version ≡ One → sink.offset ≡ 0)
+      → sink_numbers version (body_of (codes "sink") (sink_words version sink)) ≡ Ok sink
+  unfolding sink_numbers offset_of
+  sink_back One ho none =
+      found _ _ _ _ (fields_back (codes "sink") (sink_words One sink) 4 (literal (codes "sink") (omega arith) refl) (sink_are_words One sink) refl refl)
+      (found _ _ _ _ (number_back 0 sink.id _ (omega (arith, hi)))
+      (found _ _ _ _ (number_back 3 (unsigned_abs sink.x) _ hx.less)
+      (found _ _ _ _ (number_back 3 (unsigned_abs sink.y) _ hy.less)
+      (found _ _ _ _ (number_back 6 sink.cap _ hc) (ap Ok (read_back 0 (sym (none refl))))))))
+  sink_back Two ho none =
+      found _ _ _ _ (fields_back (codes "sink") (sink_words Two sink) 5 (literal (codes "sink") (omega arith) refl) (sink_are_words Two sink) refl refl)
+      (found _ _ _ _ (number_back 0 sink.id _ (omega (arith, hi)))
+      (found _ _ _ _ (number_back 3 (unsigned_abs sink.x) _ hx.less)
+      (found _ _ _ _ (number_back 3 (unsigned_abs sink.y) _ hy.less)
+      (found _ _ _ _ (number_back 6 sink.cap _ hc)
+      (found _ _ _ _ (number_back 15 sink.offset _ ho) (ap Ok (read_back sink.offset refl)))))))
 
 kind_is_word : (k : Kind) → IsWord (kind_word k)
 kind_is_word kind.Buffer = literal (codes "buffer") (omega arith) refl

@@ -6,6 +6,7 @@ use Rattle.std.specs.List.{range_with_len}
 use Rattle.cts_units.specs.declared.params.Sink.{Sink}
 use Rattle.cts_block.specs.declared.blocks.Kind.TheVariants as kind
 use Rattle.cts_instance.specs.declared.parts.Parts.{Parts}
+use Rattle.cts_instance.specs.declared.version.Version.TheVariants.{One}
 
 -- the state that comes after a state
 unfoldable pub next_state : ℕ → ℕ
@@ -23,13 +24,14 @@ drawn limit state = state * limit / 2 ^ 31
 abbrev pub draw : ℕ → ℕ → ℕ → ℕ
 draw seed number limit = drawn limit (state_after seed (number + 1))
 
--- The sink of this number, from 0. It takes three draws: x, y, each up to 10 mm in nm, and 20 to 50 fF.
+-- The sink of this number, from 0. It takes three draws: x, y, each up to 10 mm in nm, and 20 to 50 fF. It wants no offset.
 abbrev pub made_sink : ℕ → ℕ → Sink
 made_sink seed number = record {
   id = number + 1;
   x = pos (draw seed (3 * number) 10000001);
   y = pos (draw seed (3 * number + 1) 10000001);
   cap = (20 + draw seed (3 * number + 2) 31) * 10 ^ 6;
+  offset = 0;
 }
 
 unfoldable pub made_sinks : ℕ → ℕ → List Sink
@@ -39,6 +41,7 @@ made_sinks seed count = map (made_sink seed) (range_with_len 0 count)
 -- middle a block of 2 mm by 2 mm that keeps out buffers alone.
 abbrev pub parts_with : List Sink → Parts
 parts_with sinks = record {
+  version = One;
   die = record { x1 = pos 0; y1 = pos 0; x2 = pos 10000000; y2 = pos 10000000 };
   source_x = pos 0;
   source_y = pos 0;

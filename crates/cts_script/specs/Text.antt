@@ -11,6 +11,8 @@ use Rattle.cts_block.specs.declared.blocks.Block.{Block}
 use Rattle.cts_block.specs.declared.blocks.Kind.{Kind}
 use Rattle.cts_block.specs.declared.blocks.Kind.TheVariants as kind
 use Rattle.cts_instance.specs.declared.parts.Parts.{Parts}
+use Rattle.cts_instance.specs.declared.version.Version.{Version}
+use Rattle.cts_instance.specs.declared.version.Version.TheVariants.{One, Two}
 
 -- a word after a space
 abbrev pub after_space : List ℕ → List ℕ
@@ -24,8 +26,12 @@ line_of key words = key ++ flat_map after_space words ++ codes "\n"
 abbrev pub coordinate : ℤ → List ℕ
 coordinate z = decimal_text 3 (unsigned_abs z)
 
-abbrev pub version_line : List ℕ
-version_line = line_of (codes "cts") (codes "1" ∷ [])
+abbrev pub version_word : Version → List ℕ
+version_word One = codes "1"
+version_word Two = codes "2"
+
+abbrev pub version_line : Version → List ℕ
+version_line version = line_of (codes "cts") (version_word version ∷ [])
 
 -- a line that says how many lines of a list follow
 abbrev pub count_line : List ℕ → ℕ → List ℕ
@@ -52,9 +58,17 @@ unfoldable pub buffer_line : Buffer → List ℕ
 buffer_line buffer =
     line_of (codes "buffer") (decimal_text 6 buffer.cin ∷ decimal_text 6 buffer.rout ∷ decimal_text 15 buffer.intrinsic ∷ [])
 
-unfoldable pub sink_line : Sink → List ℕ
-sink_line sink =
-    line_of (codes "sink") (decimal_text 0 sink.id ∷ coordinate sink.x ∷ coordinate sink.y ∷ decimal_text 6 sink.cap ∷ [])
+-- the offset of a sink, in 10^-27 s as ps, which version 2 alone spells
+abbrev pub offset_words : Version → ℕ → List (List ℕ)
+offset_words One offset = []
+offset_words Two offset = decimal_text 15 offset ∷ []
+
+abbrev pub sink_words : Version → Sink → List (List ℕ)
+sink_words version sink =
+    decimal_text 0 sink.id ∷ coordinate sink.x ∷ coordinate sink.y ∷ decimal_text 6 sink.cap ∷ offset_words version sink.offset
+
+unfoldable pub sink_line : Version → Sink → List ℕ
+sink_line version sink = line_of (codes "sink") (sink_words version sink)
 
 abbrev pub kind_word : Kind → List ℕ
 kind_word kind.Buffer = codes "buffer"
@@ -75,7 +89,7 @@ list_lines key line items = count_line key (length items) ∷ map line items
 -- the lines before the lists
 unfoldable pub head_lines : Parts → List (List ℕ)
 head_lines parts =
-    version_line
+    version_line parts.version
     ∷ die_line parts.die
     ∷ source_line parts.source_x parts.source_y parts.source_r
     ∷ wire_line parts.params.wire
@@ -86,7 +100,7 @@ unfoldable pub instance_lines : Parts → List (List ℕ)
 instance_lines parts =
     head_lines parts
     ++ list_lines (codes "buffers") buffer_line parts.params.library
-    ++ list_lines (codes "sinks") sink_line parts.sinks
+    ++ list_lines (codes "sinks") (sink_line parts.version) parts.sinks
     ++ list_lines (codes "blocks") block_line parts.blocks
     ++ end_line ∷ []
 

@@ -6,7 +6,7 @@ ghost use Rattle.cts_script.specs.Generator.{made_parts, made_sink, made_sinks, 
 use crate::generator::Generator;
 use cts_block::{Block, Kind};
 use cts_geom::Die;
-use cts_instance::{Blocks, Instance, Parts, Sinks};
+use cts_instance::{Blocks, Instance, Parts, Sinks, Version};
 use cts_num::NoMemory;
 use cts_units::{Buffer, Library, Params, Sink, Wire};
 use std::alloc::Global;
@@ -62,6 +62,7 @@ fn make_sink(generator: &mut Generator, number: u32) -> Sink
         x: x as i64,
         y: y as i64,
         cap: capacitance * FEMTOFARAD,
+        offset: 0,
     }
 }
 
@@ -91,6 +92,7 @@ fn parts_with(alloc: Global, sinks: Sinks) -> Result<Parts, NoMemory>
         },
     ]?;
     Ok(Parts {
+        version: Version::One,
         die: Die {
             x1: 0,
             y1: 0,

@@ -1,14 +1,14 @@
 //! Instances written to a sink.
 
 ghost use Rattle.std.specs.Prelude.{ℕ, ◌++◌, map, codes};
-ghost use Rattle.std.specs.List.{concat};
+ghost use Rattle.std.specs.List.{concat, flat_map};
 ghost use Rattle.cts_io.specs.Text.{Puts, Writes};
-ghost use Rattle.cts_script.specs.Text.{after_space, block_line, buffer_line, count_line, die_line, end_line, head_lines, instance_text, kind_word, limits_line, list_lines, sink_line, source_line, version_line, wire_line};
+ghost use Rattle.cts_script.specs.Text.{after_space, block_line, buffer_line, count_line, die_line, end_line, head_lines, instance_text, kind_word, limits_line, list_lines, offset_words, sink_line, source_line, version_line, version_word, wire_line};
 
 use crate::words::{put_coordinate, put_number, put_word};
 use cts_block::{Block, Kind};
 use cts_geom::Die;
-use cts_instance::Instance;
+use cts_instance::{Instance, Version};
 use cts_io::{ByteSink, SinkBuffer, WriteEnd};
 use cts_units::{Buffer, Sink, Wire};
 
@@ -24,7 +24,7 @@ pub fn write_instance<K: ByteSink>(sink: &mut K, instance: &Instance) -> Result<
     let mut out = SinkBuffer::new();
     put_head(&mut out, sink, instance);
     put_buffers(&mut out, sink, instance.params().library.items());
-    put_sinks(&mut out, sink, instance.sinks());
+    put_sinks(&mut out, sink, instance.version(), instance.sinks());
     put_blocks(&mut out, sink, instance.blocks());
     out.put(sink, b"end\n");
     out.finish(sink)
@@ -34,7 +34,7 @@ pub fn write_instance<K: ByteSink>(sink: &mut K, instance: &Instance) -> Result<
 fn put_head<K: ByteSink>(out: &mut SinkBuffer, sink: &mut K, instance: &Instance)
     ensures { Puts K.held K.faults sink.old out.old sink.new out.new (concat (head_lines instance.now)) }
 {
-    out.put(sink, b"cts 1\n");
+    put_version(out, sink, instance.version());
     put_die(out, sink, instance.die());
     put_source(
         out,
@@ -51,6 +51,23 @@ fn put_head<K: ByteSink>(out: &mut SinkBuffer, sink: &mut K, instance: &Instance
         instance.load_limit(),
         instance.slew_limit(),
     );
+}
+
+fn put_version<K: ByteSink>(out: &mut SinkBuffer, sink: &mut K, version: Version)
+    ensures { Puts K.held K.faults sink.old out.old sink.new out.new (version_line version) }
+{
+    out.put(sink, b"cts");
+    put_version_word(out, sink, version);
+    out.put(sink, b"\n");
+}
+
+fn put_version_word<K: ByteSink>(out: &mut SinkBuffer, sink: &mut K, version: Version)
+    ensures { Puts K.held K.faults sink.old out.old sink.new out.new (after_space (version_word version)) }
+{
+    match version {
+        Version::One => put_word(out, sink, b"1"),
+        Version::Two => put_word(out, sink, b"2"),
+    }
 }
 
 fn put_die<K: ByteSink>(out: &mut SinkBuffer, sink: &mut K, die: Die)
@@ -122,25 +139,37 @@ fn put_buffer<K: ByteSink>(out: &mut SinkBuffer, sink: &mut K, buffer: &Buffer)
     out.put(sink, b"\n");
 }
 
-fn put_sinks<K: ByteSink>(out: &mut SinkBuffer, sink: &mut K, sinks: &[Sink])
+fn put_sinks<K: ByteSink>(out: &mut SinkBuffer, sink: &mut K, version: Version, sinks: &[Sink])
     ensures { Puts K.held K.faults sink.old out.old sink.new out.new
-        (concat (list_lines (codes "sinks") sink_line sinks.now)) }
+        (concat (list_lines (codes "sinks") (sink_line version) sinks.now)) }
 {
     put_count(out, sink, b"sinks", sinks.len());
     for item in sinks {
-        put_sink(out, sink, item);
+        put_sink(out, sink, version, item);
     }
 }
 
-fn put_sink<K: ByteSink>(out: &mut SinkBuffer, sink: &mut K, item: &Sink)
-    ensures { Puts K.held K.faults sink.old out.old sink.new out.new (sink_line item.now) }
+fn put_sink<K: ByteSink>(out: &mut SinkBuffer, sink: &mut K, version: Version, item: &Sink)
+    ensures { Puts K.held K.faults sink.old out.old sink.new out.new (sink_line version item.now) }
 {
     out.put(sink, b"sink");
     put_number(out, sink, 0, u64::from(item.id));
     put_coordinate(out, sink, item.x);
     put_coordinate(out, sink, item.y);
     put_number(out, sink, 6, item.cap);
+    put_offset(out, sink, version, item.offset);
     out.put(sink, b"\n");
+}
+
+/// The offset of a sink, which version 2 alone spells.
+fn put_offset<K: ByteSink>(out: &mut SinkBuffer, sink: &mut K, version: Version, offset: u64)
+    ensures { Puts K.held K.faults sink.old out.old sink.new out.new
+        (flat_map after_space (offset_words version offset)) }
+{
+    match version {
+        Version::One => {}
+        Version::Two => put_number(out, sink, 15, offset),
+    }
 }
 
 fn put_blocks<K: ByteSink>(out: &mut SinkBuffer, sink: &mut K, blocks: &[Block])

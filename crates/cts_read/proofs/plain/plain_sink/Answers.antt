@@ -16,8 +16,9 @@ returns c =
     let x = c.in_ok-x in
     let y = c.in_ok-y in
     let cap = c.in_ok-cap in
-    let ended : eqb (length cap.rest.now) 0 ≡ true = sym c.is_empty.ensures ∙ c.if-not-is_empty.false in
-    let none : length cap.rest.now ≡ 0 = elim (eqb_tells (length cap.rest.now) 0) [ inl p ↦ p.1 | inr p ↦ cc ] in
+    let offset = c.in_ok-offset in
+    let ended : eqb (length offset.rest.now) 0 ≡ true = sym c.is_empty.ensures ∙ c.if-not-is_empty.false in
+    let none : length offset.rest.now ≡ 0 = elim (eqb_tells (length offset.rest.now) 0) [ inl p ↦ p.1 | inr p ↦ cc ] in
     rw (c.min.ensures, c.from.ensures, to_z_pos w64 x.x (omega (arith, x.ensures.bound)), to_z_pos w64 y.y (omega (arith, y.ensures.bound)))
     (plain_line c.args.line.now c.in_ok-rest.rest.now id.rest.now x.rest.now y.rest.now cap.rest.now id.id x.x y.y cap.cap c.in_ok-rest.ensures
-    id.ensures.plain x.ensures.plain y.ensures.plain cap.ensures.plain none)
+    id.ensures.plain x.ensures.plain y.ensures.plain cap.ensures.plain c.args.version offset.offset offset.rest.now offset.ensures none)

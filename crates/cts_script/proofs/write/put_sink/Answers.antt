@@ -1,7 +1,7 @@
 use Rattle.std.proofs.Common.{rules, w64}
 use Rattle.std.specs.Prelude.{FitsSigned}
 use Rattle.std.proofs.lemmas.Int.{to_z-of_z}
-use Rattle.cts_io.proofs.Chains.{◌▸◌, puts_nothing}
+use Rattle.cts_io.proofs.Chains.{◌▸◌}
 use Rattle.cts_script.specs.Text.{sink_line, line_of}
 use Rattle.cts_script.proofs.write.put_sink.Goals as goal
 
@@ -10,5 +10,5 @@ unfolding sink_line line_of
 returns g c =
     let x : FitsSigned w64 c.args.item.now.x = search rules in
     let y : FitsSigned w64 c.args.item.now.y = search rules in
-    let line = c.put.ensures ▸ (c.put_number.ensures ▸ (c.put_coordinate.ensures ▸ (c.put_coordinate-2.ensures ▸ (c.put_number-2.ensures ▸ puts_nothing _ _ _ _)))) ▸ c.put-2.ensures in
+    let line = c.put.ensures ▸ (c.put_number.ensures ▸ (c.put_coordinate.ensures ▸ (c.put_coordinate-2.ensures ▸ (c.put_number-2.ensures ▸ c.put_offset.ensures)))) ▸ c.put-2.ensures in
     simp (to_z-of_z, c.from.ensures) at line
