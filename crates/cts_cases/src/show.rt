@@ -1,6 +1,6 @@
 //! What a case gives, printed.
 
-use cts_instance::Instance;
+use cts_instance::{Instance, Version};
 use cts_read::read_instance;
 use std::{io, str};
 
@@ -55,7 +55,11 @@ fn instance<R: Print>(rt: &R, instance: &Instance) -> io::Result<()> {
 
 fn sinks<R: Print>(rt: &R, instance: &Instance) -> io::Result<()> {
     for sink in instance.sinks() {
-        println!(rt; "sink {} {} {} {}", sink.id, sink.x, sink.y, sink.cap)?;
+        print!(rt; "sink {} {} {} {}", sink.id, sink.x, sink.y, sink.cap)?;
+        match instance.version() {
+            Version::One => println!(rt; "")?,
+            Version::Two => println!(rt; " {}", sink.offset)?,
+        }
     }
     Ok(())
 }

@@ -19,7 +19,7 @@ use Rattle.cts_check.specs.Verdict.{IsRight}
 use Rattle.cts_check.proofs.Accepted.{Stands, accepted}
 
 pub right_report : (i : Parts) (tree : List TreeNode) (figures : Figures) → IsValid i → IsSynthesis i (made tree) → AreFigures i tree figures
-    → AreFiguresInRange figures → IsRight i (report_text tree figures)
+    → AreFiguresInRange figures → IsRight i (report_text i.version tree figures)
 right_report i tree figures valid is are range =
     let shape : List ShapeNode = shape_of i.sinks in
     let over : IsShapeOver (length i.sinks) shape = shape_over i valid in
@@ -30,6 +30,6 @@ right_report i tree figures valid is are range =
 -- the same of the answer of a synthesis
 pub right_made : (i : Parts) → IsValid i → (result : Result (List TreeNode × Figures) NoTree)
     → IfOk result (λ r. IsSynthesis i (made r.0)) → IfOk result (λ r. AreFigures i r.0 r.1) → IfOk result (λ r. AreFiguresInRange r.1)
-    → IfOk result (λ r. IsRight i (report_text r.0 r.1))
+    → IfOk result (λ r. IsRight i (report_text i.version r.0 r.1))
 right_made i valid (Ok r) is are range = right_report i r.0 r.1 valid is are range
 right_made i valid (Err end) is are range = tt

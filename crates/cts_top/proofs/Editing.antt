@@ -63,7 +63,7 @@ told_memory (Err stop.WriteFault) t e = cc
 some_text : (i : Parts) → IsValid i → (result : Made) → IsSynthesised i result → IfErr result (λ why. why ≢ end.NoMemory)
     → (kind : Answer) × (text : List ℕ) × TellsSynthesis report_text i kind text
 some_text i valid (Ok (tree, figures)) s told =
-    (answer.Text, report_text tree figures, tree_told report_text i tree figures valid s.tree s.figures s.sound s.right)
+    (answer.Text, report_text i.version tree figures, tree_told report_text i tree figures valid s.tree s.figures s.sound s.right)
 some_text i valid (Err (end.Beyond n)) s told = (answer.NoTree, no_tree_text (codes "beyond") n, beyond_told report_text i n valid s.ends)
 some_text i valid (Err (end.Cut n)) s told = (answer.NoTree, no_tree_text (codes "cut") n, cut_told report_text i n valid s.ends)
 some_text i valid (Err end.NoMemory) s told = absurd (told refl)

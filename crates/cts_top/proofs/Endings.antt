@@ -7,7 +7,7 @@ use Rattle.cts_io.specs.declared.write.WriteEnd.{WriteEnd}
 use Rattle.cts_read.specs.Grammar.{Refusal}
 use Rattle.cts_read.specs.declared.stop.Cause.{Cause}
 use Rattle.cts_instance.specs.declared.parts.Parts.{Parts}
-use Rattle.cts_report.specs.Report.{report_text, summary_text}
+use Rattle.cts_report.specs.Report.{report_text}
 use Rattle.cts_script.specs.declared.script.ScriptStep.{ScriptStep}
 use Rattle.cts_script.specs.Generator.{made_parts}
 use Rattle.cts_plain.specs.Synthesis.{Synthesis, IsSynthesis}
@@ -29,7 +29,7 @@ use Rattle.cts_notes.specs.Notes.{refusal_note, too_long_note}
 use Rattle.cts_top.specs.Notes.{note_of, stop_note}
 use Rattle.cts_top.specs.Outcome.{IsNote, IsRefusalNote, NamesRefusal, status_of}
 use Rattle.cts_top.specs.Right.{Explains, ExplainsBy, IsRight, IsRightKind, OfInput, RefusesInput}
-use Rattle.cts_top.specs.Text.{TellsSynthesis, TreeText, answer_of}
+use Rattle.cts_top.specs.Text.{TellsSynthesis, TreeText, answer_of, summary_in}
 use Rattle.cts_top.specs.Written.{IsAnswered, IsAnsweredInPart}
 use Rattle.cts_plain.proofs.Valid.{synthesis_same}
 
@@ -113,7 +113,7 @@ one_kind log Edit bytes kind other text (i, scripts, spells, tells) (j, others, 
     ap (λ a. status_of (Ok a)) (same_kind report_text (version_of i log.history) kind tells.told.report s tells.told.tells there ∙ sym kind_is)
 one_kind log (Make seed sinks) bytes kind other text right k = ap (λ a. status_of (Ok a)) (right.0 ∙ sym k)
 one_kind log (Job seed sinks workers) bytes kind other text right k =
-    ap (λ a. status_of (Ok a)) (same_kind summary_text (made_parts seed sinks) kind text k.0 right k.1 ∙ sym k.2)
+    ap (λ a. status_of (Ok a)) (same_kind summary_in (made_parts seed sinks) kind text k.0 right k.1 ∙ sym k.2)
 
 -- a stop for its input has no right text
 none_too_long : (log : Log) (form : Form) (bytes : List ℕ) (kind : Answer) → Explains form stop.TooLong bytes → IsRightKind log form bytes kind → ⊥

@@ -35,6 +35,7 @@ printable die ok tree figures long in_range stands = record {
       (λ figure r. record {
         residue = omega (arith, r.residue_within);
         delay = omega (arith, r.delay_within);
+        arrival = omega (arith, r.arrival_within);
         stage = omega (arith, r.stage_within);
       }) figures.nodes in_range.each_in_range;
   totals = record {
@@ -42,6 +43,10 @@ printable die ok tree figures long in_range stands = record {
     least = omega (arith, in_range.least_within);
     skew = omega (arith, in_range.skew_within);
     bound = omega (arith, in_range.bound_within);
+  };
+  arrivals = record {
+    greatest = omega (arith, in_range.arrival_greatest_within);
+    least = omega (arith, in_range.arrival_least_within);
   };
 }
 

@@ -1,6 +1,7 @@
 -- How a run ends that has its input, by what it then wrote.
-use Rattle.std.proofs.Common.{◌≡◌, ◌≢◌, ◌≤◌, ℕ, List, [], Option, None, Some, IfSome, Result, Ok, Err, IsErrOf, refl, subst}
+use Rattle.std.proofs.Common.{◌≡◌, ◌≢◌, ◌≤◌, ℕ, List, [], Option, None, Some, IfSome, Result, Ok, Err, IsErrOf, refl, ap, subst}
 use Rattle.std.specs.Io.KnownBytes.{IsAtEnd}
+use Rattle.cts_io.specs.Faults.{Rose}
 use Rattle.cts_instance.specs.declared.parts.Parts.{Parts}
 use Rattle.cts_read.specs.Grammar.{Refusal}
 use Rattle.cts_report.specs.Report.{report_text}
@@ -106,6 +107,27 @@ serves_synth left reads held writes source source' sink sink' (Err end) workers 
       source_counted = counted;
       sink_counted = a.counted;
     }
+
+-- what doesn't stop a reading doesn't stop the run that ends with it
+pub not_stopped : (T : Type 0) (end other : Stop) → (IsErrOf {T = T} (Err end) other → ⊥) → IsErrOf {T = Answer} (Err end) other → ⊥
+not_stopped T end other not e = let same : end ≡ other = cc in not (ap Err same)
+
+-- a run that has read no instance
+pub stops_synth : {S K : Type 0} (left : S → Option (List ℕ)) (reads : S → ℕ) (held : K → Option (List ℕ)) (writes : K → ℕ)
+    (source source' : S) (sink : K) (end : Stop) (workers : ℕ) → IfSome (left source) (ExplainsBy input_of end)
+    → (IsErrOf {T = Parts} (Err end) stop.ReadFault → Rose (reads source) (reads source'))
+    → (IsErrOf {T = Parts} (Err end) stop.WriteFault → ⊥) → reads source ≤ reads source' → writes sink ≤ writes sink
+    → Serves left reads held writes no_log (Synth workers) source source' sink sink (Err end)
+stops_synth left reads held writes source source' sink end workers explained rose not_written counted same = record {
+  done = tt;
+  write_fault = λ e. absurd (not_stopped Parts end stop.WriteFault not_written e);
+  read_fault = λ e. let stopped : end ≡ stop.ReadFault = cc in (tt, rose (ap Err stopped));
+  explained = explained;
+  kept = λ n. refl;
+  others = tt;
+  source_counted = counted;
+  sink_counted = same;
+}
 
 -- a run that has read an instance and a report
 pub serves_check : {S K : Type 0} (left : S → Option (List ℕ)) (reads : S → ℕ) (held : K → Option (List ℕ)) (writes : K → ℕ)

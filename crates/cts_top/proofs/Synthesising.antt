@@ -70,7 +70,7 @@ no_plan i end p = record { tree = tt; figures = tt; sound = tt; printable = tt; 
 
 -- the text for a tree that is known
 pub tree_of : (tell : TreeText) (i : Parts) (result : Made) (tree : List TreeNode) (figures : Figures) → IsValid i → result ≡ Ok (tree, figures)
-    → IsSynthesised i result → TellsSynthesis tell i answer.Text (tell tree figures)
+    → IsSynthesised i result → TellsSynthesis tell i answer.Text (tell i.version tree figures)
 tree_of tell i result tree figures valid e is =
     let s : IsSynthesised i (Ok (tree, figures)) = subst (IsSynthesised i) e is in
     tree_told tell i tree figures valid s.tree s.figures s.sound s.right

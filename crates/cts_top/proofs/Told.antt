@@ -18,8 +18,8 @@ skew_bounded : (i : Parts) (tree : List TreeNode) (figures : Figures) → AreFig
 skew_bounded i tree figures f = rw (f.figures_of.skew_is, f.figures_of.bound_is) (skew_within i f.root)
 
 pub tree_told : (tell : TreeText) (i : Parts) (tree : List TreeNode) (figures : Figures) → IsValid i → IsSynthesis i (made tree)
-    → AreFigures i tree figures → IsSound i tree → IsRight i (report_text tree figures)
-    → TellsSynthesis tell i answer.Text (tell tree figures)
+    → AreFigures i tree figures → IsSound i tree → IsRight i (report_text i.version tree figures)
+    → TellsSynthesis tell i answer.Text (tell i.version tree figures)
 tree_told tell i tree figures valid is f sound right = record {
   valid = valid;
   synthesis = made tree;

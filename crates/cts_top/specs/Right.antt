@@ -3,7 +3,7 @@ use Rattle.std.specs.Prelude.{◌≡◌, ℕ, ◌<◌, ◌≤◌, List, [], leng
 use Rattle.std.specs.Io.KnownBytes.{IsAtEnd}
 use Rattle.cts_instance.specs.declared.parts.Parts.{Parts}
 use Rattle.cts_read.specs.Grammar.{Refusal}
-use Rattle.cts_report.specs.Report.{report_text, summary_text}
+use Rattle.cts_report.specs.Report.{report_text}
 use Rattle.cts_script.specs.declared.script.ScriptStep.{ScriptStep}
 use Rattle.cts_script.specs.Generator.{made_parts}
 use Rattle.cts_script.specs.Text.{instance_text}
@@ -21,7 +21,7 @@ use Rattle.cts_top.specs.declared.words.Form.TheVariants.{Synth, Check, Edit, Ma
 use Rattle.cts_notes.specs.Front.{SpellsFront, front_of, input_limit}
 use Rattle.cts_top.specs.Input.{AreScriptsRefused, IsFrontRefused, IsRefused, Spells, SpellsScripts, input_of, scripted_of}
 use Rattle.cts_top.specs.Log.{Log}
-use Rattle.cts_top.specs.Text.{TellsEdits, TellsSynthesis, answer_of}
+use Rattle.cts_top.specs.Text.{TellsEdits, TellsSynthesis, answer_of, summary_in}
 use Rattle.cts_top.specs.Verdict.{TellsVerdict, answer_of_verdict}
 
 -- The callers of these scripts, at an instance, have this legal log, and this is the text for their edits.
@@ -39,7 +39,7 @@ IsRight log Check bytes kind text = (i : Parts) × (report : List ℕ) × Spells
 IsRight log Edit bytes kind text =
     (i : Parts) × (scripts : List (List ScriptStep)) × SpellsScripts bytes i scripts × TellsCallers i scripts log kind text
 IsRight log (Make seed sinks) bytes kind text = (kind ≡ answer.Text) × (text ≡ instance_text (made_parts seed sinks))
-IsRight log (Job seed sinks workers) bytes kind text = TellsSynthesis summary_text (made_parts seed sinks) kind text
+IsRight log (Job seed sinks workers) bytes kind text = TellsSynthesis summary_in (made_parts seed sinks) kind text
 
 -- the kind of the right text, told without the text
 abbrev pub IsRightKind : Log → Form → List ℕ → Answer → Type 0

@@ -1,6 +1,7 @@
 -- The text for a synthesis: the report of its tree, or one line where it has none. For edits their history stands before it.
 use Rattle.std.specs.Prelude.{◌≡◌, ◌≤◌, ℕ, List, ◌++◌, codes}
 use Rattle.cts_instance.specs.declared.parts.Parts.{Parts}
+use Rattle.cts_instance.specs.declared.version.Version.{Version}
 use Rattle.cts_instance.specs.Validity.{IsValid}
 use Rattle.cts_tree.specs.declared.nodes.TreeNode.{TreeNode}
 use Rattle.cts_elmore.specs.declared.figures.Figures.{Figures}
@@ -18,14 +19,18 @@ use Rattle.cts_history.specs.History.{history_text}
 use Rattle.cts_top.specs.Log.{Log}
 use Rattle.cts_notes.specs.Notes.{numbered}
 
--- a text of a tree with its figures
+-- a text of a tree with its figures, of an instance of some version
 abbrev pub TreeText : Type 0
-TreeText = List TreeNode → Figures → List ℕ
+TreeText = Version → List TreeNode → Figures → List ℕ
+
+-- a summary is the same in each version
+abbrev pub summary_in : TreeText
+summary_in version tree figures = summary_text tree figures
 
 -- the text by which a tree is told
 abbrev pub told_by : Telling → TreeText
 told_by telling.Report = report_text
-told_by telling.Summary = summary_text
+told_by telling.Summary = summary_in
 
 -- A tree of an instance is told: it is sound, each figure is that of its definition, the skew is at most the bound, and the
 -- verdict on its report is Yes.
@@ -34,8 +39,8 @@ pub record TellsTree (tell : TreeText) (i : Parts) (tree : List TreeNode) (text 
   pub figures : Figures
   pub are_figures : AreFigures i tree figures
   pub skew_within : figures.skew ≤ figures.bound
-  pub accepted : IsVerdict i (report_text tree figures) Yes
-  pub told : text ≡ tell tree figures
+  pub accepted : IsVerdict i (report_text i.version tree figures) Yes
+  pub told : text ≡ tell i.version tree figures
 
 -- the line that says at which node there is no tree
 unfoldable pub no_tree_text : List ℕ → ℕ → List ℕ

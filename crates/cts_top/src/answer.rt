@@ -99,7 +99,7 @@ fn write_tree<K: ByteSink>(
     figures: &Figures,
 ) -> Result<(), WriteEnd>
     requires { IsPrintable tree.now figures.now }
-    ensures { Writes K.held K.faults sink.old sink.new (told_by telling tree.now figures.now) result }
+    ensures { Writes K.held K.faults sink.old sink.new (told_by telling instance.now.version tree.now figures.now) result }
 {
     match telling {
         Telling::Report => write_report(sink, instance, tree, figures),

@@ -1,5 +1,7 @@
 //! Room for the lists of a form.
 
+ghost use Rattle.std.specs.Prelude.{◌≡◌, [], IfOk};
+
 use std::alloc::{AllocError, Global};
 
 /// More than the figures of the greatest tree, which come last, and less than its nodes, which then get pages of
@@ -18,7 +20,9 @@ const FIRST: usize = 65_536;
 ///
 /// Answers the first piece of that heap. Short lists take its place once it goes, and then don't lie between
 /// long ones.
-pub fn open_heap(alloc: Global, room: usize) -> Result<Vec<u8>, AllocError> {
+pub fn open_heap(alloc: Global, room: usize) -> Result<Vec<u8>, AllocError>
+    ensures { IfOk result (λ first. first.items ≡ []) }
+{
     let first = Vec::with_capacity(alloc, FIRST);
     let _asked: Result<Vec<u8>, AllocError> = Vec::with_capacity(alloc, room);
     first

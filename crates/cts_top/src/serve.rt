@@ -6,12 +6,11 @@ ghost use Rattle.cts_io.specs.Faults.{Rose};
 ghost use Rattle.cts_notes.specs.Front.{SpellsFront, front_of};
 ghost use Rattle.cts_top.specs.Input.{Spells, input_of};
 ghost use Rattle.cts_top.specs.Log.{log_of, no_log};
-ghost use Rattle.cts_report.specs.Report.{summary_text};
 ghost use Rattle.cts_script.specs.Generator.{made_parts};
 ghost use Rattle.cts_top.specs.Memos.{HasMemo, HoldsMemo, IsMemoOf, TellsOfTree};
 ghost use Rattle.cts_top.specs.Outcome.{Serves, status_of};
 ghost use Rattle.cts_top.specs.Right.{ExplainsBy, IsRight};
-ghost use Rattle.cts_top.specs.Text.{TellsSynthesis};
+ghost use Rattle.cts_top.specs.Text.{TellsSynthesis, summary_in};
 ghost use Rattle.cts_top.specs.Words.{IsAlone, IsWithinLimits};
 ghost use Rattle.cts_top.specs.Written.{Answers};
 
@@ -149,7 +148,7 @@ fn serve_job<K: ByteSink>(
     requires seed { seed < 2 ^ 31 }
     requires some { 1 ≤ sinks }
     requires sinks { sinks ≤ 65536 }
-    ensures { Answers (TellsSynthesis summary_text (made_parts seed sinks)) K.held K.faults sink.old sink.new result }
+    ensures { Answers (TellsSynthesis summary_in (made_parts seed sinks)) K.held K.faults sink.old sink.new result }
 {
     let first = open_heap(alloc, TREE_ROOM);
     let instance = make_instance(alloc, seed, sinks)?;
@@ -255,7 +254,7 @@ fn job_by_workers<R: Threads + Wait + Sync, K: ByteSink, G: Gate>(
     requires sinks { sinks ≤ 65536 }
     requires some_worker { 1 ≤ workers }
     requires few { workers ≤ 64 }
-    ensures answers { Answers (TellsSynthesis summary_text (made_parts seed sinks)) K.held K.faults sink.old sink.new result.0 }
+    ensures answers { Answers (TellsSynthesis summary_in (made_parts seed sinks)) K.held K.faults sink.old sink.new result.0 }
     ensures kept { IsSome result.1 ↔ TellsOfTree (status_of result.0) }
     ensures memo { IfSome result.1 (IsMemoOf (made_parts seed sinks)) }
 {

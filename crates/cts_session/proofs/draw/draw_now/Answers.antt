@@ -1,7 +1,11 @@
-use Rattle.std.proofs.Common.{subst}
+use Rattle.std.proofs.Common.{◌+◌, ◌≤◌, subst}
+use Rattle.cts_instance.specs.declared.parts.Parts.{Parts}
+use Rattle.cts_topo.specs.Topology.{shape_of}
+use Rattle.cts_turn.specs.Passes.{seen_by}
+use Rattle.cts_memo.specs.Numbers.{missing}
 use Rattle.cts_session.specs.Desks.{base_of}
 use Rattle.cts_session.specs.Draws.{KnowsTree}
-use Rattle.cts_session.proofs.Draws.{is_drawn}
+use Rattle.cts_session.proofs.Draws.{ends_draw, is_drawn, known_at_end}
 use Rattle.cts_session.proofs.draw.draw_now.Goals as goal
 
 pub returns-in-Ok-clause-drawn : goal.returns-in-Ok-clause-drawn
@@ -14,3 +18,25 @@ returns-in-Ok-clause-drawn g c =
 pub returns-in-Ok-clause-remembered : goal.returns-in-Ok-clause-remembered
 returns-in-Ok-clause-remembered g c =
     subst (λ i. KnowsTree i c.draw.new.pass.seat.me.0.seen) c.in_ok-version.ensures.instance c.in-Ok.ensures.known
+
+pub returns-in-Ok-clause-merges : goal.returns-in-Ok-clause-merges
+returns-in-Ok-clause-merges g c =
+    subst (λ (i : Parts). c.draw.new.steps ≤ c.args.steps.now + missing (seen_by c.args.hands.now.memo) i.sinks (shape_of i.sinks))
+    c.in_ok-version.ensures.instance c.draw.ensures.merges
+
+pub returns-clause-ends : goal.returns-clause-ends
+returns-clause-ends g c =
+    rw c.end_at.ensures
+    (ends_draw (base_of c.args.desk.now) c.instance_now.new.pass.seat.me.0.seen c.in_ok-version.version c.in_ok-version.instance
+    c.in-Err.why c.in_ok-version.ensures.version c.in_ok-version.ensures.instance c.in-Err.ensures.ends)
+
+pub returns-clause-remembered_until : goal.returns-clause-remembered_until
+returns-clause-remembered_until g c =
+    rw c.end_at.ensures
+    (known_at_end c.in_ok-version.instance _ c.draw.new.pass.seat.me.0.seen c.in_ok-version.version c.in-Err.why
+    c.in_ok-version.ensures.instance c.in-Err.ensures.known_until)
+
+pub returns-clause-merges : goal.returns-clause-merges
+returns-clause-merges g c =
+    subst (λ (i : Parts). c.draw.new.steps ≤ c.args.steps.now + missing (seen_by c.args.hands.now.memo) i.sinks (shape_of i.sinks))
+    c.in_ok-version.ensures.instance c.draw.ensures.merges

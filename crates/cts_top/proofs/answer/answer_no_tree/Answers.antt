@@ -1,7 +1,8 @@
-use Rattle.std.proofs.Common.{codes, subst}
+use Rattle.std.proofs.Common.{codes, refl, subst, arith}
 use Rattle.cts_plain.specs.Ends.{Ends}
 use Rattle.cts_top.specs.declared.stop.Answer.TheVariants as answer
 use Rattle.cts_top.specs.Text.{TellsSynthesis, no_tree_text}
+use Rattle.cts_top.proofs.Remembering.{tells_ended}
 use Rattle.cts_top.proofs.Told.{beyond_told, cut_told}
 use Rattle.cts_top.proofs.Writing.{answers_by}
 use Rattle.cts_top.proofs.answer.answer_no_tree.Goals as goal
@@ -23,3 +24,16 @@ returns-in-Cut-clause-answers g c = λ tell.
     (cut_told tell c.args.instance.now c.in-Cut.node c.die-die.ensures.valid
     (subst (Ends c.args.instance.now) c.in-Cut.is c.requires))
     c.write_no_tree-in-Cut.ensures)
+
+pub returns-in-Beyond-clause-told : goal.returns-in-Beyond-clause-told
+returns-in-Beyond-clause-told g c = rw (c.in-Beyond.is, c.ended.ensures) (tells_ended c.write_no_tree.result answer.NoTree tt)
+
+pub returns-in-Cut-clause-told : goal.returns-in-Cut-clause-told
+returns-in-Cut-clause-told g c = rw (c.in-Cut.is, c.ended-in-Cut.ensures) (tells_ended c.write_no_tree-in-Cut.result answer.NoTree tt)
+
+pub returns-in-NoMemory-clause-answers : goal.returns-in-NoMemory-clause-answers
+returns-in-NoMemory-clause-answers g c = λ tell.
+    record { done = tt; in_part = λ e. cc; rose = λ e. cc; kept = λ n. (refl, refl); counted = omega arith }
+
+pub returns-in-NoMemory-clause-told : goal.returns-in-NoMemory-clause-told
+returns-in-NoMemory-clause-told g c = rw c.in-NoMemory.is (λ told. told)

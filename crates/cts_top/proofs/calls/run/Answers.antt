@@ -15,3 +15,7 @@ returns-clause-memo_kept g c =
 pub returns-clause-log : goal.returns-clause-log
 returns-clause-log g c =
     rw (c.outcome.ensures.status, c.outcome.ensures.history, c.outcome.ensures.replies, c.status_of.ensures) c.answer-ending.ensures.log
+
+pub returns-clause-memo : goal.returns-clause-memo
+returns-clause-memo g c =
+    rw (c.outcome.ensures.memo, c.outcome.ensures.history, c.outcome.ensures.replies) c.answer-ending.ensures.memo

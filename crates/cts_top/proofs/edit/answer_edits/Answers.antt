@@ -7,6 +7,9 @@ use Rattle.cts_top.specs.Text.{TellsEdits, TellsSynthesis}
 use Rattle.cts_top.proofs.Editing.{cut_front, edits_told, some_edits, tells_end, then_answered}
 use Rattle.cts_top.proofs.edit.answer_edits.Goals as goal
 
+pub write_history-requires : goal.write_history-requires
+write_history-requires g c = c.requires.printable
+
 pub returns-in_err-write_history-clause-answers : goal.returns-in_err-write_history-clause-answers
 returns-in_err-write_history-clause-answers g c =
     let p = err_from_is_err_and c.from_residual.result c.from_residual.ensures.1 in

@@ -7,6 +7,11 @@ use Rattle.cts_top.specs.Synthesised.{IsSynthesised}
 use Rattle.cts_top.proofs.Editing.{last_memo, last_synthesised}
 use Rattle.cts_top.proofs.edit.run_scripts.Goals as goal
 
+pub with_sinks-requires : goal.with_sinks-requires
+with_sinks-requires g c =
+    let run = c.in_ok-instance.ensures in
+    subst (λ i. IsValid (with_sinks i c.in_ok-instance.field-0.sinks.items)) (sym run.instance_is) run.valid
+
 pub returns-clause-legal : goal.returns-clause-legal
 returns-clause-legal g c = c.in_ok-instance.ensures.legal
 

@@ -1,5 +1,22 @@
-use Rattle.cts_top.proofs.Serving.{answers_no_words, serves_synth}
+use Rattle.std.proofs.Common.{◌≤◌, arith}
+use Rattle.std.proofs.lemmas.Result.{err_from_is_err_and}
+use Rattle.cts_instance.specs.declared.parts.Parts.{Parts}
+use Rattle.cts_top.specs.declared.stop.Stop.TheVariants as stop
+use Rattle.cts_top.proofs.Serving.{answers_no_words, not_stopped, serves_synth, stops_synth}
 use Rattle.cts_top.proofs.serve.serve_synth.Goals as goal
+
+pub returns-in_err-instance-clause-serves : goal.returns-in_err-instance-clause-serves
+returns-in_err-instance-clause-serves g c = λ workers.
+    let p = err_from_is_err_and c.from_residual.result c.from_residual.ensures.1 in
+    let same : g.K.ByteSink.faults c.args.sink.now ≤ g.K.ByteSink.faults c.args.sink.now = omega arith in
+    rw (p.1, p.2)
+    (stops_synth _ _ _ _ _ _ _ c.in_err-instance.field-0.0 workers c.in_err-instance.ensures.explained c.in_err-instance.ensures.read_fault
+    c.in_err-instance.ensures.write_fault c.in_err-instance.ensures.counted same)
+
+pub returns-in_err-instance-clause-words : goal.returns-in_err-instance-clause-words
+returns-in_err-instance-clause-words g c =
+    let p = err_from_is_err_and c.from_residual.result c.from_residual.ensures.1 in
+    rw (p.1, p.2) (not_stopped Parts c.in_err-instance.field-0.0 stop.Words c.in_err-instance.ensures.words)
 
 pub returns-clause-serves : goal.returns-clause-serves
 returns-clause-serves g c = λ workers.

@@ -1,5 +1,8 @@
+use Rattle.std.proofs.Common.{◌≤◌, arith}
+use Rattle.cts_instance.specs.declared.parts.Parts.{Parts}
+use Rattle.cts_top.specs.declared.stop.Stop.TheVariants as stop
 use Rattle.cts_top.proofs.Remembering.{holds_synth}
-use Rattle.cts_top.proofs.Serving.{serves_synth}
+use Rattle.cts_top.proofs.Serving.{answers_no_words, not_stopped, serves_synth, stops_synth}
 use Rattle.cts_top.proofs.serve.synth_by_workers.Goals as goal
 
 pub returns-in-Ok-clause-serves : goal.returns-in-Ok-clause-serves
@@ -10,3 +13,21 @@ returns-in-Ok-clause-serves g c =
 pub returns-in-Ok-clause-memo : goal.returns-in-Ok-clause-memo
 returns-in-Ok-clause-memo g c =
     holds_synth c.args.workers _ c.in-Ok.instance c.answer_by_workers.result.1 c.in-Ok.ensures.spells c.answer_by_workers.ensures.memo
+
+pub returns-in-Ok-clause-words : goal.returns-in-Ok-clause-words
+returns-in-Ok-clause-words g c = answers_no_words c.answer_by_workers.result.0 c.answer_by_workers.ensures.answers
+
+pub returns-in-Ok-clause-kept : goal.returns-in-Ok-clause-kept
+returns-in-Ok-clause-kept g c = c.answer_by_workers.ensures.kept
+
+pub returns-in-Err-clause-serves : goal.returns-in-Err-clause-serves
+returns-in-Err-clause-serves g c =
+    let same : g.K.ByteSink.faults c.args.sink.now ≤ g.K.ByteSink.faults c.args.sink.now = omega arith in
+    stops_synth _ _ _ _ _ _ _ c.in-Err.stop c.args.workers c.in-Err.ensures.explained c.in-Err.ensures.read_fault c.in-Err.ensures.write_fault
+    c.in-Err.ensures.counted same
+
+pub returns-in-Err-clause-words : goal.returns-in-Err-clause-words
+returns-in-Err-clause-words g c = not_stopped Parts c.in-Err.stop stop.Words c.in-Err.ensures.words
+
+pub returns-in-Err-clause-memo : goal.returns-in-Err-clause-memo
+returns-in-Err-clause-memo g c = tt
