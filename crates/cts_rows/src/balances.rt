@@ -1,24 +1,21 @@
 //! Balances worked by hand.
 
-ghost use Rattle.std.specs.Prelude.{◌^◌, ◌≤◌};
-ghost use Rattle.cts_units.specs.Limits.{IsParams, max_delay, max_load};
 ghost use Rattle.cts_merge.specs.Side.{IsSideInRange};
 
+use crate::instances::{Metal, with_metal};
 use cts_geom::Region;
-use cts_merge::{Beyond, Side, choose};
-use cts_units::{Library, Params, Wire};
+use cts_merge::{Side, choose};
 use std::alloc::Global;
 use std::process::Abort;
+use std::test::Fail;
 
-/// A side whose region has no part in a balance.
-fn side(greatest: u128, load: u64) -> Side
-    requires greatest { greatest ≤ max_delay }
-    requires load { load ≤ max_load }
+/// A side by its greatest doubled delay and its load. Its region has no part in a balance or a length.
+pub(crate) fn side(greatest: u16, load: u32) -> Side
     ensures { IsSideInRange result }
 {
     Side {
-        greatest,
-        load,
+        greatest: u128::from(greatest),
+        load: u64::from(load),
         region: Region {
             u1: 0,
             u2: 0,
@@ -28,65 +25,46 @@ fn side(greatest: u128, load: u64) -> Side
     }
 }
 
-/// Parameters without a buffer, where r and c are equal inside.
-fn bare(alloc: Global, unit: u64) -> Params
-    requires low { 1 ≤ unit }
-    requires high { unit ≤ 10 ^ 6 }
-    ensures { IsParams result }
-{
-    Params {
-        wire: Wire { r: unit, c: unit },
-        library: Library::of(Vec::new(alloc)),
-        insert_at: 0,
-    }
-}
+/// A side by its greatest doubled delay and its load, and the length of the route to it.
+type Arm = ((u16, u32), u64);
 
-/// Compares the lengths that balance two sides over routes of these lengths.
+/// Compares the lengths that balance two sides, by what a nm of wire has, or `None` for beyond.
 fn balances(
     rt: &impl Abort,
-    params: &Params,
-    a: (&Side, u64),
-    b: (&Side, u64),
-    lengths: Result<(u64, u64), Beyond>,
-)
-    requires params { IsParams params.now }
-    requires a { IsSideInRange a.0.now }
-    requires b { IsSideInRange b.0.now }
-{
-    assert_eq!(rt; choose(params, a.0, a.1, b.0, b.1), lengths);
+    alloc: Global,
+    unit: u64,
+    a: Arm,
+    b: Arm,
+    lengths: Option<(u64, u64)>,
+) -> Result<(), Fail> {
+    let instance = with_metal(alloc, &Metal::bare(unit, unit))?;
+    let (first, second) = (side(a.0.0, a.0.1), side(b.0.0, b.0.1));
+    let found = choose(instance.params(), &first, a.1, &second, b.1).ok();
+    assert_eq!(rt; found, lengths);
+    Ok(())
 }
 
 #[test]
-fn lengths_of_worked_pairs(rt: HostRuntime) {
-    let unit = bare(rt.alloc(), 1);
-    let light = side(0, 5);
+fn lengths_of_worked_pairs(rt: HostRuntime) -> Result<(), Fail> {
+    let (alloc, light) = (rt.alloc(), (0, 5));
     // (3, 3) has 39 on both sides, where (2, 3) has 24 and 39.
-    balances(&rt, &unit, (&light, 2), (&light, 3), Ok((3, 3)));
-    balances(&rt, &unit, (&light, 3), (&light, 2), Ok((3, 3)));
+    balances(&rt, alloc, 1, (light, 2), (light, 3), Some((3, 3)))?;
+    balances(&rt, alloc, 1, (light, 3), (light, 2), Some((3, 3)))?;
     // (5, 5) leaves 10, and (6, 5) would leave 11.
-    balances(&rt, &unit, (&light, 5), (&side(0, 6), 5), Ok((5, 5)));
+    balances(&rt, alloc, 1, (light, 5), ((0, 6), 5), Some((5, 5)))?;
     // The first side waits for 1000: 27·37 = 999.
-    balances(&rt, &unit, (&light, 10), (&side(1000, 5), 0), Ok((27, 0)));
+    balances(&rt, alloc, 1, (light, 10), ((1000, 5), 0), Some((27, 0)))?;
     // Routes of 2 um and 8 um, with 1 ohm and 1 fF per um.
-    let metal = bare(rt.alloc(), 1000);
-    let sink = side(0, 5_000_000);
-    balances(&rt, &metal, (&sink, 2000), (&sink, 8000), Ok((8000, 8000)));
+    let (near, far) = (((0, 5_000_000), 2000), ((0, 5_000_000), 8000));
+    balances(&rt, alloc, 1000, near, far, Some((8000, 8000)))
 }
 
 #[test]
-fn lengths_at_the_limit_of_a_wire(rt: HostRuntime) {
-    let unit = bare(rt.alloc(), 1);
-    let light = side(0, 5);
-    let limit = 2_147_483_647;
-    let longest = Ok((limit, limit));
-    balances(&rt, &unit, (&light, limit), (&light, limit), longest);
-    balances(&rt, &unit, (&light, limit + 1), (&light, 0), Err(Beyond));
-    balances(&rt, &unit, (&light, 0), (&light, u64::MAX), Err(Beyond));
-    balances(
-        &rt,
-        &unit,
-        (&light, limit),
-        (&side(0, 4), limit),
-        Err(Beyond),
-    );
+fn lengths_at_the_limit_of_a_wire(rt: HostRuntime) -> Result<(), Fail> {
+    let (alloc, light, limit) = (rt.alloc(), (0, 5), 2_147_483_647);
+    let longest = Some((limit, limit));
+    balances(&rt, alloc, 1, (light, limit), (light, limit), longest)?;
+    balances(&rt, alloc, 1, (light, 2_147_483_648), (light, 0), None)?;
+    balances(&rt, alloc, 1, (light, 0), (light, u64::MAX), None)?;
+    balances(&rt, alloc, 1, (light, limit), ((0, 4), limit), None)
 }

@@ -1,7 +1,5 @@
 //! Free points round a few blocks.
 
-ghost use Rattle.cts_geom.specs.Points.{IsSpotInRange};
-
 use cts_block::{Block, Kind, free_for_buffer, free_for_wire};
 use cts_geom::{Die, Spot};
 use std::process::Abort;
@@ -26,80 +24,72 @@ fn square_die(side: i64) -> Die {
     }
 }
 
-fn square_in_a_square() -> [Block; 4] {
-    [
+/// Whether a wire may stand at the spot (u, v) in a square in a square.
+fn holds_a_wire(u: i8, v: i8) -> bool {
+    let blocks = [
         block(Kind::All, 1, 1, 4, 4),
         block(Kind::Buffer, 0, 0, 5, 5),
         block(Kind::All, 0, 0, 0, 5),
         block(Kind::All, 2, 5, 5, 4),
-    ]
+    ];
+    let at = Spot {
+        u: i64::from(u),
+        v: i64::from(v),
+    };
+    free_for_wire(&blocks, &square_die(5), at)
 }
 
-/// Compares whether a wire may stand at the spot (u, v) in the square.
-fn holds_a_wire(rt: &impl Abort, blocks: &[Block], u: i64, v: i64, is_free: bool)
-    requires { IsSpotInRange (record { u = u; v = v }) }
-{
-    let die = square_die(5);
-    assert_eq!(rt;
-        free_for_wire(blocks, &die, Spot { u, v }),
-        is_free,
-        "at {u}, {v}"
-    );
+/// Compares whether a wire may stand at each of these spots.
+fn hold_wires(rt: &impl Abort, spots: &[(i8, i8)], are_free: bool) {
+    for (u, v) in spots {
+        assert_eq!(rt; (*u, *v, holds_a_wire(*u, *v)), (*u, *v, are_free));
+    }
 }
 
 #[test]
 fn leaves_edges_free_for_wires(rt: HostRuntime) {
-    let blocks = square_in_a_square();
     // (2.5, 2.5), the centre, (2, 2) and (1.5, 3.5).
-    holds_a_wire(&rt, &blocks, 5, 0, false);
-    holds_a_wire(&rt, &blocks, 4, 0, false);
-    holds_a_wire(&rt, &blocks, 5, -2, false);
+    hold_wires(&rt, &[(5, 0), (4, 0), (5, -2)], false);
     // (1, 2), on the west edge, and (4, 4), a corner.
-    holds_a_wire(&rt, &blocks, 3, -1, true);
-    holds_a_wire(&rt, &blocks, 8, 0, true);
+    hold_wires(&rt, &[(3, -1), (8, 0)], true);
     // (0.5, 0.5) and (4.5, 2.5).
-    holds_a_wire(&rt, &blocks, 1, 0, true);
-    holds_a_wire(&rt, &blocks, 7, 2, true);
+    hold_wires(&rt, &[(1, 0), (7, 2)], true);
 }
 
 #[test]
 fn leaves_the_edge_of_the_die_free_and_nothing_outside(rt: HostRuntime) {
-    let blocks = square_in_a_square();
     // (5, 5), a corner of the die, and (0, 3), on its west edge.
-    holds_a_wire(&rt, &blocks, 10, 0, true);
-    holds_a_wire(&rt, &blocks, 3, -3, true);
+    hold_wires(&rt, &[(10, 0), (3, -3)], true);
     // (5.5, 2.5), (2, 6), (-0.5, 0.5) and (3, -1), to the east, north, west and south of it.
-    holds_a_wire(&rt, &blocks, 8, 3, false);
-    holds_a_wire(&rt, &blocks, 8, -4, false);
-    holds_a_wire(&rt, &blocks, 0, -1, false);
-    holds_a_wire(&rt, &blocks, 2, 4, false);
+    hold_wires(&rt, &[(8, 3), (8, -4), (0, -1), (2, 4)], false);
 }
 
-/// Compares whether a buffer may stand at the spot (u, v).
-fn holds_a_buffer(rt: &impl Abort, blocks: &[Block], u: i64, v: i64, is_free: bool)
-    requires { IsSpotInRange (record { u = u; v = v }) }
-{
-    let die = square_die(20);
-    assert_eq!(rt;
-        free_for_buffer(blocks, &die, Spot { u, v }),
-        is_free,
-        "at {u}, {v}"
-    );
-}
-
-#[test]
-fn keeps_buffers_off_blocks_of_both_kinds(rt: HostRuntime) {
+/// Whether a buffer may stand at the spot (u, v) beside a block of each kind.
+fn holds_a_buffer(u: i8, v: i8) -> bool {
     let blocks = [
         block(Kind::Buffer, 2, 2, 8, 9),
         block(Kind::All, 10, 10, 12, 12),
     ];
-    // (5, 5), inside a block for buffers, and (2, 5), (5, 2) and (8, 5), on its edges.
-    holds_a_buffer(&rt, &blocks, 10, 0, false);
-    holds_a_buffer(&rt, &blocks, 7, -3, true);
-    holds_a_buffer(&rt, &blocks, 7, 3, true);
-    holds_a_buffer(&rt, &blocks, 13, 3, true);
-    // (11, 11), inside a block for all, (10, 11), on its west edge, and (21, 20), outside the die.
-    holds_a_buffer(&rt, &blocks, 22, 0, false);
-    holds_a_buffer(&rt, &blocks, 21, -1, true);
-    holds_a_buffer(&rt, &blocks, 41, 1, false);
+    let at = Spot {
+        u: i64::from(u),
+        v: i64::from(v),
+    };
+    free_for_buffer(&blocks, &square_die(20), at)
+}
+
+#[test]
+fn keeps_buffers_off_blocks_of_both_kinds(rt: HostRuntime) {
+    for (u, v, is_free) in [
+        // (5, 5), inside a block for buffers, and (2, 5), (5, 2) and (8, 5), on its edges.
+        (10, 0, false),
+        (7, -3, true),
+        (7, 3, true),
+        (13, 3, true),
+        // (11, 11), inside a block for all, (10, 11), on its west edge, and (21, 20), outside the die.
+        (22, 0, false),
+        (21, -1, true),
+        (41, 1, false),
+    ] {
+        assert_eq!(rt; (u, v, holds_a_buffer(u, v)), (u, v, is_free));
+    }
 }

@@ -1,23 +1,28 @@
 //! Buffers chosen from a small library.
 
-ghost use Rattle.std.specs.Prelude.{◌^◌, ◌≤◌, All, vec_len};
-ghost use Rattle.cts_units.specs.Limits.{IsBuffer};
-
-use cts_units::{Buffer, Library, Params, Wire, choose_buffer};
+use crate::instances::{Metal, with_metal};
+use cts_units::{Buffer, choose_buffer};
+use std::alloc::Global;
+use std::process::Abort;
 use std::test::Fail;
 
-/// The choice from this library above a threshold of 4 zF.
-fn choice_of(buffers: Vec<Buffer>, load: u64) -> Option<u16>
-    requires count { vec_len buffers ≤ 16 }
-    requires buffers { All IsBuffer buffers.items }
-    requires load { load ≤ 2 ^ 56 }
-{
-    let params = Params {
-        wire: Wire { r: 1, c: 1 },
-        library: Library::of(buffers),
+/// Compares the choice from these buffers at this load, above a threshold of 4 zF.
+fn chooses(
+    rt: &impl Abort,
+    alloc: Global,
+    buffers: &[Buffer],
+    load: u32,
+    want: Option<u16>,
+) -> Result<(), Fail> {
+    let metal = Metal {
+        buffers,
         insert_at: 4,
+        ..Metal::bare(1, 1)
     };
-    choose_buffer(&params, load)
+    let instance = with_metal(alloc, &metal)?;
+    let found = choose_buffer(instance.params(), u64::from(load));
+    assert_eq!(rt; (load, found), (load, want));
+    Ok(())
 }
 
 #[test]
@@ -33,16 +38,11 @@ fn least_delay_then_first_in_the_library(rt: HostRuntime) -> Result<(), Fail> {
         rout: 1,
         intrinsic: 20,
     };
-    for (load, want) in [
-        (4, None),
-        (5, Some(0)),
-        (9, Some(0)),
-        (10, Some(0)),
-        (11, Some(2)),
-    ] {
-        let library = vec![in rt.alloc(); weak, weak, strong]?;
-        assert_eq!(rt; choice_of(library, load), want, "at {load} zF");
-    }
-    assert_eq!(rt; choice_of(Vec::new(rt.alloc()), 5), None);
-    Ok(())
+    let library = [weak, weak, strong];
+    chooses(&rt, rt.alloc(), &library, 4, None)?;
+    chooses(&rt, rt.alloc(), &library, 5, Some(0))?;
+    chooses(&rt, rt.alloc(), &library, 9, Some(0))?;
+    chooses(&rt, rt.alloc(), &library, 10, Some(0))?;
+    chooses(&rt, rt.alloc(), &library, 11, Some(2))?;
+    chooses(&rt, rt.alloc(), &[], 5, None)
 }

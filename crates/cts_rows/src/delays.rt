@@ -14,11 +14,8 @@ fn delays_of_worked_wires(rt: HostRuntime) {
         (27, 5, 999),
         (0, 9, 0),
     ] {
-        assert_eq!(rt;
-            wire_delay(unit, length, load),
-            want,
-            "{length} nm into {load} zF"
-        );
+        let delay = wire_delay(unit, length, load);
+        assert_eq!(rt; (length, load, delay), (length, load, want));
     }
     // 1,500 µm of 0.1 ohm and 0.2 fF per µm into 35 fF: 27.75 ps, doubled.
     let metal = Wire { r: 100, c: 200 };
@@ -49,6 +46,5 @@ fn delays_of_worked_buffers(rt: HostRuntime) {
 #[test]
 fn slews_of_worked_stages(rt: HostRuntime) {
     // A doubled stage delay of 119 slews over 130.9, and of 167 over 183.7.
-    assert_eq!(rt; slew_tenths(119), 1309);
-    assert_eq!(rt; slew_tenths(167), 1837);
+    assert_eq!(rt; [slew_tenths(119), slew_tenths(167)], [1309, 1837]);
 }

@@ -18,6 +18,8 @@ mod figures;
 #[cfg(test)]
 mod free_places;
 #[cfg(test)]
+mod instances;
+#[cfg(test)]
 mod lengths;
 #[cfg(test)]
 mod lists;

@@ -12,15 +12,14 @@ fn worked_roots(rt: HostRuntime) {
         (1025, 32),
         (u128::MAX, 18_446_744_073_709_551_615),
     ] {
-        assert_eq!(rt; isqrt(n), root, "of {n}");
+        assert_eq!(rt; (n, isqrt(n)), (n, root));
     }
 }
 
 #[test]
 fn worked_quotients(rt: HostRuntime) {
-    assert_eq!(rt; floor_div(7, 2), 3);
-    assert_eq!(rt; floor_div(-7, 2), -4);
-    assert_eq!(rt; floor_div(-8, 2), -4);
-    assert_eq!(rt; floor_div(0, 3), 0);
-    assert_eq!(rt; floor_div(-i128::MAX, i128::MAX), -1);
+    let halves = [floor_div(7, 2), floor_div(-7, 2), floor_div(-8, 2)];
+    assert_eq!(rt; halves, [3, -4, -4]);
+    let greatest = floor_div(-i128::MAX, i128::MAX);
+    assert_eq!(rt; [floor_div(0, 3), greatest], [0, -1]);
 }

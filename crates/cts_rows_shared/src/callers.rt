@@ -1,10 +1,11 @@
 //! Callers at the desk of one sink at (3, 4) µm with 5 fF, on a die of 20 µm by 20 µm with the source at
 //! (0, 0), a wire of 1 Ω and 1 fF per µm and no buffer. What is expected is worked by hand.
 
-ghost use Rattle.std.specs.Prelude.{◌≤◌, length};
+ghost use Rattle.std.specs.Prelude.{◌≤◌, length, IfOk};
 ghost use Rattle.cts_session.specs.Desks.{AreDivisible, AreHandsOf};
 
-use crate::drawing::draw;
+use crate::compare::same;
+use crate::drawing::{draw, split};
 use cts_callers::{Reply, Run, run_callers};
 use cts_design::{EditCause, EditReply};
 use cts_elmore::Figures;
@@ -50,7 +51,7 @@ impl Gate for Meeting {
 fn short(text: &[u8]) -> &[u8]
     ensures { length result.now ≤ 67108864 }
 {
-    if text.len() <= 1 << 20 { text } else { b"" }
+    if text.len() <= 67_108_864 { text } else { b"" }
 }
 
 fn one_sink(alloc: Global) -> Result<Instance, Fail> {
@@ -60,7 +61,7 @@ fn one_sink(alloc: Global) -> Result<Instance, Fail> {
 }
 
 /// The reply to the first step of the caller at this place, where it is an edit.
-fn told(run: &Run, place: usize) -> Option<EditReply> {
+fn first_reply(run: &Run, place: usize) -> Option<EditReply> {
     match run.replies.get(place)?.first()? {
         Reply::Edited { reply, .. } => Some(*reply),
         _ => None,
@@ -68,11 +69,27 @@ fn told(run: &Run, place: usize) -> Option<EditReply> {
 }
 
 /// The wire of a tree in nm, and its greatest doubled delay in 10^-27 s.
-fn told_of(synthesis: &Result<(Tree, Figures), NoTree>) -> (u64, u128) {
+fn tree_of(synthesis: &Result<(Tree, Figures), NoTree>) -> Option<(u64, u128)> {
     match synthesis {
-        Ok((_, figures)) => (figures.wire_total, figures.greatest),
-        Err(_) => (0, 0),
+        Ok((_, figures)) => Some((figures.wire_total, figures.greatest)),
+        Err(_) => None,
     }
+}
+
+/// What is told of a run: how many edits were accepted, how many sinks there are then, and their tree.
+type Told = (usize, usize, Option<(u64, u128)>);
+
+/// What a run of these callers comes to, and the replies to the first steps of the first two.
+fn told<R: Threads + Wait + Sync, G: Gate>(
+    rt: &R,
+    alloc: Global,
+    gate: &G,
+    text: &[u8],
+) -> Result<(Told, (Option<EditReply>, Option<EditReply>)), Fail> {
+    let scripts = read_script(alloc, short(text), 10)?;
+    let run = run_callers(rt, alloc, gate, one_sink(alloc)?, &scripts)?;
+    let told = (run.history.len(), run.sinks.len(), tree_of(&run.synthesis));
+    Ok((told, (first_reply(&run, 0), first_reply(&run, 1))))
 }
 
 #[test]
@@ -81,45 +98,32 @@ fn one_of_two_callers_adds_the_sink_that_both_add(rt: HostRuntime) -> Result<(),
         entered: AtomicU64::new(0),
         late: AtomicU64::new(0),
     };
-    let scripts = read_script(
-        rt.alloc(),
-        short(b"callers 2\n1 add 9 10 0 5\n2 add 9 10 0 5\nend\n"),
-        10,
-    )?;
-    let run = run_callers(&rt, rt.alloc(), &gate, one_sink(rt.alloc())?, &scripts)?;
+    let text = b"callers 2\n1 add 9 10 0 5\n2 add 9 10 0 5\nend\n";
+    let (told, replies) = told(&rt, rt.alloc(), &gate, text)?;
     let accepted = Some(EditReply::Accepted { version: 1 });
     let refused = Some(EditReply::Refused {
         cause: EditCause::Known,
         version: 1,
     });
-    let told = (told(&run, 0), told(&run, 1));
-    assert_eq!(rt;
-        told == (accepted, refused) || told == (refused, accepted),
-        true
-    );
-    assert_eq!(rt; (run.history.len(), run.sinks.len()), (1, 2));
-    assert_eq!(rt; told_of(&run.synthesis), (15_500, 294_500_000_000_000));
-    assert_eq!(rt; gate.late.load(Ordering::SeqCst), 0);
+    let is_one = replies == (accepted, refused) || replies == (refused, accepted);
+    assert!(rt; is_one, "{replies:?}");
+    let tree = Some((15_500, 294_500_000_000_000));
+    same(&rt, "one edit, two sinks", told, (1, 2, tree));
+    same(&rt, "none late", gate.late.load(Ordering::SeqCst), 0);
     Ok(())
 }
 
 #[test]
 fn the_last_sink_stays_and_none_leaves_the_die(rt: HostRuntime) -> Result<(), Fail> {
-    let scripts = read_script(
-        rt.alloc(),
-        short(b"callers 1\n1 remove 1\n1 move 1 21 0\nend\n"),
-        10,
-    )?;
-    let run = run_callers(&rt, rt.alloc(), &OpenGate, one_sink(rt.alloc())?, &scripts)?;
-    assert_eq!(rt;
-        told(&run, 0),
-        Some(EditReply::Refused {
-            cause: EditCause::Last,
-            version: 0
-        })
-    );
-    assert_eq!(rt; (run.history.len(), run.sinks.len()), (0, 1));
-    assert_eq!(rt; told_of(&run.synthesis), (7_000, 119_000_000_000_000));
+    let text = b"callers 1\n1 remove 1\n1 move 1 21 0\nend\n";
+    let (told, replies) = told(&rt, rt.alloc(), &OpenGate, text)?;
+    let last = EditReply::Refused {
+        cause: EditCause::Last,
+        version: 0,
+    };
+    same(&rt, "the last sink", replies, (Some(last), None));
+    let tree = Some((7_000, 119_000_000_000_000));
+    same(&rt, "no edit, one sink", told, (0, 1, tree));
     Ok(())
 }
 
@@ -135,6 +139,14 @@ struct HoldFirst {
 }
 
 impl HoldFirst {
+    fn new() -> HoldFirst {
+        HoldFirst {
+            held: AtomicU64::new(0),
+            answered: AtomicU64::new(0),
+            given_up: AtomicU64::new(0),
+        }
+    }
+
     /// Waits until the word is set, or gives up.
     fn wait_for(&self, word: &AtomicU64) {
         for _ in 0..TURNS {
@@ -197,8 +209,7 @@ fn draw_beside<R: Threads + Wait + Sync>(
     requires share { AreDivisible hands }
 {
     desk_is_shared();
-    let (one, two) = Session::of(desk, hands, 1).split(2);
-    let (first, second) = (one.hands(), two.hands());
+    let (first, second) = split(desk, hands);
     let ((one, _), (two, _)) = join(
         rt,
         || draw_held(rt, alloc, desk, first, 1, gate),
@@ -207,18 +218,27 @@ fn draw_beside<R: Threads + Wait + Sync>(
     (one, two)
 }
 
+/// A desk of 64 sinks.
+fn begin(alloc: Global) -> Result<(Desk, Hands), Fail>
+    ensures own { IfOk result (λ d. AreHandsOf d.0 d.1) }
+    ensures share { IfOk result (λ d. AreDivisible d.1) }
+{
+    let instance = make_instance(alloc, 14, 64)?;
+    Ok(Desk::start(alloc, instance)?)
+}
+
 #[test]
 fn no_turn_is_held_while_a_tree_is_made(rt: HostRuntime) -> Result<(), Fail> {
-    let instance = make_instance(rt.alloc(), 14, 64)?;
-    let (desk, hands) = Desk::start(rt.alloc(), instance)?;
-    let gate = HoldFirst {
-        held: AtomicU64::new(0),
-        answered: AtomicU64::new(0),
-        given_up: AtomicU64::new(0),
-    };
+    let (desk, hands) = begin(rt.alloc())?;
+    let gate = HoldFirst::new();
     let (one, two) = draw_beside(&rt, rt.alloc(), &desk, hands, &gate);
-    assert_eq!(rt; one, two);
-    assert_eq!(rt; one > 0, true);
-    assert_eq!(rt; gate.given_up.load(Ordering::SeqCst), 0);
+    same(&rt, "both wires", one, two);
+    assert!(rt; one > 0);
+    same(
+        &rt,
+        "no caller gave up",
+        gate.given_up.load(Ordering::SeqCst),
+        0,
+    );
     Ok(())
 }

@@ -5,14 +5,17 @@ ghost use Rattle.cts_turn.specs.Passes.{share_of};
 ghost use Rattle.cts_design.specs.Edits.{IsEdit};
 ghost use Rattle.cts_design.specs.Passes.{IsPassOf, instance_of};
 
-use crate::instances::{instance, sink, wall};
-use cts_block::{Block, Kind};
+use crate::compare::same;
+use crate::instances::{instance, shade, sink, wall};
+use cts_block::Block;
+use cts_design::EditCause::{Full, InBlock, Known, Last, Long, Outside, Unknown};
 use cts_design::laws::design_is_shared;
 use cts_design::{Design, Edit, EditCause, EditReply, Entry, send_edit, snapshot};
 use cts_instance::Instance;
 use cts_turn::{Pass, Turn};
 use cts_units::Sink;
 use std::alloc::Global;
+use std::process::Abort;
 use std::sync::Wait;
 use std::test::Fail;
 use std::thread::{Threads, join};
@@ -22,10 +25,47 @@ fn begin(
     sinks: &[Sink],
     blocks: &[Block],
 ) -> Result<(Turn<Design>, Pass<Design>), Fail>
-    ensures { IfOk result (λ d. IsPassOf d.0 d.1 × (share_of d.1 ≡ 65536)) }
+    ensures own { IfOk result (λ d. IsPassOf d.0 d.1) }
+    ensures share { IfOk result (λ d. share_of d.1 ≡ 65536) }
 {
     let instance = instance(alloc, sinks, blocks)?;
     Ok(Design::start(alloc, &instance)?)
+}
+
+fn add(id: u16, x: u8, y: u8, cap: u8) -> Edit
+    ensures { IsEdit result }
+{
+    Edit::Add {
+        id: id as u32,
+        x: x as i64,
+        y: y as i64,
+        cap: cap as u64,
+    }
+}
+
+fn remove(id: u16) -> Edit
+    ensures { IsEdit result }
+{
+    Edit::Remove { id: id as u32 }
+}
+
+fn move_to(id: u16, x: u8, y: u8) -> Edit
+    ensures { IsEdit result }
+{
+    Edit::Move {
+        id: id as u32,
+        x: x as i64,
+        y: y as i64,
+    }
+}
+
+fn set_cap(id: u16, cap: u32) -> Edit
+    ensures { IsEdit result }
+{
+    Edit::SetCap {
+        id: id as u32,
+        cap: cap as u64,
+    }
 }
 
 /// Sends an edit of caller 1.
@@ -51,156 +91,139 @@ fn accepted(version: u32) -> EditReply {
     EditReply::Accepted { version }
 }
 
-/// The numbers of a sink.
-fn numbers(sink: &Sink) -> (u32, i64, i64, u64) {
+/// Sends an edit of caller 1, which has this reply.
+fn replies<R: Wait + Abort>(
+    rt: &R,
+    design: &Turn<Design>,
+    pass: &mut Pass<Design>,
+    edit: Edit,
+    expected: EditReply,
+)
+    requires own { IsPassOf design.now pass.old }
+    requires edit { IsEdit edit }
+    ensures own { IsPassOf design.now pass.new }
+    ensures share { share_of pass.new ≡ share_of pass.old }
+{
+    let reply = send(rt, design, pass, edit);
+    assert_eq!(rt; reply, expected, "{edit:?}");
+}
+
+/// The id, place and capacitance of a sink.
+type Numbers = (u32, i64, i64, u64);
+
+fn numbers(sink: &Sink) -> Numbers {
     (sink.id, sink.x, sink.y, sink.cap)
+}
+
+/// The version of a snapshot, how many sinks it has, and the sink at this place of them.
+fn listed<R: Wait>(
+    rt: &R,
+    design: &Turn<Design>,
+    pass: &mut Pass<Design>,
+    place: usize,
+) -> Result<(u32, usize, Option<Numbers>), Fail>
+    requires own { IsPassOf design.now pass.old }
+    ensures own { IsPassOf design.now pass.new }
+    ensures share { share_of pass.new ≡ share_of pass.old }
+{
+    let (version, sinks) = snapshot(design, rt, pass)?;
+    let told = sinks.get(place).map(numbers);
+    Ok((version, sinks.len(), told))
+}
+
+/// The history and the sinks of a design whose passes are all joined.
+fn closed<R: Abort>(rt: &R, design: Turn<Design>, pass: Pass<Design>) -> (Vec<Entry>, Vec<Sink>)
+    requires { IsPassOf design pass }
+{
+    match design.close(pass) {
+        Ok(design) => design.into_lists(),
+        Err(_) => panic!(rt; "a pass is out"),
+    }
 }
 
 #[test]
 fn the_only_sink_stays(rt: HostRuntime) -> Result<(), Fail> {
     let (design, mut pass) = begin(rt.alloc(), &[sink(1, 3, 4, 5)], &[])?;
-    assert_eq!(rt;
-        send(&rt, &design, &mut pass, Edit::Remove { id: 1 }),
-        refused(EditCause::Last, 0)
-    );
-    assert_eq!(rt;
-        send(&rt, &design, &mut pass, Edit::Move { id: 1, x: 21, y: 0 }),
-        refused(EditCause::Outside, 0)
-    );
-    let (version, sinks) = snapshot(&design, &rt, &mut pass)?;
-    assert_eq!(rt; version, 0);
-    assert_eq!(rt; numbers(&sinks[0]), (1, 3, 4, 5));
-    let Ok(design) = design.close(pass) else {
-        panic!(rt; "a pass is out")
-    };
-    let (history, _) = design.into_lists();
+    replies(&rt, &design, &mut pass, remove(1), refused(Last, 0));
+    let outside = move_to(1, 21, 0);
+    replies(&rt, &design, &mut pass, outside, refused(Outside, 0));
+    let now = listed(&rt, &design, &mut pass, 0)?;
+    same(&rt, "the sinks", now, (0, 1, Some((1, 3, 4, 5))));
+    let (history, _) = closed(&rt, design, pass);
     assert!(rt; history.is_empty());
     Ok(())
+}
+
+/// Two sinks and a third one, which are edited five times.
+fn edit_three<R: Wait + Abort>(rt: &R, design: &Turn<Design>, pass: &mut Pass<Design>)
+    requires own { IsPassOf design.now pass.old }
+    ensures own { IsPassOf design.now pass.new }
+{
+    replies(rt, design, pass, add(9, 20, 20, 7), accepted(1));
+    replies(rt, design, pass, remove(1), accepted(2));
+    replies(rt, design, pass, move_to(2, 8, 1), accepted(3));
+    replies(rt, design, pass, set_cap(9, 6), accepted(4));
+    replies(rt, design, pass, add(1, 3, 3, 3), accepted(5));
+}
+
+/// The second edit of five.
+fn second_of_five(history: &[Entry]) -> Option<Edit> {
+    match history {
+        [_, second, _, _, _] => Some(second.edit),
+        _ => None,
+    }
+}
+
+/// The numbers of three sinks.
+fn three(sinks: &[Sink]) -> Option<[Numbers; 3]> {
+    match sinks {
+        [a, b, c] => Some([numbers(a), numbers(b), numbers(c)]),
+        _ => None,
+    }
 }
 
 #[test]
 fn edits_keep_their_order(rt: HostRuntime) -> Result<(), Fail> {
     let (design, mut pass) = begin(rt.alloc(), &[sink(1, 0, 0, 5), sink(2, 10, 0, 10)], &[])?;
-    let last = Edit::Add {
-        id: 9,
-        x: 20,
-        y: 20,
-        cap: 7,
-    };
-    assert_eq!(rt; send(&rt, &design, &mut pass, last), accepted(1));
-    let less = Edit::Remove { id: 1 };
-    assert_eq!(rt; send(&rt, &design, &mut pass, less), accepted(2));
-    let place = Edit::Move { id: 2, x: 8, y: 1 };
-    assert_eq!(rt; send(&rt, &design, &mut pass, place), accepted(3));
-    let heavier = Edit::SetCap { id: 9, cap: 6 };
-    assert_eq!(rt; send(&rt, &design, &mut pass, heavier), accepted(4));
-    let back = Edit::Add {
-        id: 1,
-        x: 3,
-        y: 3,
-        cap: 3,
-    };
-    assert_eq!(rt; send(&rt, &design, &mut pass, back), accepted(5));
-    let Ok(design) = design.close(pass) else {
-        panic!(rt; "a pass is out")
-    };
-    let (history, sinks) = design.into_lists();
-    assert_eq!(rt; history.len(), 5);
-    assert_eq!(rt; history[1].edit, Edit::Remove { id: 1 });
-    assert_eq!(rt; sinks.len(), 3);
-    assert_eq!(rt; numbers(&sinks[0]), (2, 8, 1, 10));
-    assert_eq!(rt; numbers(&sinks[1]), (9, 20, 20, 6));
-    assert_eq!(rt; numbers(&sinks[2]), (1, 3, 3, 3));
+    edit_three(&rt, &design, &mut pass);
+    let (history, sinks) = closed(&rt, design, pass);
+    let second = second_of_five(&history);
+    same(&rt, "the second edit", second, Some(Edit::Remove { id: 1 }));
+    let expected = [(2, 8, 1, 10), (9, 20, 20, 6), (1, 3, 3, 3)];
+    same(&rt, "the sinks", three(&sinks), Some(expected));
     Ok(())
+}
+
+/// Edits that are refused at the start, each for the first cause that there is.
+fn refuse_all<R: Wait + Abort>(rt: &R, design: &Turn<Design>, pass: &mut Pass<Design>)
+    requires own { IsPassOf design.now pass.old }
+    ensures own { IsPassOf design.now pass.new }
+{
+    replies(rt, design, pass, add(1, 21, 10, 5), refused(Known, 0));
+    replies(rt, design, pass, move_to(2, 10, 10), refused(Unknown, 0));
+    replies(rt, design, pass, remove(2), refused(Unknown, 0));
+    replies(rt, design, pass, set_cap(0, 1), refused(Unknown, 0));
+    replies(rt, design, pass, add(2, 10, 21, 5), refused(Outside, 0));
+    replies(rt, design, pass, add(2, 6, 14, 5), refused(InBlock, 0));
+    replies(rt, design, pass, move_to(1, 14, 6), refused(InBlock, 0));
+}
+
+/// A sink on the edge of the wall, which is moved into the shade.
+fn accept_two<R: Wait + Abort>(rt: &R, design: &Turn<Design>, pass: &mut Pass<Design>)
+    requires own { IsPassOf design.now pass.old }
+    ensures own { IsPassOf design.now pass.new }
+{
+    replies(rt, design, pass, add(2, 5, 10, 5), accepted(1));
+    replies(rt, design, pass, move_to(2, 2, 2), accepted(2));
+    replies(rt, design, pass, add(2, 20, 20, 5), refused(Known, 2));
 }
 
 #[test]
 fn the_first_cause_is_told(rt: HostRuntime) -> Result<(), Fail> {
-    let shade = Block {
-        kind: Kind::Buffer,
-        x1: 0,
-        y1: 0,
-        x2: 4,
-        y2: 4,
-    };
-    let (design, mut pass) = begin(
-        rt.alloc(),
-        &[sink(1, 0, 0, 5)],
-        &[wall(5, 5, 15, 15), shade],
-    )?;
-    let known = Edit::Add {
-        id: 1,
-        x: 21,
-        y: 10,
-        cap: 5,
-    };
-    assert_eq!(rt;
-        send(&rt, &design, &mut pass, known),
-        refused(EditCause::Known, 0)
-    );
-    let unknown = Edit::Move {
-        id: 2,
-        x: 10,
-        y: 10,
-    };
-    assert_eq!(rt;
-        send(&rt, &design, &mut pass, unknown),
-        refused(EditCause::Unknown, 0)
-    );
-    let gone = Edit::Remove { id: 2 };
-    assert_eq!(rt;
-        send(&rt, &design, &mut pass, gone),
-        refused(EditCause::Unknown, 0)
-    );
-    let nothing = Edit::SetCap { id: 0, cap: 1 };
-    assert_eq!(rt;
-        send(&rt, &design, &mut pass, nothing),
-        refused(EditCause::Unknown, 0)
-    );
-    let outside = Edit::Add {
-        id: 2,
-        x: 10,
-        y: 21,
-        cap: 5,
-    };
-    assert_eq!(rt;
-        send(&rt, &design, &mut pass, outside),
-        refused(EditCause::Outside, 0)
-    );
-    let inside = Edit::Add {
-        id: 2,
-        x: 6,
-        y: 14,
-        cap: 5,
-    };
-    assert_eq!(rt;
-        send(&rt, &design, &mut pass, inside),
-        refused(EditCause::InBlock, 0)
-    );
-    let into = Edit::Move { id: 1, x: 14, y: 6 };
-    assert_eq!(rt;
-        send(&rt, &design, &mut pass, into),
-        refused(EditCause::InBlock, 0)
-    );
-    let edge = Edit::Add {
-        id: 2,
-        x: 5,
-        y: 10,
-        cap: 5,
-    };
-    assert_eq!(rt; send(&rt, &design, &mut pass, edge), accepted(1));
-    let shaded = Edit::Move { id: 2, x: 2, y: 2 };
-    assert_eq!(rt; send(&rt, &design, &mut pass, shaded), accepted(2));
-    let again = Edit::Add {
-        id: 2,
-        x: 20,
-        y: 20,
-        cap: 5,
-    };
-    assert_eq!(rt;
-        send(&rt, &design, &mut pass, again),
-        refused(EditCause::Known, 2)
-    );
+    let blocks = [wall(5, 5, 15, 15), shade(0, 0, 4, 4)];
+    let (design, mut pass) = begin(rt.alloc(), &[sink(1, 0, 0, 5)], &blocks)?;
+    refuse_all(&rt, &design, &mut pass);
+    accept_two(&rt, &design, &mut pass);
     Ok(())
 }
 
@@ -237,11 +260,7 @@ fn set_caps<R: Wait>(
 {
     let mut reply = EditReply::NoMemory;
     for cap in 0..count {
-        let edit = Edit::SetCap {
-            id: 1,
-            cap: cap as u64,
-        };
-        reply = send(rt, design, pass, edit);
+        reply = send(rt, design, pass, set_cap(1, cap));
     }
     reply
 }
@@ -249,49 +268,34 @@ fn set_caps<R: Wait>(
 #[test]
 fn a_long_history_takes_no_more(rt: HostRuntime) -> Result<(), Fail> {
     let (design, mut pass) = begin(rt.alloc(), &[sink(1, 3, 4, 5)], &[])?;
-    assert_eq!(rt; set_caps(&rt, &design, &mut pass, 65_536), accepted(65_536));
-    assert_eq!(rt;
-        set_caps(&rt, &design, &mut pass, 1),
-        refused(EditCause::Long, 65_536)
+    let last = set_caps(&rt, &design, &mut pass, 65_536);
+    same(&rt, "the last edit", last, accepted(65_536));
+    replies(
+        &rt,
+        &design,
+        &mut pass,
+        set_cap(1, 0),
+        refused(Long, 65_536),
     );
-    let (version, sinks) = snapshot(&design, &rt, &mut pass)?;
-    assert_eq!(rt; version, 65_536);
-    assert_eq!(rt; numbers(&sinks[0]), (1, 3, 4, 65_535));
-    let outside = Edit::Move { id: 1, x: 0, y: 21 };
-    assert_eq!(rt;
-        send(&rt, &design, &mut pass, outside),
-        refused(EditCause::Outside, 65_536)
-    );
+    let now = listed(&rt, &design, &mut pass, 0)?;
+    same(&rt, "the sinks", now, (65_536, 1, Some((1, 3, 4, 65_535))));
+    let outside = move_to(1, 0, 21);
+    replies(&rt, &design, &mut pass, outside, refused(Outside, 65_536));
     Ok(())
 }
 
 #[test]
 fn a_full_list_takes_no_more(rt: HostRuntime) -> Result<(), Fail> {
     let (design, mut pass) = begin(rt.alloc(), &[sink(1, 3, 4, 5)], &[])?;
-    assert_eq!(rt;
-        add_sinks(&rt, &design, &mut pass, 65_537),
-        accepted(65_535)
-    );
-    let more = Edit::Add {
-        id: 0,
-        x: 1,
-        y: 1,
-        cap: 1,
-    };
-    assert_eq!(rt;
-        send(&rt, &design, &mut pass, more),
-        refused(EditCause::Full, 65_535)
-    );
-    let less = Edit::Remove { id: 40_000 };
-    assert_eq!(rt; send(&rt, &design, &mut pass, less), accepted(65_536));
-    let (version, sinks) = snapshot(&design, &rt, &mut pass)?;
-    assert_eq!(rt; version, 65_536);
-    assert_eq!(rt; sinks.len(), 65_535);
-    assert_eq!(rt; sinks[39_999].id, 40_001);
-    assert_eq!(rt;
-        send(&rt, &design, &mut pass, more),
-        refused(EditCause::Long, 65_536)
-    );
+    let last = add_sinks(&rt, &design, &mut pass, 65_537);
+    same(&rt, "the last sink", last, accepted(65_535));
+    let more = add(0, 1, 1, 1);
+    replies(&rt, &design, &mut pass, more, refused(Full, 65_535));
+    replies(&rt, &design, &mut pass, remove(40_000), accepted(65_536));
+    let now = listed(&rt, &design, &mut pass, 39_999)?;
+    let closed_up = Some((40_001, 7, 7, 3));
+    same(&rt, "the sinks", now, (65_536, 65_535, closed_up));
+    replies(&rt, &design, &mut pass, more, refused(Long, 65_536));
     Ok(())
 }
 
@@ -308,12 +312,7 @@ fn add_nine<R: Wait>(
     let entry = Entry {
         caller,
         line: 13,
-        edit: Edit::Add {
-            id: 9,
-            x: 10,
-            y: 0,
-            cap: 5,
-        },
+        edit: add(9, 10, 0, 5),
     };
     let reply = send_edit(design, rt, &mut pass, entry);
     (reply, pass)
@@ -339,23 +338,36 @@ fn add_beside<R: Threads + Wait + Sync>(
     (one, two, design.join(first, second))
 }
 
+/// The caller of the only entry.
+fn only_caller(history: &[Entry]) -> Option<u32> {
+    match history {
+        [entry] => Some(entry.caller),
+        _ => None,
+    }
+}
+
+/// The caller whose edit was accepted, where the other one was told that the id is known.
+fn accepted_caller(one: EditReply, two: EditReply) -> Option<u32> {
+    let known = refused(Known, 1);
+    if one == accepted(1) && two == known {
+        Some(1)
+    } else if one == known && two == accepted(1) {
+        Some(2)
+    } else {
+        None
+    }
+}
+
 #[test]
 fn one_of_two_threads_adds_a_sink(rt: HostRuntime) -> Result<(), Fail> {
     let (design, pass) = begin(rt.alloc(), &[sink(1, 3, 4, 5)], &[])?;
     let (first, second) = design.split(pass);
     let (one, two, pass) = add_beside(&rt, &design, first, second);
-    let Ok(design) = design.close(pass) else {
-        panic!(rt; "a pass is out")
-    };
-    let (history, sinks) = design.into_lists();
-    assert_eq!(rt; history.len(), 1);
-    assert_eq!(rt; sinks.len(), 2);
-    let known = refused(EditCause::Known, 1);
-    if history[0].caller == 1 {
-        assert_eq!(rt; (one, two), (accepted(1), known));
-    } else {
-        assert_eq!(rt; (one, two), (known, accepted(1)));
-    }
+    let (history, sinks) = closed(&rt, design, pass);
+    let caller = only_caller(&history);
+    assert!(rt; caller.is_some());
+    same(&rt, "who was accepted", accepted_caller(one, two), caller);
+    same(&rt, "sinks", sinks.len(), 2);
     Ok(())
 }
 
@@ -374,16 +386,21 @@ fn drawn<R: Wait>(
     Ok(instance.with_sinks(alloc, sinks)?)
 }
 
+/// How many sinks an instance has, the first of them, the width of its die and its insertion threshold.
+fn told(instance: &Instance) -> (usize, Option<Numbers>, i64, u64) {
+    let sinks = instance.sinks();
+    let first = sinks.first().map(numbers);
+    let threshold = instance.params().insert_at;
+    (sinks.len(), first, instance.die().x2, threshold)
+}
+
 #[test]
 fn a_snapshot_makes_an_instance(rt: HostRuntime) -> Result<(), Fail> {
     let first = instance(rt.alloc(), &[sink(1, 3, 4, 5), sink(2, 6, 8, 9)], &[])?;
     let (design, mut pass) = Design::start(rt.alloc(), &first)?;
-    let less = Edit::Remove { id: 1 };
-    assert_eq!(rt; send(&rt, &design, &mut pass, less), accepted(1));
+    replies(&rt, &design, &mut pass, remove(1), accepted(1));
     let second = drawn(&rt, &design, &mut pass, rt.alloc(), &first)?;
-    assert_eq!(rt; second.sinks().len(), 1);
-    assert_eq!(rt; numbers(&second.sinks()[0]), (2, 6, 8, 9));
-    assert_eq!(rt; second.die().x2, 20);
-    assert_eq!(rt; second.params().insert_at, 100);
+    let expected = (1, Some((2, 6, 8, 9)), 20, 100);
+    same(&rt, "the second instance", told(&second), expected);
     Ok(())
 }

@@ -1,9 +1,10 @@
-//! Trees of a session, whose merges nobody counts.
+//! Trees of a session, whose merges nobody counts, and hands of two callers.
 
 ghost use Rattle.std.specs.Prelude.{◌≡◌, ◌<◌};
+ghost use Rattle.cts_session.specs.Desks.{AreDivisible, AreHandsOf};
 
 use cts_merge::Steps;
-use cts_session::{Drawn, Session, TreeEnd};
+use cts_session::{Desk, Drawn, Hands, Session, TreeEnd};
 use cts_work::Gate;
 use std::alloc::Global;
 use std::marker::Brand;
@@ -36,4 +37,15 @@ pub(crate) fn draw<R: Wait, G: Gate>(
     ensures { session.new.desk ≡ session.old.desk }
 {
     counted::<Brand, R, G>(rt, alloc, Blank::new(1), session, gate)
+}
+
+/// The hands of callers 1 and 2.
+pub(crate) fn split(desk: &Desk, hands: Hands) -> (Hands, Hands)
+    requires own { AreHandsOf desk.now hands }
+    requires share { AreDivisible hands }
+    ensures first { AreHandsOf desk.now result.0 }
+    ensures second { AreHandsOf desk.now result.1 }
+{
+    let (one, two) = Session::of(desk, hands, 1).split(2);
+    (one.hands(), two.hands())
 }

@@ -1,16 +1,26 @@
 //! Small instances, on a die of 20 nm by 20 nm with the source at (0, 0), a wire of 1 µΩ and 1 zF per nm and no
 //! buffer.
 
+ghost use Rattle.std.specs.Prelude.{◌≡◌};
+
 use cts_block::{Block, Kind};
 use cts_geom::Die;
-use cts_instance::{Blocks, Instance, Parts, Sinks, check_instance};
+use cts_instance::{Blocks, Instance, Parts, Sinks, Version, check_instance};
 use cts_units::{Library, Params, Sink, Wire};
 use std::alloc::Global;
 use std::test::Fail;
 
-/// A sink in nm and zF.
-pub(crate) const fn sink(id: u32, x: i64, y: i64, cap: u64) -> Sink {
-    Sink { id, x, y, cap }
+/// A sink in nm and zF, which wants no offset.
+pub(crate) const fn sink(id: u32, x: i64, y: i64, cap: u64) -> Sink
+    ensures { result ≡ record { id = id; x = x; y = y; cap = cap; offset = 0 } }
+{
+    Sink {
+        id,
+        x,
+        y,
+        cap,
+        offset: 0,
+    }
 }
 
 /// A block that no wire crosses, in nm.
@@ -24,9 +34,21 @@ pub(crate) const fn wall(x1: i64, y1: i64, x2: i64, y2: i64) -> Block {
     }
 }
 
+/// A block that no buffer stands in, in nm.
+pub(crate) const fn shade(x1: i64, y1: i64, x2: i64, y2: i64) -> Block {
+    Block {
+        kind: Kind::Buffer,
+        x1,
+        y1,
+        x2,
+        y2,
+    }
+}
+
 /// The parts of an instance of these sinks and blocks.
 fn parts(alloc: Global, sinks: Sinks, blocks: Blocks) -> Parts {
     Parts {
+        version: Version::One,
         die: Die {
             x1: 0,
             y1: 0,

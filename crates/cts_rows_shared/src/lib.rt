@@ -7,6 +7,8 @@
 #[cfg(test)]
 mod callers;
 #[cfg(test)]
+mod compare;
+#[cfg(test)]
 mod deals;
 #[cfg(test)]
 mod designs;
@@ -14,6 +16,8 @@ mod designs;
 mod drawing;
 #[cfg(test)]
 mod instances;
+#[cfg(test)]
+mod leaves;
 #[cfg(test)]
 mod memos;
 #[cfg(test)]

@@ -1,116 +1,99 @@
-//! A memo of leaves on the x axis, over a wire of 1 µΩ and 1 zF per nm and no buffer.
+//! A memo of leaves on the x axis, with 5 zF each.
 
-ghost use Rattle.std.specs.Prelude.{◌≡◌, ◌<◌, ◌≤◌, ◌≤ℤ◌, ◌^◌, pos, IfOk};
-ghost use Rattle.cts_units.specs.Limits.{IsParams};
-ghost use Rattle.cts_merge.specs.Merge.{IsLeaf};
+ghost use Rattle.std.specs.Prelude.{◌≡◌, ◌≤◌, ◌≤ℤ◌, ◌^◌, pos};
 ghost use Rattle.cts_turn.specs.Passes.{share_of};
 ghost use Rattle.cts_memo.specs.Passes.{IsPassOf};
-ghost use Rattle.cts_memo.specs.Sound.{sink_at};
 
+use crate::compare::same;
+use crate::leaves::{begin, closed, key_at, put_leaf};
 use cts_memo::laws::memo_is_shared;
-use cts_memo::{Answer, Key, Memo, MemoOut, MemoPass, PutEnd};
-use cts_merge::{Finished, leaf};
+use cts_memo::{Answer, Memo, MemoOut, MemoPass, PutEnd, Table};
 use cts_turn::Object;
-use cts_units::{Library, Params, Sink, Wire};
-use std::alloc::Global;
+use std::process::Abort;
 use std::sync::Wait;
 use std::test::Fail;
 use std::thread::{Threads, join};
 
-fn params(alloc: Global) -> Params
-    ensures { IsParams result }
-{
-    Params {
-        wire: Wire { r: 1, c: 1 },
-        library: Library::of(Vec::new(alloc)),
-        insert_at: 0,
-    }
-}
-
-fn begin(alloc: Global) -> Result<(Memo, MemoPass), Fail>
-    ensures { IfOk result (λ m. IsPassOf m.0 m.1 × (share_of m.1 ≡ 65536)) }
-{
-    Ok(Memo::start(alloc, &params(alloc))?)
-}
-
-fn key_at(x: i64) -> Key {
-    Key::of_sink(&Sink {
-        id: 7,
-        x,
-        y: 0,
-        cap: 5,
-    })
-}
-
-/// Publishes the leaf of a sink.
-fn put_leaf<R: Wait>(rt: &R, memo: &Memo, pass: &mut MemoPass, x: i64) -> PutEnd
+/// Publishes a leaf with 5 zF.
+fn put<R: Wait>(rt: &R, memo: &Memo, pass: &mut MemoPass, x: i64) -> PutEnd
     requires own { IsPassOf memo.now pass.old }
     requires low { pos 0 ≤ℤ x }
     requires high { x ≤ℤ pos (10 ^ 8) }
     ensures own { IsPassOf memo.now pass.new }
     ensures share { share_of pass.new ≡ share_of pass.old }
 {
-    let finished = leaf(&Sink {
-        id: 0,
-        x,
-        y: 0,
-        cap: 5,
-    });
-    memo.put(rt, pass, Key::Leaf { x, y: 0, cap: 5 }, finished)
+    put_leaf(rt, memo, pass, x, 5)
 }
 
-/// Looks the leaf of a sink up.
-fn ask_leaf<R: Wait>(rt: &R, memo: &Memo, pass: &mut MemoPass, x: i64) -> Option<(u32, Finished)>
+/// The number and the load of a leaf that is looked up.
+fn ask<R: Wait>(rt: &R, memo: &Memo, pass: &mut MemoPass, x: i64) -> Option<(u32, u64)>
     requires own { IsPassOf memo.now pass.old }
     ensures own { IsPassOf memo.now pass.new }
     ensures share { share_of pass.new ≡ share_of pass.old }
 {
-    match memo.ask(rt, pass, Key::Leaf { x, y: 0, cap: 5 }) {
-        Answer::Have { number, finished } => Some((number, finished)),
+    match memo.ask(rt, pass, key_at(x, 5)) {
+        Answer::Have { number, finished } => Some((number, finished.side.load)),
         Answer::Absent => None,
     }
+}
+
+/// Publishes the leaves at 0 and at 10 nm, and asks for the second one before and after.
+fn put_two<R: Wait + Abort>(rt: &R, memo: &Memo, pass: &mut MemoPass)
+    requires own { IsPassOf memo.now pass.old }
+    ensures own { IsPassOf memo.now pass.new }
+{
+    same(rt, "absent at first", ask(rt, memo, pass, 10), None);
+    let first = PutEnd::At { number: 0 };
+    same(rt, "the first leaf", put(rt, memo, pass, 0), first);
+    let second = PutEnd::At { number: 1 };
+    same(rt, "the second leaf", put(rt, memo, pass, 10), second);
+    same(rt, "the first leaf again", put(rt, memo, pass, 0), first);
+    same(rt, "found", ask(rt, memo, pass, 10), Some((1, 5)));
+}
+
+/// A table has two entries, the second of which is the leaf at 10 nm.
+fn has_two<R: Abort>(rt: &R, table: &Table) {
+    same(rt, "entries", table.len(), 2);
+    let second = match table.entry(1) {
+        Some(entry) => Some(entry.key),
+        None => None,
+    };
+    same(rt, "the second key", second, Some(key_at(10, 5)));
+    assert!(rt; table.entry(2).is_none());
 }
 
 #[test]
 fn a_leaf_is_found_again(rt: HostRuntime) -> Result<(), Fail> {
     let (memo, mut pass) = begin(rt.alloc())?;
-    assert!(rt; ask_leaf(&rt, &memo, &mut pass, 10).is_none());
-    assert_eq!(rt;
-        put_leaf(&rt, &memo, &mut pass, 0),
-        PutEnd::At { number: 0 }
-    );
-    assert_eq!(rt;
-        put_leaf(&rt, &memo, &mut pass, 10),
-        PutEnd::At { number: 1 }
-    );
-    assert_eq!(rt;
-        put_leaf(&rt, &memo, &mut pass, 0),
-        PutEnd::At { number: 0 }
-    );
-    let (number, finished) = ask_leaf(&rt, &memo, &mut pass, 10).ok_or("absent")?;
-    assert_eq!(rt; number, 1);
-    assert_eq!(rt; finished.side.load, 5);
-    assert_eq!(rt; memo.params().wire.r, 1);
-    let Ok(table) = memo.close(pass) else {
-        panic!(rt; "a pass is out")
-    };
-    assert_eq!(rt; table.len(), 2);
-    let entry = table.entry(1).ok_or("no entry")?;
-    assert_eq!(rt; entry.key, key_at(10));
-    assert!(rt; table.entry(2).is_none());
+    put_two(&rt, &memo, &mut pass);
+    same(&rt, "the wire", memo.params().wire.r, 1);
+    let table = closed(&rt, memo, pass);
+    has_two(&rt, &table);
     Ok(())
+}
+
+/// Memo and pass, which come back since the other half of the share is out.
+fn still_open<R: Abort>(rt: &R, memo: Memo, pass: MemoPass) -> (Memo, MemoPass)
+    requires { IsPassOf memo pass }
+    ensures memo { result.0 ≡ memo }
+    ensures pass { result.1 ≡ pass }
+{
+    match memo.close(pass) {
+        Ok(_) => panic!(rt; "the second pass is out"),
+        Err(MemoOut { memo, pass, out }) => {
+            same(rt, "half of it", out, 32_768);
+            (memo, pass)
+        }
+    }
 }
 
 #[test]
 fn a_pass_that_is_out_keeps_the_memo_open(rt: HostRuntime) -> Result<(), Fail> {
     let (memo, pass) = begin(rt.alloc())?;
     let (first, second) = memo.split(pass);
-    let Err(MemoOut { memo, pass, out }) = memo.close(first) else {
-        panic!(rt; "the second pass is out")
-    };
-    assert_eq!(rt; out, 32_768);
-    let pass = memo.join(second, pass);
-    assert!(rt; memo.close(pass).is_ok());
+    let (memo, first) = still_open(&rt, memo, first);
+    let pass = memo.join(second, first);
+    closed(&rt, memo, pass);
     Ok(())
 }
 
@@ -122,7 +105,7 @@ fn put_leaves<R: Wait>(rt: &R, memo: &Memo, mut pass: MemoPass, count: u32) -> M
     ensures share { share_of result ≡ share_of pass }
 {
     for x in 0..count {
-        put_leaf(rt, memo, &mut pass, x as i64);
+        put(rt, memo, &mut pass, x as i64);
     }
     pass
 }
@@ -152,26 +135,27 @@ fn two_threads_share_their_entries(rt: HostRuntime) -> Result<(), Fail> {
     let (memo, pass) = begin(rt.alloc())?;
     let (first, second) = memo.split(pass);
     let pass = put_beside(&rt, &memo, first, second);
-    let Ok(table) = memo.close(pass) else {
-        panic!(rt; "a pass is out")
-    };
-    assert_eq!(rt; table.len(), 100);
+    same(&rt, "entries", closed(&rt, memo, pass).len(), 100);
     Ok(())
+}
+
+/// A full memo finds what is there, and takes no more.
+fn answers_though_full<R: Wait + Abort>(rt: &R, memo: &Memo, pass: &mut MemoPass)
+    requires own { IsPassOf memo.now pass.old }
+    ensures own { IsPassOf memo.now pass.new }
+{
+    let new = put(rt, memo, pass, 99_999_999);
+    same(rt, "a new leaf", new, PutEnd::Full);
+    same(rt, "absent", ask(rt, memo, pass, 99_999_999), None);
+    let known = put(rt, memo, pass, 77);
+    same(rt, "a known leaf", known, PutEnd::At { number: 77 });
 }
 
 #[test]
 fn a_full_memo_still_answers(rt: HostRuntime) -> Result<(), Fail> {
     let (memo, pass) = begin(rt.alloc())?;
     let mut pass = put_leaves(&rt, &memo, pass, 1 << 21);
-    assert_eq!(rt; put_leaf(&rt, &memo, &mut pass, 99_999_999), PutEnd::Full);
-    assert!(rt; ask_leaf(&rt, &memo, &mut pass, 99_999_999).is_none());
-    assert_eq!(rt;
-        put_leaf(&rt, &memo, &mut pass, 77),
-        PutEnd::At { number: 77 }
-    );
-    let Ok(table) = memo.close(pass) else {
-        panic!(rt; "a pass is out")
-    };
-    assert_eq!(rt; table.len(), 2_097_152);
+    answers_though_full(&rt, &memo, &mut pass);
+    same(&rt, "entries", closed(&rt, memo, pass).len(), 2_097_152);
     Ok(())
 }

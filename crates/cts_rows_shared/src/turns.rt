@@ -150,32 +150,41 @@ impl Object for Door {
 }
 
 fn begin(alloc: Global) -> Result<(Turn<Numbers>, Pass<Numbers>), Fail>
-    ensures { IfOk result (λ t. IsPassOf ⟦<Numbers as Object>⟧ t.0 t.1 × (made_by t.1 ≡ 0) × (share_of t.1 ≡ 65536)) }
+    ensures own { IfOk result (λ t. IsPassOf ⟦<Numbers as Object>⟧ t.0 t.1) }
+    ensures made { IfOk result (λ t. made_by t.1 ≡ 0) }
+    ensures share { IfOk result (λ t. share_of t.1 ≡ 65536) }
 {
-    Ok(Turn::start(
-        alloc,
-        Numbers {
-            items: Vec::new(alloc),
-        },
-    )?)
+    let numbers = Numbers {
+        items: Vec::new(alloc),
+    };
+    Ok(Turn::start(alloc, numbers)?)
 }
 
-/// The place of a number that was appended.
-fn append<R: Wait>(
+/// The place of a number that is appended.
+fn append<R: Wait + Abort>(
     rt: &R,
     turn: &Turn<Numbers>,
     pass: &mut Pass<Numbers>,
     number: u8,
-) -> Option<u64>
+) -> u64
     requires own { IsPassOf ⟦<Numbers as Object>⟧ turn.now pass.old }
     ensures own { IsPassOf ⟦<Numbers as Object>⟧ turn.now pass.new }
     ensures share { share_of pass.new ≡ share_of pass.old }
-    ensures made { IfSome result (λ at. made_by pass.new ≡ made_by pass.old + 1) }
+    ensures made { made_by pass.new ≡ made_by pass.old + 1 }
 {
     match turn.call(rt, pass, Ask::Append(number)) {
-        Reply::At(at) => Some(at),
-        _ => None,
+        Reply::At(at) => at,
+        _ => panic!(rt; "the list is full"),
     }
+}
+
+/// Whether the list takes no more.
+fn is_full<R: Wait>(rt: &R, turn: &Turn<Numbers>, pass: &mut Pass<Numbers>) -> bool
+    requires own { IsPassOf ⟦<Numbers as Object>⟧ turn.now pass.old }
+    ensures own { IsPassOf ⟦<Numbers as Object>⟧ turn.now pass.new }
+    ensures share { share_of pass.new ≡ share_of pass.old }
+{
+    matches!(turn.call(rt, pass, Ask::Append(9)), Reply::Full)
 }
 
 /// The list.
@@ -193,38 +202,59 @@ fn read<R: Wait>(rt: &R, turn: &Turn<Numbers>, pass: &mut Pass<Numbers>) -> Opti
 }
 
 /// Appends the numbers, one after the other.
-fn append_all<R: Wait>(
+fn append_all<R: Wait + Abort>(
     rt: &R,
     turn: &Turn<Numbers>,
     mut pass: Pass<Numbers>,
     numbers: &[u8],
-) -> Option<Pass<Numbers>>
-    requires own { IsPassOf ⟦<Numbers as Object>⟧ turn.now pass }
-    ensures own { IfSome result (λ p. IsPassOf ⟦<Numbers as Object>⟧ turn.now p) }
+) -> Pass<Numbers>
+    requires { IsPassOf ⟦<Numbers as Object>⟧ turn.now pass }
+    ensures { IsPassOf ⟦<Numbers as Object>⟧ turn.now result }
 {
     for number in numbers {
-        append(rt, turn, &mut pass, *number)?;
+        append(rt, turn, &mut pass, *number);
     }
-    Some(pass)
+    pass
 }
 
 /// Two threads append, each its own numbers.
-fn append_beside<R: Threads + Wait + Sync>(
+fn append_beside<R: Threads + Wait + Abort + Sync>(
     rt: &R,
     turn: &Turn<Numbers>,
     first: Pass<Numbers>,
     second: Pass<Numbers>,
-) -> Option<Pass<Numbers>>
+) -> Pass<Numbers>
     requires first { IsPassOf ⟦<Numbers as Object>⟧ turn.now first }
     requires second { IsPassOf ⟦<Numbers as Object>⟧ turn.now second }
-    ensures own { IfSome result (λ p. IsPassOf ⟦<Numbers as Object>⟧ turn.now p) }
+    ensures { IsPassOf ⟦<Numbers as Object>⟧ turn.now result }
 {
     let (first, second) = join(
         rt,
         || append_all(rt, turn, first, &[1, 2, 3, 4]),
         || append_all(rt, turn, second, &[11, 12, 13, 14]),
     );
-    Some(turn.join(first?, second?))
+    turn.join(first, second)
+}
+
+/// The numbers of a turn whose passes are all joined.
+fn closed<R: Abort>(rt: &R, turn: Turn<Numbers>, pass: Pass<Numbers>) -> Vec<u8>
+    requires { IsPassOf ⟦<Numbers as Object>⟧ turn pass }
+{
+    match turn.close(pass) {
+        Ok(numbers) => numbers.items,
+        Err(_) => panic!(rt; "a pass is out"),
+    }
+}
+
+/// The numbers from the least one up to the end, in their order.
+fn those_from(alloc: Global, numbers: &[u8], least: u8, end: u8) -> Result<Vec<u8>, Fail> {
+    let mut found = Vec::new(alloc);
+    for number in numbers {
+        if least <= *number && *number < end {
+            found.push(*number)?;
+        }
+    }
+    Ok(found)
 }
 
 /// Comes to the door, and calls.
@@ -273,21 +303,39 @@ fn a_pass_that_is_out_keeps_the_turn_open(rt: HostRuntime) -> Result<(), Fail> {
     Ok(())
 }
 
+/// Appends 3 and 5.
+fn append_two<R: Wait + Abort>(rt: &R, turn: &Turn<Numbers>, pass: &mut Pass<Numbers>)
+    requires own { IsPassOf ⟦<Numbers as Object>⟧ turn.now pass.old }
+    ensures own { IsPassOf ⟦<Numbers as Object>⟧ turn.now pass.new }
+    ensures share { share_of pass.new ≡ share_of pass.old }
+    ensures made { made_by pass.new ≡ made_by pass.old + 2 }
+{
+    assert_eq!(rt; append(rt, turn, pass, 3), 0);
+    assert_eq!(rt; append(rt, turn, pass, 5), 1);
+}
+
+/// The list that a pass reads is 3 and 5.
+fn reads_two<R: Wait + Abort>(rt: &R, turn: &Turn<Numbers>, pass: &mut Pass<Numbers>)
+    requires own { IsPassOf ⟦<Numbers as Object>⟧ turn.now pass.old }
+    ensures own { IsPassOf ⟦<Numbers as Object>⟧ turn.now pass.new }
+    ensures share { share_of pass.new ≡ share_of pass.old }
+    ensures made { made_by pass.new ≡ made_by pass.old }
+{
+    let list = read(rt, turn, pass);
+    assert_eq!(rt; list.as_deref(), Some([3, 5].as_slice()));
+}
+
 #[test]
 fn the_second_pass_reads_what_the_first_one_made(rt: HostRuntime) -> Result<(), Fail> {
     let (turn, mut pass) = begin(rt.alloc())?;
-    assert_eq!(rt; append(&rt, &turn, &mut pass, 3).ok_or("full")?, 0);
-    assert_eq!(rt; append(&rt, &turn, &mut pass, 5).ok_or("full")?, 1);
+    append_two(&rt, &turn, &mut pass);
     let (first, mut second) = turn.split(pass);
-    let list = read(&rt, &turn, &mut second).ok_or("no memory")?;
-    assert_eq!(rt; list.as_slice(), [3, 5].as_slice());
+    reads_two(&rt, &turn, &mut second);
     has_made(&second, 0);
     has_made(&first, 2);
     let pass = turn.join(first, second);
-    let Ok(numbers) = turn.close(pass) else {
-        panic!(rt; "a pass is out")
-    };
-    assert_eq!(rt; numbers.items.as_slice(), [3, 5].as_slice());
+    let numbers = closed(&rt, turn, pass);
+    assert_eq!(rt; numbers.as_slice(), [3, 5].as_slice());
     Ok(())
 }
 
@@ -295,23 +343,26 @@ fn the_second_pass_reads_what_the_first_one_made(rt: HostRuntime) -> Result<(), 
 fn each_thread_finds_its_numbers_in_its_order(rt: HostRuntime) -> Result<(), Fail> {
     let (turn, pass) = begin(rt.alloc())?;
     let (first, second) = turn.split(pass);
-    let mut pass = append_beside(&rt, &turn, first, second).ok_or("full")?;
-    assert!(rt; matches!(turn.call(&rt, &mut pass, Ask::Append(9)), Reply::Full));
-    let Ok(numbers) = turn.close(pass) else {
-        panic!(rt; "a pass is out")
-    };
-    assert_eq!(rt; numbers.items.len(), 8);
-    let mut low = Vec::new(rt.alloc());
-    let mut high = Vec::new(rt.alloc());
-    for number in &numbers.items {
-        if *number < 10 {
-            low.push(*number)?;
-        } else {
-            high.push(*number)?;
-        }
-    }
-    assert_eq!(rt; low.as_slice(), [1, 2, 3, 4].as_slice());
-    assert_eq!(rt; high.as_slice(), [11, 12, 13, 14].as_slice());
+    let mut pass = append_beside(&rt, &turn, first, second);
+    assert!(rt; is_full(&rt, &turn, &mut pass));
+    let numbers = closed(&rt, turn, pass);
+    assert_eq!(rt; numbers.len(), 8);
+    are_found(&rt, rt.alloc(), &numbers, 0, 10, &[1, 2, 3, 4])?;
+    are_found(&rt, rt.alloc(), &numbers, 10, 255, &[11, 12, 13, 14])?;
+    Ok(())
+}
+
+/// The numbers from the least one up to the end are these, in this order.
+fn are_found<R: Abort>(
+    rt: &R,
+    alloc: Global,
+    numbers: &[u8],
+    least: u8,
+    end: u8,
+    expected: &[u8],
+) -> Result<(), Fail> {
+    let found = those_from(alloc, numbers, least, end)?;
+    assert_eq!(rt; found.as_slice(), expected);
     Ok(())
 }
 

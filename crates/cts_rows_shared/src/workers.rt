@@ -1,22 +1,24 @@
 //! Sinks on a line, built by many workers, with gates that count pieces and hold them up.
 
-ghost use Rattle.std.specs.Prelude.{◌≡◌, ◌<◌, ◌≤◌, ◌≤ℤ◌, ◌^◌, length, pos, IfOk};
+ghost use Rattle.std.specs.Prelude.{◌≡◌, ◌<◌, ◌≤◌, length, IfOk};
 ghost use Rattle.cts_topo.specs.Shape.{IsShapeOver};
 ghost use Rattle.cts_topo.specs.Sinks.{AreSinks};
 ghost use Rattle.cts_units.specs.Limits.{IsParams};
 ghost use Rattle.cts_up.specs.Sinks.{AreSinksInRange, IsSinkInRange};
-ghost use Rattle.cts_turn.specs.Passes.{share_of};
-ghost use Rattle.cts_memo.specs.Passes.{IsPassOf, params_of};
 
+use crate::compare::same;
+use crate::instances::sink;
+use crate::leaves::{closed, params};
 use cts_memo::Memo;
 use cts_merge::{Finished, Steps};
 use cts_topo::{Shape, topology};
 use cts_turn::Object;
-use cts_units::{Library, Params, Sink, Wire};
+use cts_units::{Params, Sink};
 use cts_up::{UpEnd, up};
 use cts_work::{Gate, OpenGate, build_all};
 use std::alloc::{AllocError, Global};
 use std::marker::Brand;
+use std::process::Abort;
 use std::sync::Wait;
 use std::sync::atomic::{AtomicU64, Ordering};
 use std::sync::ledger::{Blank, Ledger};
@@ -31,6 +33,21 @@ const LIMIT: u32 = 100_000_000;
 struct Pieces {
     count: AtomicU64,
     numbers: AtomicU64,
+}
+
+impl Pieces {
+    fn new() -> Pieces {
+        Pieces {
+            count: AtomicU64::new(0),
+            numbers: AtomicU64::new(0),
+        }
+    }
+
+    /// How many pieces came, and a bit for each number.
+    fn counted(&self) -> (u64, u64) {
+        let count = self.count.load(Ordering::SeqCst);
+        (count, self.numbers.load(Ordering::SeqCst))
+    }
 }
 
 impl Gate for Pieces {
@@ -48,6 +65,21 @@ impl Gate for Pieces {
 struct Meeting {
     entered: AtomicU64,
     late: AtomicU64,
+}
+
+impl Meeting {
+    fn new() -> Meeting {
+        Meeting {
+            entered: AtomicU64::new(0),
+            late: AtomicU64::new(0),
+        }
+    }
+
+    /// How many pieces entered, and how many did not meet another.
+    fn counted(&self) -> (u64, u64) {
+        let entered = self.entered.load(Ordering::SeqCst);
+        (entered, self.late.load(Ordering::SeqCst))
+    }
 }
 
 impl Gate for Meeting {
@@ -94,12 +126,7 @@ fn sink_on_line(number: u32) -> Sink
     ensures id { result.id ≡ number }
     ensures range { IsSinkInRange result }
 {
-    Sink {
-        id: number,
-        x: number as i64,
-        y: 0,
-        cap: 5 + (number % 7) as u64,
-    }
+    sink(number, number as i64, 0, 5 + (number % 7) as u64)
 }
 
 /// So many sinks on a line, 1 nm apart, with 5 to 11 zF.
@@ -114,17 +141,6 @@ fn line(alloc: Global, count: u32) -> Result<Vec<Sink>, AllocError>
         sinks.push(sink_on_line(number))?;
     }
     Ok(sinks)
-}
-
-/// A wire of 1 µΩ and 1 zF per nm and no buffer.
-fn params(alloc: Global) -> Params
-    ensures { IsParams result }
-{
-    Params {
-        wire: Wire { r: 1, c: 1 },
-        library: Library::of(Vec::new(alloc)),
-        insert_at: 0,
-    }
 }
 
 /// The plan by one thread, without a memo.
@@ -170,8 +186,33 @@ fn are_same(a: &[Finished], b: &[Finished]) -> bool {
         })
 }
 
+/// Whether workers make this plan, and publish each node of it.
+fn make<R: Threads + Wait + Abort + Sync, G: Gate>(
+    rt: &R,
+    alloc: Global,
+    gate: &G,
+    params: &Params,
+    sinks: &[Sink],
+    shape: &Shape,
+    workers: u32,
+    expected: &[Finished],
+) -> Result<bool, Fail>
+    requires one { 1 ≤ workers }
+    requires most { workers ≤ 64 }
+    requires params { IsParams params.now }
+    requires sinks { AreSinksInRange sinks.now }
+    requires shape { IsShapeOver (length sinks.now) shape.now }
+{
+    let (memo, pass) = Memo::start(alloc, params)?;
+    let (plan, pass) = build_all(rt, alloc, &memo, pass, gate, sinks, shape, workers);
+    let share = pass.share();
+    let entries = closed(rt, memo, pass).len();
+    let are_published = share == 65_536 && entries + 1 == 2 * sinks.len() as u64;
+    Ok(are_published && are_same(&plan?, expected))
+}
+
 /// Whether workers make the plan that one thread makes, of so many sinks on a line, and publish each node.
-fn agree<R: Threads + Wait + Sync, G: Gate>(
+fn agree<R: Threads + Wait + Abort + Sync, G: Gate>(
     rt: &R,
     alloc: Global,
     gate: &G,
@@ -186,49 +227,34 @@ fn agree<R: Threads + Wait + Sync, G: Gate>(
     let params = params(alloc);
     let sinks = line(alloc, count)?;
     let shape = topology(alloc, &sinks)?;
-    let (memo, pass) = Memo::start(alloc, &params)?;
-    let (plan, pass) = build_all(rt, alloc, &memo, pass, gate, &sinks, &shape, workers);
     let alone = plan_alone(alloc, &params, &sinks, &shape)?;
-    let whole = pass.share() == 65_536;
-    let Ok(table) = memo.close(pass) else {
-        return Ok(false);
-    };
-    Ok(whole && are_same(&plan?, &alone) && table.len() + 1 == 2 * count as u64)
+    make(rt, alloc, gate, &params, &sinks, &shape, workers, &alone)
 }
 
 #[test]
 fn two_workers_build_eight_pieces_of_two_sinks(rt: HostRuntime) -> Result<(), Fail> {
-    let gate = Pieces {
-        count: AtomicU64::new(0),
-        numbers: AtomicU64::new(0),
-    };
-    assert!(rt; agree(&rt, rt.alloc(), &gate, 16, 2)?);
-    assert_eq!(rt; gate.count.load(Ordering::SeqCst), 8);
-    assert_eq!(rt; gate.numbers.load(Ordering::SeqCst), 0xff);
+    let gate = Pieces::new();
+    let agree = agree(&rt, rt.alloc(), &gate, 16, 2)?;
+    same(&rt, "the same plan", agree, true);
+    same(&rt, "eight pieces", gate.counted(), (8, 0xff));
     Ok(())
 }
 
 #[test]
 fn sixty_four_workers_build_each_leaf(rt: HostRuntime) -> Result<(), Fail> {
-    let gate = Pieces {
-        count: AtomicU64::new(0),
-        numbers: AtomicU64::new(0),
-    };
-    assert!(rt; agree(&rt, rt.alloc(), &gate, 16, 64)?);
-    assert_eq!(rt; gate.count.load(Ordering::SeqCst), 16);
-    assert_eq!(rt; gate.numbers.load(Ordering::SeqCst), 0xffff);
+    let gate = Pieces::new();
+    let agree = agree(&rt, rt.alloc(), &gate, 16, 64)?;
+    same(&rt, "the same plan", agree, true);
+    same(&rt, "sixteen pieces", gate.counted(), (16, 0xffff));
     Ok(())
 }
 
 #[test]
 fn two_workers_meet(rt: HostRuntime) -> Result<(), Fail> {
-    let gate = Meeting {
-        entered: AtomicU64::new(0),
-        late: AtomicU64::new(0),
-    };
-    assert!(rt; agree(&rt, rt.alloc(), &gate, 64, 2)?);
-    assert_eq!(rt; gate.entered.load(Ordering::SeqCst), 2);
-    assert_eq!(rt; gate.late.load(Ordering::SeqCst), 0);
+    let gate = Meeting::new();
+    let agree = agree(&rt, rt.alloc(), &gate, 64, 2)?;
+    same(&rt, "the same plan", agree, true);
+    same(&rt, "both came, none late", gate.counted(), (2, 0));
     Ok(())
 }
 
@@ -238,14 +264,16 @@ fn pieces_may_be_held_up_in_any_order(rt: HostRuntime) -> Result<(), Fail> {
         last: 15,
         entered: AtomicU64::new(0),
     };
-    assert!(rt; agree(&rt, rt.alloc(), &gate, 64, 4)?);
+    let agree = agree(&rt, rt.alloc(), &gate, 64, 4)?;
+    same(&rt, "the same plan", agree, true);
     Ok(())
 }
 
 #[test]
 fn every_count_of_workers_makes_the_same_plan(rt: HostRuntime) -> Result<(), Fail> {
     for workers in 1..65u32 {
-        assert!(rt; agree(&rt, rt.alloc(), &OpenGate, 100, workers)?);
+        let agree = agree(&rt, rt.alloc(), &OpenGate, 100, workers)?;
+        assert!(rt; agree, "with {workers} workers");
     }
     Ok(())
 }

@@ -1,77 +1,114 @@
 //! Sources and sinks of the host and in memory, whole texts, and lines.
 
-ghost use Rattle.std.specs.Prelude.{◌≡◌, ◌++◌, codes, Ok, Err};
+ghost use Rattle.std.specs.Prelude.{◌≡◌, ◌++◌, ◌<◌, ◌^◌, codes, Ok, Err};
 ghost use Rattle.cts_io.specs.Text.{Puts, Writes};
 
 use cts_io::{
-    ByteSink, HostSink, HostSource, Lines, MemSink, MemSource, ReadEnd, SinkBuffer, WriteEnd,
-    read_all, write_all,
+    ByteSink, ByteSource, HostSink, HostSource, Lines, MemSink, MemSource, ReadEnd, SinkBuffer,
+    WriteEnd, read_all, write_all,
 };
+use std::alloc::Global;
 use std::io;
 use std::io::{ErrorKind, Read, Write};
+use std::process::Abort;
 use std::test::Fail;
 
 const TEXT: &[u8] = b"cts 1\ndie 0 0 20 20\nsource 0 0 0\nwire 1 1\n";
 
+/// A source of the text, which fails at these calls and gives at least 1 and at most `most` bytes a call.
+fn source(alloc: Global, failing: &[u64], most: usize) -> Result<MemSource, Fail> {
+    let bytes = Vec::from_slice(alloc, TEXT)?;
+    Ok(MemSource::new(bytes, failing.to_vec(alloc)?, most.max(1)))
+}
+
+/// A sink with room for so many bytes, which fails at these calls and takes at least 1 and at most `most` bytes a call.
+fn sink(alloc: Global, room: usize, failing: &[u64], most: usize) -> Result<MemSink, Fail> {
+    let failing = failing.to_vec(alloc)?;
+    Ok(MemSink::new(alloc, room, failing, most.max(1))?)
+}
+
+/// Compares bytes.
+fn are(rt: &impl Abort, found: &[u8], want: &[u8]) {
+    assert_eq!(rt; found, want);
+}
+
+/// Compares counts of bytes or calls.
+fn is(rt: &impl Abort, found: u64, want: u64) {
+    assert_eq!(rt; found, want);
+}
+
+/// Whether a source is read whole, or why not.
+fn end_of<S: ByteSource>(alloc: Global, source: &mut S, limit: usize) -> Option<ReadEnd>
+    requires { limit < 2 ^ 32 }
+{
+    read_all(alloc, source, limit).err()
+}
+
+/// Compares how many calls it takes to read the text.
+fn is_read_in(rt: &impl Abort, alloc: Global, most: usize, calls: u64) -> Result<(), Fail> {
+    let mut source = source(alloc, &[], most)?;
+    let all = read_all(alloc, &mut source, 42)?;
+    are(rt, all.as_slice(), TEXT);
+    is(rt, source.calls(), calls);
+    Ok(())
+}
+
 #[test]
 fn reads_all(rt: HostRuntime) -> Result<(), Fail> {
-    for most in [1, 2, 7, 42, 1000] {
-        let bytes = Vec::from_slice(rt.alloc(), TEXT)?;
-        let mut source = MemSource::new(bytes, Vec::new(rt.alloc()), most);
-        let all = read_all(rt.alloc(), &mut source, 42)?;
-        assert_eq!(rt; all.as_slice(), TEXT);
-        assert_eq!(rt;
-            source.calls(),
-            42_usize.div_ceil(most) as u64 + 1,
-            "at {most}"
-        );
-    }
+    // The last call of each finds the end.
+    is_read_in(&rt, rt.alloc(), 1, 43)?;
+    is_read_in(&rt, rt.alloc(), 2, 22)?;
+    is_read_in(&rt, rt.alloc(), 7, 7)?;
+    is_read_in(&rt, rt.alloc(), 42, 2)?;
+    is_read_in(&rt, rt.alloc(), 1000, 2)
+}
+
+/// Compares what is left of a source in memory.
+fn rest_is(
+    rt: &impl Abort,
+    alloc: Global,
+    source: &mut MemSource,
+    want: &[u8],
+) -> Result<(), Fail> {
+    let rest = read_all(alloc, source, 42)?;
+    are(rt, rest.as_slice(), want);
     Ok(())
 }
 
 #[test]
 fn tells_why_not_all_was_read(rt: HostRuntime) -> Result<(), Fail> {
-    let bytes = Vec::from_slice(rt.alloc(), TEXT)?;
-    let mut source = MemSource::new(bytes, Vec::new(rt.alloc()), 7);
-    let end = read_all(rt.alloc(), &mut source, 41);
-    assert!(rt; matches!(end, Err(ReadEnd::TooLong)));
-    assert_eq!(rt; source.calls(), 6);
-
+    let mut long = source(rt.alloc(), &[], 7)?;
+    let end = end_of(rt.alloc(), &mut long, 41);
+    assert!(rt; matches!(end, Some(ReadEnd::TooLong)));
+    is(&rt, long.calls(), 6);
     // The third read fails, and a later call goes on behind the first two.
-    let bytes = Vec::from_slice(rt.alloc(), TEXT)?;
-    let mut source = MemSource::new(bytes, vec![in rt.alloc(); 2]?, 7);
-    let end = read_all(rt.alloc(), &mut source, 42);
-    assert!(rt; matches!(end, Err(ReadEnd::ReadFault)));
-    assert_eq!(rt; source.calls(), 3);
-    let rest = read_all(rt.alloc(), &mut source, 42)?;
-    assert_eq!(rt;
-        rest.as_slice(),
-        b"20 20\nsource 0 0 0\nwire 1 1\n".as_slice()
-    );
-    Ok(())
+    let mut failing = source(rt.alloc(), &[2], 7)?;
+    let end = end_of(rt.alloc(), &mut failing, 42);
+    assert!(rt; matches!(end, Some(ReadEnd::ReadFault)));
+    is(&rt, failing.calls(), 3);
+    let rest = b"20 20\nsource 0 0 0\nwire 1 1\n";
+    rest_is(&rt, rt.alloc(), &mut failing, rest.as_slice())
+}
+
+/// Compares how much of the text a sink takes, and what it holds then.
+fn is_written(rt: &impl Abort, mut sink: MemSink, written: usize) {
+    let count = match write_all(&mut sink, TEXT) {
+        Ok(()) => TEXT.len(),
+        Err(end) => end.written(),
+    };
+    is(rt, count as u64, written as u64);
+    are(rt, sink.bytes(), TEXT.get(..written).unwrap_or(b"none"));
 }
 
 #[test]
 fn writes_all(rt: HostRuntime) -> Result<(), Fail> {
-    // Room, the call that fails, the most bytes a write takes, and how many bytes are written.
-    for (room, failing, most, written) in [
-        (42, 9, 7, 42),
-        (50, 1, 7, 7),
-        (5, 9, 7, 5),
-        (42, 0, 7, 0),
-    ] {
-        let failing = vec![in rt.alloc(); failing]?;
-        let mut sink = MemSink::new(rt.alloc(), room, failing, most)?;
-        match write_all(&mut sink, TEXT) {
-            Ok(()) => assert_eq!(rt; written, TEXT.len()),
-            Err(end) => assert_eq!(rt; written, end.written()),
-        }
-        assert!(rt; written <= TEXT.len());
-        assert_eq!(rt; sink.bytes(), &TEXT[..written]);
-    }
-    let mut sink = MemSink::new(rt.alloc(), 0, Vec::new(rt.alloc()), 1)?;
-    write_all(&mut sink, b"")?;
-    assert_eq!(rt; sink.calls(), 0);
+    is_written(&rt, sink(rt.alloc(), 42, &[9], 7)?, 42);
+    is_written(&rt, sink(rt.alloc(), 50, &[1], 7)?, 7);
+    is_written(&rt, sink(rt.alloc(), 5, &[9], 7)?, 5);
+    is_written(&rt, sink(rt.alloc(), 42, &[0], 7)?, 0);
+    let mut none = sink(rt.alloc(), 0, &[], 1)?;
+    write_all(&mut none, b"")?;
+    is(&rt, none.calls(), 0);
     Ok(())
 }
 
@@ -128,56 +165,60 @@ fn writes_whole_over_short_writes(rt: HostRuntime) -> Result<(), Fail> {
     };
     let mut sink = HostSink::new(&mut device);
     write_all(&mut sink, TEXT)?;
-    assert_eq!(rt; device.calls, 14);
-    assert_eq!(rt; held.as_slice(), TEXT);
+    is(&rt, u64::from(device.calls), 14);
+    are(&rt, held.as_slice(), TEXT);
     Ok(())
+}
+
+/// Bytes of a prime period, so that no byte of a block stands for that of another one.
+fn long_text(alloc: Global) -> Result<Vec<u8>, Fail> {
+    let mut bytes = Vec::with_capacity(alloc, 200_000)?;
+    for place in 0..200_000u32 {
+        bytes.push((place % 251) as u8)?;
+    }
+    Ok(bytes)
+}
+
+/// What a source of the host reads of these bytes.
+fn read_from_the_host(alloc: Global, mut bytes: &[u8], limit: usize) -> Result<Vec<u8>, Fail>
+    requires { limit < 2 ^ 32 }
+{
+    let mut source = HostSource::new(&mut bytes);
+    Ok(read_all(alloc, &mut source, limit)?)
 }
 
 #[test]
 fn reads_whole_over_many_blocks(rt: HostRuntime) -> Result<(), Fail> {
-    // A prime period, so that no byte of a block stands for that of another one.
-    let mut bytes = Vec::with_capacity(rt.alloc(), 200_000)?;
-    for place in 0..200_000u32 {
-        bytes.push((place % 251) as u8)?;
-    }
-    let mut text = bytes.as_slice();
-    let mut source = HostSource::new(&mut text);
-    let all = read_all(rt.alloc(), &mut source, 200_000)?;
-    assert_eq!(rt; all.len(), 200_000);
+    let bytes = long_text(rt.alloc())?;
+    let all = read_from_the_host(rt.alloc(), &bytes, 200_000)?;
+    is(&rt, all.len() as u64, 200_000);
     assert!(rt; all.as_slice() == bytes.as_slice());
     Ok(())
 }
 
+/// Compares what happens at a device that fails, and at one that takes nothing.
+fn fails_at_once(rt: &impl Abort, is_idle: bool) {
+    let mut device = Broken { is_idle };
+    let mut sink = HostSink::new(&mut device);
+    let end = write_all(&mut sink, TEXT);
+    assert!(rt; matches!(end, Err(WriteEnd::WriteFault { written: 0 })));
+}
+
 #[test]
 fn reads_and_writes_the_host(rt: HostRuntime) -> Result<(), Fail> {
-    let mut text = TEXT;
-    let mut source = HostSource::new(&mut text);
-    let all = read_all(rt.alloc(), &mut source, 1000)?;
-    assert_eq!(rt; all.as_slice(), TEXT);
+    let all = read_from_the_host(rt.alloc(), TEXT, 1000)?;
+    are(&rt, all.as_slice(), TEXT);
 
     let mut held = Vec::new(rt.alloc());
     let mut sink = HostSink::new(&mut held);
     write_all(&mut sink, TEXT)?;
-    assert_eq!(rt; held.as_slice(), TEXT);
+    are(&rt, held.as_slice(), TEXT);
 
     let mut device = Broken { is_idle: false };
-    let mut source = HostSource::new(&mut device);
-    assert!(rt;
-        matches!(
-            read_all(rt.alloc(), &mut source, 9),
-            Err(ReadEnd::ReadFault)
-        )
-    );
-    for is_idle in [false, true] {
-        let mut device = Broken { is_idle };
-        let mut sink = HostSink::new(&mut device);
-        assert!(rt;
-            matches!(
-                write_all(&mut sink, TEXT),
-                Err(WriteEnd::WriteFault { written: 0 })
-            )
-        );
-    }
+    let end = end_of(rt.alloc(), &mut HostSource::new(&mut device), 9);
+    assert!(rt; matches!(end, Some(ReadEnd::ReadFault)));
+    fails_at_once(&rt, false);
+    fails_at_once(&rt, true);
     Ok(())
 }
 
@@ -213,31 +254,67 @@ fn write_many(sink: &mut MemSink, long: &[u8]) -> Result<(), WriteEnd> {
     out.finish(sink)
 }
 
+/// Writes the many pieces to a sink that fails at these calls, compares how many bytes it takes in how many calls, and
+/// tells the end.
+fn end_of_many(
+    rt: &impl Abort,
+    alloc: Global,
+    failing: &[u64],
+    written: u64,
+    calls: u64,
+) -> Result<Result<(), WriteEnd>, Fail> {
+    let long = vec![in alloc; b'x'; 160_000]?;
+    let mut sink = sink(alloc, 496_000, failing, 1_000_000)?;
+    let end = write_many(&mut sink, &long);
+    is(rt, sink.bytes().len() as u64, written);
+    is(rt, sink.calls(), calls);
+    Ok(end)
+}
+
 #[test]
 fn writes_through_a_buffer(rt: HostRuntime) -> Result<(), Fail> {
-    let mut sink = MemSink::new(rt.alloc(), 14, Vec::new(rt.alloc()), 3)?;
-    write_lines(&mut sink, b"wire", b"1")?;
-    assert_eq!(rt; sink.bytes(), b"wire 1\n1 wire\n".as_slice());
-
-    let long = vec![in rt.alloc(); b'x'; 160_000]?;
-    let mut sink = MemSink::new(rt.alloc(), 496_000, Vec::new(rt.alloc()), 1_000_000)?;
-    write_many(&mut sink, &long)?;
-    assert_eq!(rt; sink.bytes().len(), 496_000);
-    assert_eq!(rt; sink.calls(), 7);
-
-    let failing = vec![in rt.alloc(); 2]?;
-    let mut sink = MemSink::new(rt.alloc(), 496_000, failing, 1_000_000)?;
-    let end = write_many(&mut sink, &long);
+    let mut small = sink(rt.alloc(), 14, &[], 3)?;
+    write_lines(&mut small, b"wire", b"1")?;
+    are(&rt, small.bytes(), b"wire 1\n1 wire\n");
+    end_of_many(&rt, rt.alloc(), &[], 496_000, 7)??;
+    let end = end_of_many(&rt, rt.alloc(), &[2], 131_040, 3)?;
     assert!(rt; matches!(end, Err(WriteEnd::WriteFault { written: 131_040 })));
-    assert_eq!(rt; sink.bytes().len(), 131_040);
-    assert_eq!(rt; sink.calls(), 3);
+    Ok(())
+}
+
+/// The lines of a text, which have the numbers from 7 on, with a bar behind each.
+fn barred(rt: &impl Abort, alloc: Global, lines: &mut Lines) -> Result<Vec<u8>, Fail> {
+    let mut barred = Vec::new(alloc);
+    for number in 7..10 {
+        if let Some((at, line)) = lines.next() {
+            is(rt, u64::from(at), number);
+            barred.extend_from_slice(line)?;
+            barred.push(b'|')?;
+        }
+    }
+    Ok(barred)
+}
+
+/// Compares the lines of a text behind line 6, with a bar behind each, and the number of the last one.
+fn compare_lines(
+    rt: &impl Abort,
+    alloc: Global,
+    text: &[u8],
+    want: &[u8],
+    last: u64,
+) -> Result<(), Fail> {
+    assert!(rt; text.len() <= 100);
+    let mut lines = Lines::new(text, 6);
+    let barred = barred(rt, alloc, &mut lines)?;
+    are(rt, &barred, want);
+    is(rt, u64::from(lines.line()), last);
+    are(rt, lines.rest(), b"");
     Ok(())
 }
 
 #[test]
 fn gives_lines(rt: HostRuntime) -> Result<(), Fail> {
-    // Each text behind line 6, its lines with a bar behind each, and the number of its last line.
-    let cases: [(&[u8], &[u8], u32); 9] = [
+    let cases: [(&[u8], &[u8], u64); 9] = [
         (b"", b"", 6),
         (b"cts 1\nend", b"cts 1|end|", 8),
         (b"cts 1\r\nend\r\n", b"cts 1|end|", 8),
@@ -249,18 +326,7 @@ fn gives_lines(rt: HostRuntime) -> Result<(), Fail> {
         (b"a\rb \r \n", b"a\rb \r |", 7),
     ];
     for (text, want, last) in cases {
-        let mut lines = Lines::new(text, 6);
-        let mut got = Vec::new(rt.alloc());
-        for number in 7..10 {
-            if let Some((at, line)) = lines.next() {
-                assert_eq!(rt; at, number);
-                got.extend_from_slice(line)?;
-                got.push(b'|')?;
-            }
-        }
-        assert_eq!(rt; got.as_slice(), want);
-        assert_eq!(rt; lines.line(), last);
-        assert!(rt; lines.rest().is_empty());
+        compare_lines(&rt, rt.alloc(), text, want, last)?;
     }
     Ok(())
 }

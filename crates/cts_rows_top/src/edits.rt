@@ -2,10 +2,10 @@
 //! die of 20 µm by 20 µm with the source at (0, 0), a wire of 1 Ω and 1 fF per µm and no buffer. What is expected is
 //! worked by hand.
 
-use crate::runs::{Completed, ran, text_of};
-use cts_io::MemSink;
+use crate::runs::{Completed, ends, ran, text_of};
 use cts_top::Status;
 use cts_work::{Gate, OpenGate};
+use std::process::Abort;
 use std::sync::Wait;
 use std::sync::atomic::{AtomicU64, Ordering};
 use std::test::Fail;
@@ -60,6 +60,14 @@ impl Gate for Meeting {
     }
 }
 
+/// Compares how many callers have begun, how many reached the limit, and how many subtrees caller 1 made.
+fn compare_gate(rt: &impl Abort, gate: &Meeting, counts: (u64, u64, u64)) {
+    let begun = gate.begun.load(Ordering::SeqCst);
+    let alone = gate.alone.load(Ordering::SeqCst);
+    let made = gate.made.load(Ordering::SeqCst);
+    assert_eq!(rt; (begun, alone, made), counts);
+}
+
 /// A run on `edit` of an instance followed by scripts.
 fn edit<R: AllocGlobal + Threads + Wait + Sync, G: Gate>(
     rt: &R,
@@ -72,9 +80,34 @@ fn edit<R: AllocGlobal + Threads + Wait + Sync, G: Gate>(
     ran(rt, gate, "edit", &text)
 }
 
+/// Compares the lengths of the history and of the list of replies.
+fn compare_lengths(rt: &impl Abort, ran: &Completed, lengths: (usize, usize)) {
+    let outcome = &ran.outcome;
+    assert_eq!(rt; (outcome.history.len(), outcome.replies.len()), lengths);
+}
+
+const BEFORE: &[u8] =
+    b"cts edit 1\nhistory 1\nentry 1 caller 1 line 13 cap 1 10.000000\ncaller 1 replies 3\nline 13 accepted 1\n\
+    line 14 tree 1 skew 0.0000000000000000 wire 15.000\nline 15 tree 1 skew 0.0000000000000000 wire 15.000\n\
+    caller 2 replies 1\nline 16 refused unknown at 0\nend\n";
+
+const AFTER: &[u8] =
+    b"cts edit 1\nhistory 1\nentry 1 caller 1 line 13 cap 1 10.000000\ncaller 1 replies 3\nline 13 accepted 1\n\
+    line 14 tree 1 skew 0.0000000000000000 wire 15.000\nline 15 tree 1 skew 0.0000000000000000 wire 15.000\n\
+    caller 2 replies 1\nline 16 refused unknown at 1\nend\n";
+
+const EDITED: &[u8] =
+    b"cts 1\ndie 0 0 20 20\nsource 0 0 0\nwire 1 1\nlimits 100 100 100\nbuffers 0\nsinks 2\n\
+    sink 1 0 0 10\nsink 2 10 0 10\nblocks 0\nend\n";
+
 /// Whether some bytes are a text and then a report.
-fn are(bytes: &[u8], text: &[u8], report: &MemSink) -> bool {
-    bytes.strip_prefix(text) == Some(report.bytes())
+fn are(bytes: &[u8], text: &[u8], report: &[u8]) -> bool {
+    bytes.strip_prefix(text) == Some(report)
+}
+
+/// Compares what is told where the second caller is refused before or after the edit of the first.
+fn tells_before_or_after(rt: &impl Abort, told: &[u8], report: &[u8]) {
+    assert!(rt; are(told, BEFORE, report) || are(told, AFTER, report));
 }
 
 #[test]
@@ -82,32 +115,33 @@ fn two_callers_begin_and_one_draws(rt: HostRuntime) -> Result<(), Fail> {
     let gate = Meeting::new();
     let scripts = b"callers 2\n1 cap 1 10\n1 tree\n1 tree\n2 remove 7\nend\n";
     let ran = edit(&rt, &gate, TWO_SINKS, scripts)?;
-    assert_eq!(rt; ran.outcome.status, Status::Done);
-    assert_eq!(rt; gate.alone.load(Ordering::SeqCst), 0);
-    assert_eq!(rt; gate.begun.load(Ordering::SeqCst), 2);
+    let end = (ran.outcome.status, ran.outcome.memo.is_some());
+    ends(&rt, end, (Status::Done, true));
     // Two sinks and their pair, in the first draw; the second one makes nothing.
-    assert_eq!(rt; gate.made.load(Ordering::SeqCst), 3);
-    assert_eq!(rt;
-        (ran.outcome.history.len(), ran.outcome.replies.len()),
-        (1, 2)
-    );
-    assert!(rt; ran.outcome.memo.is_some());
-
-    let before =
-        b"cts edit 1\nhistory 1\nentry 1 caller 1 line 13 cap 1 10.000000\ncaller 1 replies 3\nline 13 accepted 1\n\
-        line 14 tree 1 skew 0.0000000000000000 wire 15.000\nline 15 tree 1 skew 0.0000000000000000 wire 15.000\n\
-        caller 2 replies 1\nline 16 refused unknown at 0\nend\n";
-    let after =
-        b"cts edit 1\nhistory 1\nentry 1 caller 1 line 13 cap 1 10.000000\ncaller 1 replies 3\nline 13 accepted 1\n\
-        line 14 tree 1 skew 0.0000000000000000 wire 15.000\nline 15 tree 1 skew 0.0000000000000000 wire 15.000\n\
-        caller 2 replies 1\nline 16 refused unknown at 1\nend\n";
-    let edited =
-        b"cts 1\ndie 0 0 20 20\nsource 0 0 0\nwire 1 1\nlimits 100 100 100\nbuffers 0\nsinks 2\n\
-        sink 1 0 0 10\nsink 2 10 0 10\nblocks 0\nend\n";
-    let last = text_of(&rt, "synth 1", edited)?;
-    let told = are(ran.output.bytes(), before, &last) || are(ran.output.bytes(), after, &last);
-    assert!(rt; told);
+    compare_gate(&rt, &gate, (2, 0, 3));
+    compare_lengths(&rt, &ran, (1, 2));
+    let last = text_of(&rt, "synth 1", EDITED)?;
+    tells_before_or_after(&rt, ran.output.bytes(), last.bytes());
     Ok(())
+}
+
+const FIRST: &[u8] =
+    b"cts edit 1\nhistory 1\nentry 1 caller 1 line 12 add 9 10.000 0.000 5.000000\n\
+    caller 1 replies 1\nline 12 accepted 1\ncaller 2 replies 1\nline 13 refused known at 1\nend\n";
+
+const SECOND: &[u8] =
+    b"cts edit 1\nhistory 1\nentry 1 caller 2 line 13 add 9 10.000 0.000 5.000000\n\
+    caller 1 replies 1\nline 12 refused known at 1\ncaller 2 replies 1\nline 13 accepted 1\nend\n";
+
+/// The pair at (4.5, 0) has wires of 5.5 um, and 4.5 um from the source.
+const FIGURES: &[u8] =
+    b"source load 25.500000\nwire total 15.500\ndelay greatest 0.1472500000000000\ndelay least 0.1472500000000000\n\
+    skew 0.0000000000000000\nbound 0.0000000000000000\nload met yes\nslew met yes\nend\n";
+
+/// Compares what is told where the one or the other caller has added the sink.
+fn tells_one_of_two(rt: &impl Abort, told: &[u8]) {
+    let front = told.starts_with(FIRST) || told.starts_with(SECOND);
+    assert!(rt; front && told.ends_with(FIGURES));
 }
 
 #[test]
@@ -115,21 +149,11 @@ fn one_of_two_callers_adds_a_sink(rt: HostRuntime) -> Result<(), Fail> {
     let gate = Meeting::new();
     let scripts = b"callers 2\n1 add 9 10 0 5\n2 add 9 10 0 5\nend\n";
     let ran = edit(&rt, &gate, ONE_SINK, scripts)?;
-    assert_eq!(rt; ran.outcome.status, Status::Done);
+    let end = (ran.outcome.status, ran.outcome.memo.is_some());
+    ends(&rt, end, (Status::Done, true));
     assert_eq!(rt; gate.alone.load(Ordering::SeqCst), 0);
-    assert_eq!(rt; ran.outcome.history.len(), 1);
-
-    let first = b"cts edit 1\nhistory 1\nentry 1 caller 1 line 12 add 9 10.000 0.000 5.000000\n\
-        caller 1 replies 1\nline 12 accepted 1\ncaller 2 replies 1\nline 13 refused known at 1\nend\n";
-    let second = b"cts edit 1\nhistory 1\nentry 1 caller 2 line 13 add 9 10.000 0.000 5.000000\n\
-        caller 1 replies 1\nline 12 refused known at 1\ncaller 2 replies 1\nline 13 accepted 1\nend\n";
-    // The pair at (4.5, 0) has wires of 5.5 um, and 4.5 um from the source.
-    let last =
-        b"source load 25.500000\nwire total 15.500\ndelay greatest 0.1472500000000000\ndelay least 0.1472500000000000\n\
-        skew 0.0000000000000000\nbound 0.0000000000000000\nload met yes\nslew met yes\nend\n";
-    let text = ran.output.bytes();
-    let front = text.starts_with(first) || text.starts_with(second);
-    assert!(rt; front && text.ends_with(last));
+    compare_lengths(&rt, &ran, (1, 2));
+    tells_one_of_two(&rt, ran.output.bytes());
     Ok(())
 }
 
@@ -137,12 +161,9 @@ fn one_of_two_callers_adds_a_sink(rt: HostRuntime) -> Result<(), Fail> {
 fn the_scripts_are_refused_before_a_caller_begins(rt: HostRuntime) -> Result<(), Fail> {
     let scripts = b"callers 2\n1 tree\n3 tree\nend\n";
     let ran = edit(&rt, &OpenGate, ONE_SINK, scripts)?;
-    assert_eq!(rt; ran.outcome.status, Status::Refused);
+    let end = (ran.outcome.status, ran.outcome.memo.is_some());
+    ends(&rt, end, (Status::Refused, false));
     assert!(rt; ran.output.bytes().is_empty());
-    assert!(rt; ran.outcome.memo.is_none());
-    assert_eq!(rt;
-        (ran.outcome.history.len(), ran.outcome.replies.len()),
-        (0, 0)
-    );
+    compare_lengths(&rt, &ran, (0, 0));
     Ok(())
 }

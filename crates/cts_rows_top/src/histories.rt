@@ -9,15 +9,23 @@ use cts_design::{Edit, EditCause, EditReply, Entry};
 use cts_history::write_history;
 use cts_io::MemSink;
 use std::alloc::Global;
+use std::process::Abort;
 use std::test::Fail;
 
-/// A sink that has taken the text of a history and of replies.
-fn written(alloc: Global, history: &[Entry], replies: &[Vec<Reply>]) -> Result<MemSink, Fail>
+/// Compares the text of a history and of replies.
+fn compare(
+    rt: &impl Abort,
+    alloc: Global,
+    history: &[Entry],
+    replies: &[Vec<Reply>],
+    text: &[u8],
+) -> Result<(), Fail>
     requires { IsPrintable history.now (lists_of replies.now) }
 {
     let mut sink = MemSink::new(alloc, 4_096, Vec::new(alloc), 4_096)?;
     write_history(&mut sink, history, replies)?;
-    Ok(sink)
+    assert_eq!(rt; sink.bytes(), text);
+    Ok(())
 }
 
 /// A reply by which an edit is refused.
@@ -69,7 +77,6 @@ fn one_caller_draws_and_one_is_refused(rt: HostRuntime) -> Result<(), Fail> {
     let entry = asked(1, 13, edit);
     let first = Vec::from_array(rt.alloc(), [accepted(13, 1), drew(14), drew(15)])?;
     let second = Vec::from_array(rt.alloc(), [refused(16, EditCause::Unknown, 1)])?;
-    let sink = written(rt.alloc(), &[entry], &[first, second])?;
     let text = b"cts edit 1\n\
         history 1\n\
         entry 1 caller 1 line 13 cap 1 10.000000\n\
@@ -80,8 +87,7 @@ fn one_caller_draws_and_one_is_refused(rt: HostRuntime) -> Result<(), Fail> {
         caller 2 replies 1\n\
         line 16 refused unknown at 1\n\
         end\n";
-    assert_eq!(rt; sink.bytes(), text.as_slice());
-    Ok(())
+    compare(&rt, rt.alloc(), &[entry], &[first, second], text)
 }
 
 #[test]
@@ -95,7 +101,6 @@ fn a_sink_is_added_once(rt: HostRuntime) -> Result<(), Fail> {
     let entry = asked(2, 13, edit);
     let first = Vec::from_array(rt.alloc(), [refused(12, EditCause::Known, 1)])?;
     let second = Vec::from_array(rt.alloc(), [accepted(13, 1)])?;
-    let sink = written(rt.alloc(), &[entry], &[first, second])?;
     let text = b"cts edit 1\n\
         history 1\n\
         entry 1 caller 2 line 13 add 9 10.000 0.000 5.000000\n\
@@ -104,8 +109,7 @@ fn a_sink_is_added_once(rt: HostRuntime) -> Result<(), Fail> {
         caller 2 replies 1\n\
         line 13 accepted 1\n\
         end\n";
-    assert_eq!(rt; sink.bytes(), text.as_slice());
-    Ok(())
+    compare(&rt, rt.alloc(), &[entry], &[first, second], text)
 }
 
 #[test]
@@ -117,13 +121,11 @@ fn nothing_is_changed(rt: HostRuntime) -> Result<(), Fail> {
             refused(13, EditCause::Outside, 0),
         ],
     )?;
-    let sink = written(rt.alloc(), &[], &[only])?;
     let text = b"cts edit 1\n\
         history 0\n\
         caller 1 replies 2\n\
         line 12 refused last at 0\n\
         line 13 refused outside at 0\n\
         end\n";
-    assert_eq!(rt; sink.bytes(), text.as_slice());
-    Ok(())
+    compare(&rt, rt.alloc(), &[], &[only], text)
 }

@@ -4,6 +4,7 @@ use cts_draw::draw;
 use cts_io::{MemSink, MemSource};
 use cts_notes::Status;
 use std::alloc::Global;
+use std::process::Abort;
 use std::test::Fail;
 
 const INSTANCE: &[u8] =
@@ -23,32 +24,35 @@ fn sink(alloc: Global, room: usize) -> Result<MemSink, Fail> {
     Ok(MemSink::new(alloc, room, Vec::new(alloc), 4_096)?)
 }
 
-#[test]
-fn a_picture_is_written_whole_or_in_part(rt: HostRuntime) -> Result<(), Fail> {
-    let alloc = rt.alloc();
-    let (mut whole, mut part) = (sink(alloc, 8_192)?, sink(alloc, 100)?);
-    let mut notes = sink(alloc, 256)?;
-    let mut input = source(alloc, INSTANCE, REPORT)?;
-    let status = draw(alloc, false, &mut input, &mut whole, &mut notes);
-    assert_eq!(rt; status, Status::Done);
-    assert_eq!(rt; notes.bytes().len(), 0);
-    assert_eq!(rt; whole.bytes().len(), 2_671);
-    let mut input = source(alloc, INSTANCE, REPORT)?;
-    let status = draw(alloc, false, &mut input, &mut part, &mut notes);
-    assert_eq!(rt; status, Status::WriteFault);
-    assert_eq!(rt; notes.bytes(), b"write fault\n".as_slice());
-    assert_eq!(rt; part.bytes().len(), 100);
+/// Draws an instance and a text into a sink of this room, and compares the status, the note and how much of the
+/// picture is written.
+fn compare(
+    rt: &impl Abort,
+    alloc: Global,
+    text: &[u8],
+    room: usize,
+    status: Status,
+    note: &[u8],
+    written: usize,
+) -> Result<(), Fail> {
+    let (mut picture, mut notes) = (sink(alloc, room)?, sink(alloc, 256)?);
+    let mut input = source(alloc, INSTANCE, text)?;
+    let found = draw(alloc, false, &mut input, &mut picture, &mut notes);
+    assert_eq!(rt; (found, picture.bytes().len()), (status, written));
+    assert_eq!(rt; notes.bytes(), note);
     Ok(())
 }
 
 #[test]
-fn what_is_no_report_is_refused_with_its_line(rt: HostRuntime) -> Result<(), Fail> {
+fn a_picture_is_written_whole_or_in_part(rt: HostRuntime) -> Result<(), Fail> {
     let alloc = rt.alloc();
-    let (mut picture, mut notes) = (sink(alloc, 8_192)?, sink(alloc, 256)?);
-    let mut input = source(alloc, INSTANCE, b"cts report 1\nnodes 2\n")?;
-    let status = draw(alloc, false, &mut input, &mut picture, &mut notes);
-    assert_eq!(rt; status, Status::Refused);
-    assert_eq!(rt; notes.bytes(), b"refused: report line 2\n".as_slice());
-    assert_eq!(rt; picture.bytes().len(), 0);
-    Ok(())
+    compare(&rt, alloc, REPORT, 8_192, Status::Done, b"", 2_847)?;
+    let note = b"write fault\n";
+    compare(&rt, alloc, REPORT, 100, Status::WriteFault, note, 100)
+}
+
+#[test]
+fn what_is_no_report_is_refused_with_its_line(rt: HostRuntime) -> Result<(), Fail> {
+    let (text, note) = (b"cts report 1\nnodes 2\n", b"refused: report line 2\n");
+    compare(&rt, rt.alloc(), text, 8_192, Status::Refused, note, 0)
 }

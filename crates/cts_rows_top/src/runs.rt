@@ -33,20 +33,15 @@ fn sink(alloc: Global) -> Result<MemSink, Fail> {
     Ok(MemSink::new(alloc, 1 << 20, Vec::new(alloc), 4_096)?)
 }
 
-fn serve<R: AllocGlobal + Threads + Wait + Sync, G: Gate>(
+fn outcome<R: AllocGlobal + Threads + Wait + Sync, G: Gate>(
     rt: &R,
     gate: &G,
     words: &[String],
     input: &mut MemSource,
-) -> Result<Completed, Fail> {
-    let mut output = sink(rt.alloc())?;
-    let mut notes = sink(rt.alloc())?;
-    let outcome = run(rt, rt.alloc(), words, input, &mut output, &mut notes, gate);
-    Ok(Completed {
-        outcome,
-        output,
-        notes,
-    })
+    output: &mut MemSink,
+    notes: &mut MemSink,
+) -> Outcome {
+    run(rt, rt.alloc(), words, input, output, notes, gate)
 }
 
 /// A run by the words of a line over an input.
@@ -58,22 +53,22 @@ pub(crate) fn ran<R: AllocGlobal + Threads + Wait + Sync, G: Gate>(
 ) -> Result<Completed, Fail> {
     let words = words(rt.alloc(), line)?;
     let mut input = source(rt.alloc(), input)?;
-    serve(rt, gate, &words, &mut input)
-}
-
-fn serve_alone<R: AllocGlobal + Threads + Sync>(
-    rt: &R,
-    words: &[String],
-    input: &mut MemSource,
-) -> Result<Completed, Fail> {
-    let mut output = sink(rt.alloc())?;
-    let mut notes = sink(rt.alloc())?;
-    let outcome = run_alone(rt, rt.alloc(), words, input, &mut output, &mut notes);
+    let (mut output, mut notes) = (sink(rt.alloc())?, sink(rt.alloc())?);
     Ok(Completed {
-        outcome,
+        outcome: outcome(rt, gate, &words, &mut input, &mut output, &mut notes),
         output,
         notes,
     })
+}
+
+fn outcome_alone<R: AllocGlobal + Threads + Sync>(
+    rt: &R,
+    words: &[String],
+    input: &mut MemSource,
+    output: &mut MemSink,
+    notes: &mut MemSink,
+) -> Outcome {
+    run_alone(rt, rt.alloc(), words, input, output, notes)
 }
 
 /// A run by one thread, by the words of a line over an input.
@@ -84,7 +79,17 @@ pub(crate) fn ran_alone<R: AllocGlobal + Threads + Sync>(
 ) -> Result<Completed, Fail> {
     let words = words(rt.alloc(), line)?;
     let mut input = source(rt.alloc(), input)?;
-    serve_alone(rt, &words, &mut input)
+    let (mut output, mut notes) = (sink(rt.alloc())?, sink(rt.alloc())?);
+    Ok(Completed {
+        outcome: outcome_alone(rt, &words, &mut input, &mut output, &mut notes),
+        output,
+        notes,
+    })
+}
+
+/// Compares the status of a run and whether it left a memo.
+pub(crate) fn ends(rt: &impl Abort, found: (Status, bool), want: (Status, bool)) {
+    assert_eq!(rt; found, want);
 }
 
 /// What a run by one thread writes, which ends well and leaves no memo.
@@ -94,8 +99,8 @@ pub(crate) fn text_of<R: AllocGlobal + Abort + Threads + Sync>(
     input: &[u8],
 ) -> Result<MemSink, Fail> {
     let ran = ran_alone(rt, line, input)?;
-    assert_eq!(rt; ran.outcome.status, Status::Done);
-    assert!(rt; ran.outcome.memo.is_none());
+    let end = (ran.outcome.status, ran.outcome.memo.is_some());
+    ends(rt, end, (Status::Done, false));
     assert!(rt; ran.notes.bytes().is_empty());
     Ok(ran.output)
 }

@@ -3,8 +3,9 @@
 ghost use Rattle.std.specs.Prelude.{◌≤◌, length};
 
 use cts_design::Edit;
-use cts_script::{Act, Script, ScriptStep, read_script};
+use cts_script::{Act, ScriptStep, read_script};
 use std::alloc::Global;
+use std::process::Abort;
 use std::test::Fail;
 
 const fn change(line: u32, edit: Edit) -> ScriptStep {
@@ -44,17 +45,21 @@ fn short(text: &[u8]) -> &[u8]
     if text.len() <= 1 << 20 { text } else { b"" }
 }
 
-/// The scripts of a text before which 11 lines come.
-fn scripts(alloc: Global, text: &[u8]) -> Result<Vec<Script>, Fail> {
-    Ok(read_script(alloc, short(text), 11)?)
-}
-
-/// Whether these are the steps of the caller of this place in the list.
-fn asks(scripts: &[Script], place: usize, steps: &[ScriptStep]) -> bool {
-    match scripts.get(place) {
-        Some(script) => script.steps() == steps,
-        None => false,
-    }
+/// Compares how many callers have a script in a text before which 11 lines come, and the steps of the caller at a
+/// place.
+fn compare(
+    rt: &impl Abort,
+    alloc: Global,
+    text: &[u8],
+    callers: usize,
+    place: usize,
+    steps: &[ScriptStep],
+) -> Result<(), Fail> {
+    let scripts = read_script(alloc, short(text), 11)?;
+    assert_eq!(rt; scripts.len(), callers);
+    let script = scripts.get(place).ok_or("no such caller")?;
+    assert!(rt; script.steps() == steps);
+    Ok(())
 }
 
 /// What is read of a text before which no lines come: how many steps each caller has, or why it is
@@ -71,14 +76,12 @@ fn outcome(alloc: Global, text: &[u8]) -> Result<String, Fail> {
     Ok(counts)
 }
 
-/// The first text of which something else is read than what stands beside it.
-fn other(alloc: Global, cases: &[(&[u8], &str)]) -> Result<Option<usize>, Fail> {
+/// Compares what is read of each text with what stands beside it.
+fn compare_all(rt: &impl Abort, alloc: Global, cases: &[(&[u8], &str)]) -> Result<(), Fail> {
     for (at, (text, want)) in cases.iter().enumerate() {
-        if outcome(alloc, text)?.as_str() != *want {
-            return Ok(Some(at));
-        }
+        assert_eq!(rt; outcome(alloc, text)?.as_str(), *want, "case {at}");
     }
-    Ok(None)
+    Ok(())
 }
 
 #[test]
@@ -94,7 +97,6 @@ fn every_kind_of_step_is_read(rt: HostRuntime) -> Result<(), Fail> {
         end\n\
         \n\
         # no more";
-    let scripts = scripts(rt.alloc(), text.as_slice())?;
     let first = [
         change(13, add(9, 10_000, 500, 5_000_000)),
         change(16, move_to(9, 0, 20_001)),
@@ -105,51 +107,32 @@ fn every_kind_of_step_is_read(rt: HostRuntime) -> Result<(), Fail> {
         change(17, set_cap(7, 250_000)),
         draw(19),
     ];
-    assert_eq!(rt; scripts.len(), 2);
-    assert!(rt; asks(&scripts, 0, &first));
-    assert!(rt; asks(&scripts, 1, &second));
-    Ok(())
+    compare(&rt, rt.alloc(), text, 2, 0, &first)?;
+    compare(&rt, rt.alloc(), text, 2, 1, &second)
 }
 
 #[test]
 fn small_scripts_are_read(rt: HostRuntime) -> Result<(), Fail> {
     let text = b"callers 2\n1 cap 1 10\n1 tree\n1 tree\n2 remove 7\nend\n";
-    let caps = scripts(rt.alloc(), text.as_slice())?;
-    assert!(rt;
-        asks(
-            &caps,
-            0,
-            &[change(13, set_cap(1, 10_000_000)), draw(14), draw(15)]
-        )
-    );
-    assert!(rt; asks(&caps, 1, &[change(16, remove(7))]));
+    let first = [change(13, set_cap(1, 10_000_000)), draw(14), draw(15)];
+    compare(&rt, rt.alloc(), text, 2, 0, &first)?;
+    compare(&rt, rt.alloc(), text, 2, 1, &[change(16, remove(7))])?;
 
     let text = b"callers 2\n1 add 9 10 0 5\n2 add 9 10 0 5\nend\n";
-    let adds = scripts(rt.alloc(), text.as_slice())?;
-    assert!(rt; asks(&adds, 0, &[change(13, add(9, 10_000, 0, 5_000_000))]));
-    assert!(rt; asks(&adds, 1, &[change(14, add(9, 10_000, 0, 5_000_000))]));
+    let edit = add(9, 10_000, 0, 5_000_000);
+    compare(&rt, rt.alloc(), text, 2, 0, &[change(13, edit)])?;
+    compare(&rt, rt.alloc(), text, 2, 1, &[change(14, edit)])?;
 
     let text = b"callers 1\n1 remove 1\n1 move 1 21 0\nend\n";
-    let one = scripts(rt.alloc(), text.as_slice())?;
-    assert_eq!(rt; one.len(), 1);
-    assert!(rt;
-        asks(
-            &one,
-            0,
-            &[change(13, remove(1)), change(14, move_to(1, 21_000, 0))]
-        )
-    );
-    Ok(())
+    let both = [change(13, remove(1)), change(14, move_to(1, 21_000, 0))];
+    compare(&rt, rt.alloc(), text, 1, 0, &both)
 }
 
 #[test]
 fn the_greatest_numbers_are_read(rt: HostRuntime) -> Result<(), Fail> {
     let text = b"callers 16\n16 add 999999999 100000 100000.000 1000000\nend";
-    let scripts = scripts(rt.alloc(), text.as_slice())?;
     let edit = add(999_999_999, 100_000_000, 100_000_000, 1_000_000_000_000);
-    assert_eq!(rt; scripts.len(), 16);
-    assert!(rt; asks(&scripts, 15, &[change(13, edit)]));
-    Ok(())
+    compare(&rt, rt.alloc(), text, 16, 15, &[change(13, edit)])
 }
 
 #[test]
@@ -171,8 +154,7 @@ fn the_first_line_is_judged(rt: HostRuntime) -> Result<(), Fail> {
         (b"callers 01\nend", "0 "),
         (b"callers 3\n2 tree\n2 tree\nend", "0 2 0 "),
     ];
-    assert_eq!(rt; other(rt.alloc(), &cases)?, None);
-    Ok(())
+    compare_all(&rt, rt.alloc(), &cases)
 }
 
 #[test]
@@ -191,8 +173,7 @@ fn the_end_is_judged(rt: HostRuntime) -> Result<(), Fail> {
         (b"callers 1\r\n1 tree\r\nend\r", "1 "),
         (b"callers 1\r\n1 tree\r\r\nend\r", "line 2: not ascii"),
     ];
-    assert_eq!(rt; other(rt.alloc(), &cases)?, None);
-    Ok(())
+    compare_all(&rt, rt.alloc(), &cases)
 }
 
 #[test]
@@ -221,8 +202,7 @@ fn the_words_of_a_step_are_judged(rt: HostRuntime) -> Result<(), Fail> {
         ),
         (b"callers 1\n1 tr\x01ee\nend", "line 2: not ascii"),
     ];
-    assert_eq!(rt; other(rt.alloc(), &cases)?, None);
-    Ok(())
+    compare_all(&rt, rt.alloc(), &cases)
 }
 
 #[test]
@@ -287,19 +267,18 @@ fn the_numbers_of_a_step_are_judged(rt: HostRuntime) -> Result<(), Fail> {
             "line 2: out of range: Step(0)",
         ),
     ];
-    assert_eq!(rt; other(rt.alloc(), &cases)?, None);
-    Ok(())
+    compare_all(&rt, rt.alloc(), &cases)
 }
 
-/// What is read of 65,536 steps and then this text.
-fn after_all(alloc: Global, text: &[u8]) -> Result<String, Fail> {
+/// Compares what is read of 65,536 steps and then this text.
+fn compare_after_all(rt: &impl Abort, alloc: Global, text: &[u8], want: &str) -> Result<(), Fail> {
     let mut whole = Vec::new(alloc);
     whole.extend_from_slice(b"callers 1\n")?;
     for _ in 0..65_536 {
         whole.extend_from_slice(b"1 tree\n")?;
     }
     whole.extend_from_slice(text)?;
-    outcome(alloc, whole.as_slice())
+    compare_all(rt, alloc, &[(whole.as_slice(), want)])
 }
 
 #[test]
@@ -320,7 +299,7 @@ fn a_full_script_takes_no_more(rt: HostRuntime) -> Result<(), Fail> {
         (b"", "line 65538: missing"),
     ];
     for (text, want) in cases {
-        assert_eq!(rt; after_all(rt.alloc(), text)?.as_str(), want);
+        compare_after_all(&rt, rt.alloc(), text, want)?;
     }
     Ok(())
 }

@@ -1,8 +1,9 @@
 //! Runs by more than one worker: a gate holds the first two pieces until both have been begun.
 
-use crate::runs::{ran, text_of};
+use crate::runs::{ends, ran, text_of};
 use cts_top::Status;
 use cts_work::Gate;
+use std::process::Abort;
 use std::sync::atomic::{AtomicU64, Ordering};
 use std::test::Fail;
 
@@ -34,6 +35,18 @@ impl Gate for Meeting {
     fn between(&self, _number: u32) {}
 }
 
+/// Compares how many pieces have been begun, and how many reached the limit.
+fn compare_gate(rt: &impl Abort, gate: &Meeting, counts: (u64, u64)) {
+    let begun = gate.begun.load(Ordering::SeqCst);
+    let alone = gate.alone.load(Ordering::SeqCst);
+    assert_eq!(rt; (begun, alone), counts);
+}
+
+/// Compares what a run writes, and how many bytes of notes it has.
+fn writes(rt: &impl Abort, output: &[u8], notes: usize, text: &[u8]) {
+    assert_eq!(rt; (output, notes), (text, 0));
+}
+
 #[test]
 fn two_workers_begin_two_pieces(rt: HostRuntime) -> Result<(), Fail> {
     let made = text_of(&rt, "make 14 64", b"")?;
@@ -43,11 +56,10 @@ fn two_workers_begin_two_pieces(rt: HostRuntime) -> Result<(), Fail> {
         alone: AtomicU64::new(0),
     };
     let beside = ran(&rt, &gate, "synth 2", made.bytes())?;
-    assert_eq!(rt; beside.outcome.status, Status::Done);
-    assert_eq!(rt; gate.begun.load(Ordering::SeqCst), 2);
-    assert_eq!(rt; gate.alone.load(Ordering::SeqCst), 0);
-    assert!(rt; beside.outcome.memo.is_some());
-    assert_eq!(rt; beside.output.bytes(), alone.bytes());
-    assert!(rt; beside.notes.bytes().is_empty());
+    let end = (beside.outcome.status, beside.outcome.memo.is_some());
+    ends(&rt, end, (Status::Done, true));
+    compare_gate(&rt, &gate, (2, 0));
+    let notes = beside.notes.bytes().len();
+    writes(&rt, beside.output.bytes(), notes, alone.bytes());
     Ok(())
 }

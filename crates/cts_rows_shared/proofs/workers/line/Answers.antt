@@ -1,10 +1,9 @@
-use Rattle.std.proofs.Common.{◌≡◌, ℕ, ◌+◌, ◌<◌, ◌∷◌, ◌++◌, [], List, inl, inr, length, get_or, All, sym, ap, ◌∙◌, subst, arith, length-append}
+use Rattle.std.proofs.Common.{◌≡◌, ℕ, ◌<◌, ◌∷◌, ◌++◌, [], List, inl, inr, length, get_or, All, sym, ap, ◌∙◌, subst, arith, length-append}
 use Rattle.std.proofs.lemmas.Bool.{cases_lt}
 use Rattle.std.proofs.lemmas.List.{get_or_at, get_or_append_left}
 use Rattle.std.proofs.lemmas.List.Elements.{All-push}
 use Rattle.cts_units.specs.declared.params.Sink.{Sink}
 use Rattle.cts_up.specs.Sinks.{IsSinkInRange}
-use Rattle.cts_topo.specs.Sinks.{IsPlaced}
 use Rattle.cts_rows_shared.proofs.workers.line.Goals as goal
 
 id_push : (xs : List Sink) (x : Sink) (n : ℕ) → length xs ≡ n → x.id ≡ n → ((k : ℕ) (d : Sink) → k < length xs → (get_or xs k d).id ≡ k)
@@ -23,9 +22,9 @@ loop-number-preserved c =
     record {
       upto = omega (arith, c.loop-number-test.true);
       long = omega (arith, ap length items, length-append c.loop-number.sinks.items (c.sink_on_line.result ∷ []), c.loop-number.invariant.long);
-      each = subst (All IsSinkInRange) (sym items)
+      each = subst (All IsSinkInRange) (sym {A = List Sink} items)
           (All-push IsSinkInRange c.loop-number.sinks.items c.sink_on_line.result c.loop-number.invariant.each c.sink_on_line.ensures.range);
-      ids = subst (λ (l : List Sink). (k : ℕ) (d : Sink) → k < length l → (get_or l k d).id ≡ k) (sym items)
+      ids = subst (λ (l : List Sink). (k : ℕ) (d : Sink) → k < length l → (get_or l k d).id ≡ k) (sym {A = List Sink} items)
           (id_push c.loop-number.sinks.items c.sink_on_line.result c.loop-number.number c.loop-number.invariant.long c.sink_on_line.ensures.id
           c.loop-number.invariant.ids);
     }

@@ -6,8 +6,8 @@ use Rattle.cts_history.specs.History.{IsPrintableReply}
 use Rattle.cts_history.proofs.Lists.{all_none, all_then}
 use Rattle.cts_rows_top.proofs.histories.one_caller_draws_and_one_is_refused.Goals as goal
 
-pub written-requires : goal.written-requires
-written-requires g c =
+pub compare-requires : goal.compare-requires
+compare-requires g c =
     record {
       edits = all_then (λ (entry : Entry). IsEdit entry.edit) c.asked-entry.result [] c.asked-entry.ensures (all_none (λ (entry : Entry). IsEdit entry.edit));
       each_reply =

@@ -2,7 +2,7 @@ use Rattle.std.proofs.Common.{◌≡◌, [], ◌∷◌, map, Some, None, refl, s
 use Rattle.cts_postorder.specs.PostOrder.{IsPostOrder, IsPostOrderFrom}
 use Rattle.cts_tree.specs.declared.nodes.TreeNode.{TreeNode}
 use Rattle.cts_tree.specs.Nodes.{children_of, tree_children}
-use Rattle.cts_rows.proofs.figures.figures_of.Goals as goal
+use Rattle.cts_rows.proofs.figures.measured.Goals as goal
 
 -- two leaves and the pair above them
 pair_post_order : (a b p : TreeNode) → tree_children a ≡ None → tree_children b ≡ None → tree_children p ≡ Some (0, 1)
