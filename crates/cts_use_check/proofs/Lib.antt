@@ -1,0 +1,2 @@
+mod Printable
+mod Pairs
