@@ -1,6 +1,7 @@
 //! One case: a run over streams in memory, and what reading the text alone gives.
 
 use crate::show;
+use crate::text::expand;
 use cts_io::{MemSink, MemSource};
 use cts_num::{NoMemory, read_decimal};
 use cts_top::run;
@@ -69,20 +70,24 @@ pub(crate) fn much(alloc: Global) -> io::Result<MemSink> {
     Stream::of(None, None).sink(alloc)
 }
 
-/// Runs a case. Two words for each of its streams, the input, the output and the notes, say how much it moves at once
-/// and which call fails, as in `/ 7 - 7 1 4096 0`. Where the line begins with `-`, the text lacks its last line end.
+/// Runs a case over the text of its lines. Two words for each of its streams, the input, the output and the notes, say
+/// how much it moves at once and which call fails, as in `/ 7 - 7 1 4096 0`. Where the first line begins with `-`, the
+/// text lacks its last line end.
 pub(crate) fn run_case<R: AllocGlobal + Threads + Wait + Sync + Print>(
     rt: &R,
+    bases: &[u8],
     case: &[u8],
 ) -> io::Result<()> {
     let end = case
         .iter()
         .position(|byte| *byte == b'\n')
         .unwrap_or(case.len());
-    let (head, text) = case.split_at(end);
-    let text = text.strip_prefix(b"\n".as_slice()).unwrap_or(text);
+    let (head, lines) = case.split_at(end);
+    let lines = lines.strip_prefix(b"\n".as_slice()).unwrap_or(lines);
     let head = str::from_utf8(head).unwrap_or("");
     println!(rt; "%{head}")?;
+    let expanded = expand(rt.alloc(), bases, lines)?;
+    let text = expanded.as_slice();
     let (head, _name) = head.split_once('|').unwrap_or((head, ""));
     match head.strip_prefix('-') {
         Some(head) => run_over(rt, head, &text[..text.len().saturating_sub(1)]),

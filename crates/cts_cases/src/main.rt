@@ -1,9 +1,20 @@
 //! Runs the cases of its input, and prints what each gives: the rows of the documents, as data.
 //!
-//! A case is a line `% WORDS / STREAMS | NAME` and the text below it, up to the next `%`. Of the words, the streams and
-//! the name only the words have to be there; `src/case.rt` says what they mean. Last it writes some
-//! long numbers, reads an instance with as many sinks and blocks as there may be, and checks trees as deep as a list,
-//! and compares what one worker and many write.
+//! Bases stand first, each a line `= NAME` and its lines, up to the next `=` or the first `%`. A case is a line
+//! `% WORDS / STREAMS | NAME` and the lines below it, up to the next `%`. Of the words, the streams and the name only
+//! the words have to be there; `src/case.rt` says what they mean. The lines are the text that is run over, but for
+//! those that begin with `~`:
+//!
+//! - `~ NAME` stands for the lines of a base, with the changes that follow it, in the order of its lines;
+//! - `~8 TEXT` puts TEXT in the place of its line 8, counted from 1;
+//! - `~8-` leaves line 8 out;
+//! - `~8+ TEXT` puts TEXT after line 8.
+//!
+//! So the lines `~ one-sink` and `~8 sink 1 3 4 5 0` are that base with another line 8. A text whose bytes matter, as
+//! one with CR LF, is written out.
+//!
+//! Last it writes some long numbers, reads an instance with as many sinks and blocks as there may be, checks trees as
+//! deep as a list, and compares what one worker and many write.
 #![tactic(auto)]
 
 mod alike;
@@ -12,14 +23,17 @@ mod decimals;
 mod deep;
 mod many;
 mod show;
+mod text;
 
 use std::io::{self, Read};
 
 fn main(rt: HostRuntime) -> io::Result<()> {
     let mut text = Vec::new(rt.alloc());
     rt.stdin().read_to_end(&mut text)?;
-    for case in text.split(|byte| *byte == b'%').skip(1) {
-        case::run_case(&rt, case)?;
+    let mut cases = text.split(|byte| *byte == b'%');
+    let bases = cases.next().unwrap_or(&[]);
+    for case in cases {
+        case::run_case(&rt, bases, case)?;
     }
     decimals::write(&rt)?;
     many::read(&rt)?;
