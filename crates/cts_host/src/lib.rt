@@ -1,0 +1,88 @@
+//! What the program does with what its host gives it: the words that it is called with and its three
+//! streams, handed to the top call, whose status is the program's exit status.
+//!
+//! The layer above, a `main`, may use [`answer`]. It stands here so that more than one program can be
+//! run over it: each has one stored run.
+#![tactic(auto)]
+
+ghost use Rattle.std.specs.Prelude.{◌≡◌, ◌⊎◌};
+ghost use Rattle.std.specs.Process.{exit_status};
+ghost use Rattle.cts_host.specs.Ends.{EndsAsRun, EndsWithoutWords};
+ghost use Rattle.cts_notes.specs.Status.{code_of};
+
+use cts_io::{ByteSink, ByteSource};
+use cts_top::{Outcome, end_without_memory, run};
+use cts_work::OpenGate;
+use std::alloc::AllocError;
+use std::env::FillError;
+use std::process::ExitCode;
+use std::rt::Env;
+use std::sync::Wait;
+use std::thread::Threads;
+
+/// The bytes of an argument by its number, or `None` where there is none.
+fn argument(rt: &(impl Env + AllocGlobal), number: usize) -> Result<Option<Vec<u8>>, AllocError> {
+    let mut room = 64usize;
+    for _ in 0..usize::BITS {
+        let mut bytes = vec![in rt.alloc(); 0; room]?;
+        match rt.arg(number, &mut bytes) {
+            Ok(count) => {
+                bytes.truncate(count);
+                return Ok(Some(bytes));
+            }
+            Err(FillError::NotPresent) => return Ok(None),
+            Err(FillError::TooLong) => room = room.saturating_mul(2),
+        }
+    }
+    Err(AllocError)
+}
+
+/// The words, without the program's own name, which may be any bytes. A word that isn't UTF-8 has a
+/// sign in it that no form has.
+fn words(rt: &(impl Env + AllocGlobal)) -> Result<Vec<String>, AllocError> {
+    let mut words = Vec::new(rt.alloc());
+    for number in 1..usize::MAX {
+        let Some(bytes) = argument(rt, number)? else {
+            break;
+        };
+        words.push(String::from_utf8_lossy(rt.alloc(), &bytes)?)?;
+    }
+    Ok(words)
+}
+
+/// The program's exit status.
+fn exit_code(outcome: Outcome) -> ExitCode
+    ensures { exit_status result ≡ code_of outcome.status }
+{
+    ExitCode::from(outcome.status.code())
+}
+
+/// Runs the program on the words that the host calls it with, and on its input, its output and its
+/// notes, and gives its exit status.
+///
+/// It ends as [`run`] does on some words, by the number of the run's status. No clause says which words
+/// these are, since the host tells nothing of them; they are meant to be all of them, in their order,
+/// without the program's own name. Where no memory is found for them it ends with `NoMemory`, and input
+/// and output are as they were.
+///
+/// [`run`] may wait for other threads, so no clause says that this call returns.
+pub fn answer<
+    R: Env + AllocGlobal + Threads + Wait + Sync,
+    S: ByteSource,
+    K: ByteSink,
+    N: ByteSink,
+>(rt: &R, source: &mut S, sink: &mut K, notes: &mut N) -> ExitCode
+    ensures { EndsAsRun S.left S.faults K.held K.faults N.held N.faults
+        source.old source.new sink.old sink.new notes.old notes.new (exit_status result)
+        ⊎ EndsWithoutWords N.held N.faults
+        source.old source.new sink.old sink.new notes.old notes.new (exit_status result) }
+{
+    match words(rt) {
+        Ok(words) => {
+            let gate = OpenGate;
+            let outcome = run(rt, rt.alloc(), &words, source, sink, notes, &gate);
+            exit_code(outcome)
+        }
+        Err(AllocError) => exit_code(end_without_memory(rt.alloc(), notes)),
+    }
+}

@@ -1,0 +1,13 @@
+//! The `main` of the program `cts` once more, for a stored run whose status is not 0.
+#![tactic(auto)]
+
+use cts_host::answer;
+use cts_io::{HostSink, HostSource};
+use std::process::ExitCode;
+
+fn main(rt: HostRuntime) -> ExitCode {
+    let mut source = HostSource::new(rt.stdin());
+    let mut sink = HostSink::new(rt.stdout());
+    let mut notes = HostSink::new(rt.stderr());
+    answer(&rt, &mut source, &mut sink, &mut notes)
+}
