@@ -4,6 +4,7 @@ use Rattle.std.specs.Io.KnownBytes.{Appends}
 use Rattle.cts_io.specs.Faults.{Rose}
 use Rattle.cts_io.specs.Pending.{Pending}
 use Rattle.cts_io.specs.Written.{written_of}
+use Rattle.cts_io.specs.declared.device.ByteSink.{Ghosts}
 use Rattle.cts_io.specs.declared.write.WriteEnd.{WriteEnd}
 
 -- The sink took exactly the first bytes of the text, as many as `written` says. That count stands still at 2^64 - 1.
@@ -28,20 +29,20 @@ pub record Writes {S : Type 0} (held : S → Option (List ℕ)) (faults : S → 
 
 -- Since the sink was as in `start`, this text was given to it and the buffer before it: a front of the text went to the
 -- sink, and the rest waits in the buffer, or is lost where the sink failed.
-pub record IsGiven {S : Type 0} (held : S → Option (List ℕ)) (faults : S → ℕ) (start : S) (text : List ℕ) (sink : S) (buffer : Pending) : Type 0 where
+pub record IsGiven {S : Type 0} (sink : Ghosts S) (start : S) (text : List ℕ) (now : S × Pending) : Type 0 where
   pub front : List ℕ
   pub rest : List ℕ
   pub whole : text ≡ front ++ rest
-  pub taken : Appends (held start) (held sink) front
-  pub told : buffer.written ≡ min (length front) (2 ^ 64 - 1)
-  pub waits : buffer.failed ≡ false → rest ≡ buffer.waiting
-  pub rose : buffer.failed ≡ true → Rose (faults start) (faults sink)
-  pub counted : faults start ≤ faults sink
+  pub taken : Appends (sink.held start) (sink.held now.0) front
+  pub told : now.1.written ≡ min (length front) (2 ^ 64 - 1)
+  pub waits : now.1.failed ≡ false → rest ≡ now.1.waiting
+  pub rose : now.1.failed ≡ true → Rose (sink.faults start) (sink.faults now.0)
+  pub counted : sink.faults start ≤ sink.faults now.0
 
--- whatever text was given before, this piece was given after it
-pub record Puts {S : Type 0} (held : S → Option (List ℕ)) (faults : S → ℕ) (old : S) (buffer : Pending) (new : S) (buffer' : Pending) (piece : List ℕ) : Type 0 where
-  pub extends : (start : S) (text : List ℕ) → IsGiven held faults start text old buffer → IsGiven held faults start (text ++ piece) new buffer'
+-- From one state of a sink with its buffer to another: whatever text was given before, this piece was given after it.
+pub record Puts {S : Type 0} (sink : Ghosts S) (old new : S × Pending) (piece : List ℕ) : Type 0 where
+  pub extends : (start : S) (text : List ℕ) → IsGiven sink start text old → IsGiven sink start (text ++ piece) new
 
 -- whatever text was given before, its writing came to its end
-pub record Finishes {S : Type 0} (held : S → Option (List ℕ)) (faults : S → ℕ) (old : S) (buffer : Pending) (new : S) (result : Result Unit WriteEnd) : Type 0 where
-  pub ends : (start : S) (text : List ℕ) → IsGiven held faults start text old buffer → Writes held faults start new text result
+pub record Finishes {S : Type 0} (sink : Ghosts S) (old : S × Pending) (new : S) (result : Result Unit WriteEnd) : Type 0 where
+  pub ends : (start : S) (text : List ℕ) → IsGiven sink start text old → Writes sink.held sink.faults start new text result

@@ -56,7 +56,7 @@ impl SinkBuffer {
     /// Gives `piece` to the sink, now or later.
     #[inline(always)]
     pub fn put<K: ByteSink>(&mut self, sink: &mut K, piece: &[u8])
-        ensures { Puts K.held K.faults sink.old self.old sink.new self.new piece.now }
+        ensures { Puts K.ByteSink (sink.old, self.old) (sink.new, self.new) piece.now }
     {
         if piece.len() <= ROOM - self.len {
             self.keep(piece);
@@ -71,7 +71,7 @@ impl SinkBuffer {
     pub fn put_decimal<K: ByteSink>(&mut self, sink: &mut K, value: u128, places: u32)
         requires value { value < 10 ^ 38 }
         requires places { places ≤ 16 }
-        ensures { Puts K.held K.faults sink.old self.old sink.new self.new (decimal_text places value) }
+        ensures { Puts K.ByteSink (sink.old, self.old) (sink.new, self.new) (decimal_text places value) }
     {
         if LONGEST_NUMBER <= ROOM - self.len {
             self.keep_decimal(value, places);
@@ -92,8 +92,7 @@ impl SinkBuffer {
     )
         requires value { value < 10 ^ 38 }
         requires places { places ≤ 16 }
-        ensures { Puts K.held K.faults
-            sink.old self.old sink.new self.new (label.now ++ decimal_text places value) }
+        ensures { Puts K.ByteSink (sink.old, self.old) (sink.new, self.new) (label.now ++ decimal_text places value) }
     {
         let room = ROOM - self.len;
         if LONGEST_NUMBER <= room && label.len() <= room - LONGEST_NUMBER {
@@ -106,7 +105,7 @@ impl SinkBuffer {
 
     /// Gives what waits to the sink, and tells how the writing of the whole text ended.
     pub fn finish<K: ByteSink>(mut self, sink: &mut K) -> Result<(), WriteEnd>
-        ensures { Finishes K.held K.faults sink.old self sink.new result }
+        ensures { Finishes K.ByteSink (sink.old, self) sink.new result }
     {
         self.send(sink);
         if self.failed {
@@ -122,7 +121,7 @@ impl SinkBuffer {
     #[cold]
     #[inline(never)]
     fn put_over<K: ByteSink>(&mut self, sink: &mut K, piece: &[u8])
-        ensures { Puts K.held K.faults sink.old self.old sink.new self.new piece.now }
+        ensures { Puts K.ByteSink (sink.old, self.old) (sink.new, self.new) piece.now }
     {
         self.send(sink);
         if piece.len() <= ROOM {
@@ -138,7 +137,7 @@ impl SinkBuffer {
     fn put_decimal_over<K: ByteSink>(&mut self, sink: &mut K, value: u128, places: u32)
         requires value { value < 10 ^ 38 }
         requires places { places ≤ 16 }
-        ensures { Puts K.held K.faults sink.old self.old sink.new self.new (decimal_text places value) }
+        ensures { Puts K.ByteSink (sink.old, self.old) (sink.new, self.new) (decimal_text places value) }
     {
         self.put_over(sink, decimal(value, places).bytes());
     }
@@ -155,8 +154,7 @@ impl SinkBuffer {
     )
         requires value { value < 10 ^ 38 }
         requires places { places ≤ 16 }
-        ensures { Puts K.held K.faults
-            sink.old self.old sink.new self.new (label.now ++ decimal_text places value) }
+        ensures { Puts K.ByteSink (sink.old, self.old) (sink.new, self.new) (label.now ++ decimal_text places value) }
     {
         self.put_over(sink, label);
         self.put_decimal(sink, value, places);
@@ -186,14 +184,14 @@ impl SinkBuffer {
     /// Gives a long piece to the sink at once.
     fn pass<K: ByteSink>(&mut self, sink: &mut K, piece: &[u8])
         requires { self.old.waiting ≡ [] }
-        ensures { Puts K.held K.faults sink.old self.old sink.new self.new piece.now }
+        ensures { Puts K.ByteSink (sink.old, self.old) (sink.new, self.new) piece.now }
     {
         hand_over(sink, piece, &mut self.written, &mut self.failed);
     }
 
     /// Gives all that waits to the sink.
     fn send<K: ByteSink>(&mut self, sink: &mut K)
-        ensures given { Puts K.held K.faults sink.old self.old sink.new self.new [] }
+        ensures given { Puts K.ByteSink (sink.old, self.old) (sink.new, self.new) [] }
         ensures none { self.new.waiting ≡ [] }
     {
         hand_over(
@@ -208,9 +206,9 @@ impl SinkBuffer {
 
 /// Writes bytes that waited, unless the sink has failed before.
 fn hand_over<K: ByteSink>(sink: &mut K, bytes: &[u8], written: &mut usize, failed: &mut bool)
-    ensures { Puts K.held K.faults
-        sink.old (record { waiting = bytes.now; written = written.old; failed = failed.old })
-        sink.new (record { waiting = []; written = written.new; failed = failed.new }) [] }
+    ensures { Puts K.ByteSink
+        (sink.old, record { waiting = bytes.now; written = written.old; failed = failed.old })
+        (sink.new, record { waiting = []; written = written.new; failed = failed.new }) [] }
 {
     if *failed {
         return;

@@ -4,6 +4,7 @@ ghost use Rattle.std.specs.Prelude.{◌≡◌, ℕ, List, [], ◌∷◌, ◌++�
 ghost use Rattle.std.specs.Str.Lines.{strip_carriage_return};
 ghost use Rattle.cts_io.specs.Lines.{lines_of, pieces_of, IsLineEnd};
 
+use memchr::memchr;
 use std::marker::Model;
 
 /// A cursor over the lines of a text, which it gives as slices with their numbers.
@@ -92,10 +93,11 @@ fn split_line(text: &[u8]) -> (&[u8], &[u8])
 }
 
 /// The place of the first LF.
+#[tactic(auto, using(crate::proofs::Found::first_is_position))]
 fn find_line_feed(text: &[u8]) -> Option<usize>
     ensures { result ≡ position (λ byte. byte == 10) text.now }
 {
-    text.iter().position(|byte| *byte == b'\n')
+    memchr(b'\n', text)
 }
 
 /// A piece less the one CR at its end.

@@ -1,6 +1,6 @@
 //! The edge to the host: std's readers and writers as a source and a sink.
 
-ghost use Rattle.std.specs.Prelude.{◌≡◌, ℕ, None, ◌<◌, ◌≤◌, length, IfOk, OnOk, OnErr};
+ghost use Rattle.std.specs.Prelude.{◌≡◌, ℕ, [], None, ◌<◌, ◌≤◌, length, IfOk, OnOk, OnErr, IsOk};
 ghost use Rattle.std.specs.Io.KnownBytes.{ReadConsumes, WriteAppends};
 ghost use Rattle.cts_io.specs.Faults.{Rose, next_count};
 
@@ -62,8 +62,8 @@ impl<R: Read> ByteSource for HostSource<R> {
 }
 
 /// A writer of std as a sink. Contracts see the writer and a count of faults, which rises where a
-/// write of the host failed, or took nothing of a piece that isn't empty, until it stands at
-/// 2^64 - 1.
+/// write of the host failed or took nothing, until it stands at 2^64 - 1. A piece of no bytes does not
+/// go to the host, and counts no fault.
 ///
 /// As a sink it tells no bytes, since the host's streams don't. Where its writer does, a write hands
 /// over exactly what it says.
@@ -105,9 +105,16 @@ impl<W: Write> ByteSink for HostSink<W> {
         ensures bytes { WriteAppends (W.contents self.old.device) (W.contents self.new.device) result bytes.now }
         ensures ok { OnOk result (self.new.faults ≡ self.old.faults) }
         ensures err { OnErr result (self.new.faults ≡ next_count self.old.faults) }
+
+        // A piece of no bytes is taken, and counts no fault.
+        ensures empty { bytes.now ≡ [] → IsOk result }
+        ensures untouched { bytes.now ≡ [] → self.new ≡ self.old }
     {
+        if bytes.is_empty() {
+            return Ok(0);
+        }
         match self.writer.write(bytes) {
-            Ok(count) if count > 0 || bytes.is_empty() => Ok(count),
+            Ok(count) if count > 0 => Ok(count),
             _ => {
                 self.faults = self.faults.saturating_add(1);
                 Err(Failed)

@@ -8,10 +8,10 @@ returns-then-self g c =
     let seen = sym c.self.view_is in
     let failed : c.send.new.self.failed ≡ true = ap (λ (p : Pending). p.failed) seen ∙ c.if-self.true in
     let written : c.self.inside.written ≡ c.send.new.self.written = ap (λ (p : Pending). p.written) c.self.view_is in
-    finishes_part _ _ _ _ _ c.send.new.self _ c.send.ensures.given failed written
+    finishes_part _ _ _ _ c.send.ensures.given failed written
 
 pub returns-else-self : goal.returns-else-self
 returns-else-self g c =
     let seen = sym c.self.view_is in
     let failed : c.send.new.self.failed ≡ false = ap (λ (p : Pending). p.failed) seen ∙ c.if-self.false in
-    finishes_all _ _ _ _ _ c.send.new.self c.send.ensures.given c.send.ensures.none failed
+    finishes_all _ _ _ c.send.ensures.given c.send.ensures.none failed

@@ -10,7 +10,7 @@ pub pass-requires : goal.pass-requires
 pass-requires g c = c.send.ensures.none
 
 pub returns-then-piece-le-ROOM : goal.returns-then-piece-le-ROOM
-returns-then-piece-le-ROOM g c = c.send.ensures.given ▸ puts_kept _ _ _ _ _ _ c.keep.ensures
+returns-then-piece-le-ROOM g c = c.send.ensures.given ▸ puts_kept _ _ _ _ _ c.keep.ensures
 
 pub returns-else-piece-le-ROOM : goal.returns-else-piece-le-ROOM
 returns-else-piece-le-ROOM g c = c.send.ensures.given ▸ c.pass.ensures
