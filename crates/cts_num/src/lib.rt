@@ -4,7 +4,7 @@
 //! The layers above may use [`decimal`], which writes a number as its canonical decimal text,
 //! [`write_decimal`], which does so in place, [`read_canonical`], which reads such a text and no other,
 //! [`read_decimal`], which reads a decimal text or names the first fault in it, [`read_front`], which
-//! reads the number in front of a text, the [`laws`] that tie them, [`isqrt`] and
+//! reads the number in front of a text, the [`laws`] that tie them, [`POWERS_OF_TEN`], [`isqrt`] and
 //! [`floor_div`], and [`NoMemory`], to which `?` turns every failed allocation.
 #![tactic(auto)]
 
@@ -21,6 +21,7 @@ mod write;
 pub use canonical::read_canonical;
 pub use error::NoMemory;
 pub use forward::write_decimal;
+pub use powers::POWERS_OF_TEN;
 pub use read::{DecimalFault, read_decimal, read_front};
-pub use roots::{floor_div, isqrt};
+pub use roots::{floor_div, isqrt, near_float};
 pub use write::{Digits, decimal};

@@ -10,7 +10,11 @@ use std::num::{nearest_u64_to_f64, saturating_f64_to_u64};
 pub fn isqrt(n: u128) -> u128
     ensures { IsRoot n result }
 {
-    let near = near_root(n);
+    let first = float_root(n);
+    if is_root(n, first) {
+        return u128::from(first);
+    }
+    let near = corrected(n, first);
     if is_root(n, near) {
         return u128::from(near);
     }
@@ -31,11 +35,16 @@ fn bisected(n: u128) -> u128
     n.isqrt()
 }
 
-// A number that is the root or the next one, by the root of a float and by what its square leaves. Nothing is
-// claimed of it: it is looked at before it is taken.
+// The root of a float near the number. Below 2^100 it is the root or next to it. Nothing is claimed of it: it is looked at
+// before it is taken.
 #[inline(always)]
-fn near_root(n: u128) -> u64 {
-    let first = saturating_f64_to_u64(near_float(n).sqrt());
+fn float_root(n: u128) -> u64 {
+    saturating_f64_to_u64(near_float(n).sqrt())
+}
+
+// A number that is the root or the next one, by what the square of a first guess leaves. Nothing is claimed of it either.
+#[inline(never)]
+fn corrected(n: u128, first: u64) -> u64 {
     let square = u128::from(first) * u128::from(first);
     let double = 2.0 * nearest_u64_to_f64(first);
     let more = near_float(n.saturating_sub(square)) / double;
@@ -45,9 +54,9 @@ fn near_root(n: u128) -> u64 {
         .saturating_sub(saturating_f64_to_u64(less))
 }
 
-// A float near the number.
+/// A float near the number. Nothing is claimed of it: it is for a guess that is looked at before it is taken.
 #[inline(always)]
-fn near_float(n: u128) -> f64 {
+pub fn near_float(n: u128) -> f64 {
     let high = (n >> 64) as u64;
     let low = (n & u128::from(u64::MAX)) as u64;
     nearest_u64_to_f64(high) * 18_446_744_073_709_551_616.0 + nearest_u64_to_f64(low)
