@@ -9,7 +9,7 @@ use Rattle.cts_block.specs.declared.whole.Whole.{Whole}
 use Rattle.cts_block.specs.declared.whole.Range.{Range}
 use Rattle.cts_block.specs.declared.whole.Side.{Side}
 use Rattle.cts_block.specs.declared.whole.Side.TheVariants.{Left, Right}
-use Rattle.cts_block.specs.FreePoints.{IsInside}
+use Rattle.cts_block.specs.FreePoints.{IsHalfInside}
 use Rattle.cts_block.specs.Search.{IsFreeAmong, IsAhead, IsClosest, IsOnSide, IsBeyond, columns_of, half_of}
 use Rattle.cts_block.proofs.OrderLemmas.{ahead_refl, ahead_trans, right_is_later, left_is_later}
 
@@ -17,10 +17,10 @@ use Rattle.cts_block.proofs.OrderLemmas.{ahead_refl, ahead_trans, right_is_later
 pub record IsCovered (Counts : Block → Type 0) (at : Half) : Type 0 where
   pub block : Block
   pub counts : Counts block
-  pub inside : IsInside block at
+  pub inside : IsHalfInside block at
 
 abbrev pub IsClear : (Block → Type 0) → Half → Type 0
-IsClear Counts at = (block : Block) → Counts block → ¬ IsInside block at
+IsClear Counts at = (block : Block) → Counts block → ¬ IsHalfInside block at
 
 -- a free point that is no later than another one, and where it lies
 pub record HasAhead (Counts : Block → Type 0) (die : Die) (from : Half) (columns : Range) (p : Whole) : Type 0 where

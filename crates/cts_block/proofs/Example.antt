@@ -8,11 +8,11 @@ use Rattle.cts_geom.specs.Points.{spot_at, point_of}
 use Rattle.cts_geom.proofs.PointLemmas.{distance_of-is}
 use Rattle.cts_block.specs.declared.blocks.Block.{Block}
 use Rattle.cts_block.specs.declared.blocks.Kind.TheVariants.{Buffer, All as AllKind}
-use Rattle.cts_block.specs.FreePoints.{IsInside, IsOpenToWires, IsOpenToBuffers}
+use Rattle.cts_block.specs.FreePoints.{IsHalfInside, IsOpenToWires, IsOpenToBuffers}
 use Rattle.cts_block.specs.NearestFree.{IsFree, IsNearestFree}
 
 -- a point of whole nm that isn't strictly inside a block lies on one of its sides or beyond it
-off_a_side : (block : Block) (x y : ℤ) → (IsInside block (point_of (spot_at x y)) → ⊥) → ((x ≤ℤ block.x1) ⊎ (block.x2 ≤ℤ x)) ⊎ ((y ≤ℤ block.y1) ⊎ (block.y2 ≤ℤ y))
+off_a_side : (block : Block) (x y : ℤ) → (IsHalfInside block (point_of (spot_at x y)) → ⊥) → ((x ≤ℤ block.x1) ⊎ (block.x2 ≤ℤ x)) ⊎ ((y ≤ℤ block.y1) ⊎ (block.y2 ≤ℤ y))
 off_a_side block x y outside =
     by_lt_z block.x1 x
     (λ left. by_lt_z x block.x2

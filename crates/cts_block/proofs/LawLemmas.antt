@@ -10,14 +10,14 @@ use Rattle.cts_geom.specs.declared.bounds.Die.{Die}
 use Rattle.cts_geom.specs.Points.{spot_at, point_of, distance_of, manhattan_of}
 use Rattle.cts_block.specs.declared.blocks.Block.{Block}
 use Rattle.cts_block.specs.declared.whole.Whole.{Whole}
-use Rattle.cts_block.specs.FreePoints.{IsInDie}
+use Rattle.cts_block.specs.FreePoints.{IsHalfInDie}
 use Rattle.cts_block.specs.NearestFree.{IsFree, IsLeastFree, LiesIn, NearestFreeIsOne, HasNearestFree}
 use Rattle.cts_block.specs.Search.{IsFreeAmong, IsAhead, IsObstacle, half_of}
 use Rattle.cts_block.proofs.MapLemmas.{free_from_parts, parts_of_free}
 use Rattle.cts_block.proofs.ObstacleLemmas.{clear_or_covered, least_from_first}
 use Rattle.cts_block.proofs.OrderLemmas.{ahead_refl, ahead_trans}
 
-in_die_or_not : (die : Die) (at : Half) → IsInDie die at ⊎ (¬ IsInDie die at)
+in_die_or_not : (die : Die) (at : Half) → IsHalfInDie die at ⊎ (¬ IsHalfInDie die at)
 in_die_or_not die at =
     by_lt_z at.x (pos 2 *ℤ die.x1)
     (λ out. inr (λ in_die. omega (arith, ints, out, in_die.x.at_least)))
@@ -172,11 +172,11 @@ corner_is_free blocks buffered die x_order y_order lie = record {
   };
   clear = λ block counts inside.
       let lies : LiesIn die block = All-contains (LiesIn die) blocks block lie counts.listed in
-      omega (arith, ints, lies.from.left, inside.x.above);
+      omega (arith, ints, lies.from.west, inside.x.above);
 }
 
 -- every point of the die is met by the scan
-point_is_met : (die : Die) (q : Whole) → IsInDie die (half_of q)
+point_is_met : (die : Die) (q : Whole) → IsHalfInDie die (half_of q)
     → (i : ℕ) × (i < unsigned_abs (die.x2 -ℤ die.x1) + 1) × (k : ℕ) × (k < unsigned_abs (die.y2 -ℤ die.y1) + 1) × (q ≡ record { x = die.x1 +ℤ pos i; y = die.y1 +ℤ pos k })
 point_is_met die q in_die =
     let i : ℕ = unsigned_abs (q.x -ℤ die.x1) in

@@ -10,7 +10,7 @@ use Rattle.cts_geom.specs.Points.{point_of}
 use Rattle.cts_block.specs.declared.blocks.Block.{Block}
 use Rattle.cts_block.specs.declared.index.Index.{Index}
 use Rattle.cts_block.specs.declared.whole.Whole.{Whole}
-use Rattle.cts_block.specs.FreePoints.{IsInDie, IsInside, IsOpenToBuffers, IsOpenToWires}
+use Rattle.cts_block.specs.FreePoints.{IsHalfInDie, IsHalfInside, IsOpenToBuffers, IsOpenToWires}
 use Rattle.cts_block.specs.NearestFree.{IsFree, LiesIn}
 use Rattle.cts_block.specs.Search.{IsFreeAmong, IsObstacle, Stops}
 use Rattle.cts_block.specs.Index.{IsIndex, index_for}
@@ -72,7 +72,7 @@ module _ (die : Die) (for_wires for_buffers : Index) (is : IsFreeMap die for_wir
 
 -- free in the sense of the definition: in the die, and inside no block that counts
 pub free_from_parts : (blocks : List Block) (die : Die) (buffered : Bool) (at : Spot) (point : Half) → point ≡ point_of at
-    → IsInDie die point → ((block : Block) → IsObstacle blocks buffered block → ¬ IsInside block point) → IsFree blocks die buffered at
+    → IsHalfInDie die point → ((block : Block) → IsObstacle blocks buffered block → ¬ IsHalfInside block point) → IsFree blocks die buffered at
 free_from_parts blocks die true at point is in_die clear = record {
   in_die = rw (← is) in_die;
   clear = λ k d below. rw (← is) (clear (slice_index_or blocks k d) (record { listed = All-contains_itself blocks k d below; stops = tt }));
@@ -83,6 +83,6 @@ free_from_parts blocks die false at point is in_die clear = record {
 }
 
 pub parts_of_free : (blocks : List Block) (die : Die) (buffered : Bool) (at : Spot) (point : Half) → point ≡ point_of at
-    → IsFree blocks die buffered at → IsInDie die point × ((block : Block) → IsObstacle blocks buffered block → ¬ IsInside block point)
+    → IsFree blocks die buffered at → IsHalfInDie die point × ((block : Block) → IsObstacle blocks buffered block → ¬ IsHalfInside block point)
 parts_of_free blocks die true at point is free = (rw is free.in_die, λ block counts. rw is (All-contains (IsOpenToBuffers (point_of at)) blocks block free.clear counts.listed))
 parts_of_free blocks die false at point is free = (rw is free.in_die, λ block counts. rw is (All-contains (IsOpenToWires (point_of at)) blocks block free.clear counts.listed counts.stops))

@@ -15,13 +15,13 @@ use Rattle.cts_block.specs.declared.blocks.Kind.TheVariants.{Buffer, All as Ever
 use Rattle.cts_block.specs.declared.whole.Whole.{Whole}
 use Rattle.cts_block.specs.declared.whole.Side.{Side}
 use Rattle.cts_block.specs.declared.whole.Side.TheVariants.{Left, Right}
-use Rattle.cts_block.specs.FreePoints.{IsInside, IsOpenToWires, IsOpenToBuffers}
+use Rattle.cts_block.specs.FreePoints.{IsHalfInside, IsOpenToWires, IsOpenToBuffers}
 use Rattle.cts_block.specs.NearestFree.{IsFree, IsLeastFree}
 use Rattle.cts_block.specs.Search.{IsFreeAmong, IsAhead, IsOnEdge, IsOnSide, IsObstacle, Stops, half_of}
 use Rattle.cts_block.proofs.OrderLemmas.{ahead_trans}
 use Rattle.cts_block.proofs.ColumnLemmas.{IsClear, IsCovered}
 
-pub inside_or_not : (block : Block) (at : Half) → IsInside block at ⊎ (¬ IsInside block at)
+pub inside_or_not : (block : Block) (at : Half) → IsHalfInside block at ⊎ (¬ IsHalfInside block at)
 inside_or_not block at =
     by_lt_z (pos 2 *ℤ block.x1) at.x
     (λ left. by_lt_z at.x (pos 2 *ℤ block.x2)
@@ -44,7 +44,7 @@ clear_or_covered [] buffered at = inl (λ block counts. absurd (omega (arith, co
 clear_or_covered (first ∷ rest) buffered at =
     let here : Contains (first ∷ rest) first = Contains-append_left (first ∷ []) rest first (0, omega arith, refl) in
     let Goal : Type 0 = IsClear (IsObstacle (first ∷ rest) buffered) at ⊎ IsCovered (IsObstacle (first ∷ rest) buffered) at in
-    let by_rest : ¬ (Stops buffered first.kind × IsInside first at) → Goal = λ open'.
+    let by_rest : ¬ (Stops buffered first.kind × IsHalfInside first at) → Goal = λ open'.
     elim (clear_or_covered rest buffered at) [
       | inr covered ↦ inr (record {
         block = covered.block;
@@ -76,8 +76,8 @@ whole_point x y = half_same (point_of (spot_at x y)) (half_of (record { x = x; y
 
 -- where no block of a list that counts has a point inside, index by index
 pub none_covers : (blocks : List Block) (buffered : Bool) (at : Half)
-    → ((k : ℕ) (d : Block) → k < length blocks → Stops buffered (slice_index_or blocks k d).kind → ¬ IsInside (slice_index_or blocks k d) at)
-    → (block : Block) → IsObstacle blocks buffered block → ¬ IsInside block at
+    → ((k : ℕ) (d : Block) → k < length blocks → Stops buffered (slice_index_or blocks k d).kind → ¬ IsHalfInside (slice_index_or blocks k d) at)
+    → (block : Block) → IsObstacle blocks buffered block → ¬ IsHalfInside block at
 none_covers blocks buffered at none block counts inside =
     let k = counts.listed.0 in
     let is : slice_index_or blocks k block ≡ block = counts.listed.2 in

@@ -10,7 +10,7 @@ use Rattle.cts_geom.specs.declared.points.Half.{Half}
 use Rattle.cts_block.specs.declared.blocks.Block.{Block}
 use Rattle.cts_block.specs.declared.bands.Bands.{Bands}
 use Rattle.cts_block.specs.declared.whole.Range.{Range}
-use Rattle.cts_block.specs.FreePoints.{IsInside}
+use Rattle.cts_block.specs.FreePoints.{IsHalfInside}
 use Rattle.cts_block.specs.Raster.{IsHalfIn, IsCellOf, AreCells, AreColumns, IsRaster, band_of, end_of}
 
 -- a block at the end of a list is in it
@@ -24,11 +24,11 @@ only one block (k, below, is) = elim k as (λ (n : ℕ). n < 1 → slice_index_o
 -- a step over the blocks of a list, of which those with a point inside that is in question are kept
 module _ (blocks : List Block) (In : Half → Type 0) (i : ℕ) (within : i < length blocks) (e : Block) where
   pub kept_more : (old new : List Block) → ((block : Block) → Contains old block → Contains new block)
-      → ((at : Half) → In at → IsInside (slice_index_or blocks i e) at → Contains new (slice_index_or blocks i e))
-      → ((k : ℕ) (d : Block) → k < i → (at : Half) → In at → IsInside (slice_index_or blocks k d) at → Contains old (slice_index_or blocks k d))
-      → (k : ℕ) (d : Block) → k < i + 1 → (at : Half) → In at → IsInside (slice_index_or blocks k d) at → Contains new (slice_index_or blocks k d)
+      → ((at : Half) → In at → IsHalfInside (slice_index_or blocks i e) at → Contains new (slice_index_or blocks i e))
+      → ((k : ℕ) (d : Block) → k < i → (at : Half) → In at → IsHalfInside (slice_index_or blocks k d) at → Contains old (slice_index_or blocks k d))
+      → (k : ℕ) (d : Block) → k < i + 1 → (at : Half) → In at → IsHalfInside (slice_index_or blocks k d) at → Contains new (slice_index_or blocks k d)
   kept_more old new grown here seen k d below =
-      let P : ℕ → Type 0 = λ n. (at : Half) → In at → IsInside (slice_index_or blocks n d) at → Contains new (slice_index_or blocks n d) in
+      let P : ℕ → Type 0 = λ n. (at : Half) → In at → IsHalfInside (slice_index_or blocks n d) at → Contains new (slice_index_or blocks n d) in
       let last : P i = rw (get_or_default blocks i d e within) here in
       below_more P i (λ n h at is_in inside. grown (slice_index_or blocks n d) (seen n d h at is_in inside)) last k below
 
@@ -43,8 +43,8 @@ module _ (blocks : List Block) (In : Half → Type 0) (i : ℕ) (within : i < le
 
 -- all blocks of a list, from those at its indices
 pub kept_all : (blocks kept : List Block) (In : Half → Type 0)
-    → ((k : ℕ) (d : Block) → k < length blocks → (at : Half) → In at → IsInside (slice_index_or blocks k d) at → Contains kept (slice_index_or blocks k d))
-    → (block : Block) → Contains blocks block → (at : Half) → In at → IsInside block at → Contains kept block
+    → ((k : ℕ) (d : Block) → k < length blocks → (at : Half) → In at → IsHalfInside (slice_index_or blocks k d) at → Contains kept (slice_index_or blocks k d))
+    → (block : Block) → Contains blocks block → (at : Half) → In at → IsHalfInside block at → Contains kept block
 kept_all blocks kept In each block listed at is_in inside =
     let k = listed.0 in
     let is : slice_index_or blocks k block ≡ block = listed.2 in
@@ -54,7 +54,7 @@ kept_all blocks kept In each block listed at is_in inside =
 
 -- one block that fills the cell is enough
 pub filled_cell : (blocks : List Block) (column row : Range) (block : Block) → Contains blocks block
-    → ((at : Half) → IsHalfIn column at.x → IsHalfIn row at.y → IsInside block at) → IsCellOf blocks column row (block ∷ [])
+    → ((at : Half) → IsHalfIn column at.x → IsHalfIn row at.y → IsHalfInside block at) → IsCellOf blocks column row (block ∷ [])
 filled_cell blocks column row block listed fills = record {
   sound = λ b is. let P : Block → Type 0 = λ x. Contains blocks x in subst P (only block b is) listed;
   complete = λ b _ at x y _. record { block = block; listed = (0, omega arith, refl); inside = fills at x y };
@@ -63,7 +63,7 @@ filled_cell blocks column row block listed fills = record {
 -- the blocks that reach into the cell are enough
 pub kept_cell : (blocks cell : List Block) (column row : Range)
     → ((block : Block) → Contains cell block → Contains blocks block)
-    → ((block : Block) → Contains blocks block → (at : Half) → IsHalfIn column at.x × IsHalfIn row at.y → IsInside block at → Contains cell block)
+    → ((block : Block) → Contains blocks block → (at : Half) → IsHalfIn column at.x × IsHalfIn row at.y → IsHalfInside block at → Contains cell block)
     → IsCellOf blocks column row cell
 kept_cell blocks cell column row sound complete = record {
   sound = sound;
@@ -93,7 +93,7 @@ each_more P xs x n len each here j d below =
 -- cells over the blocks that reach into a column are cells over all blocks
 pub cells_of_near : (blocks near : List Block) (column : Range) (rows : Bands) (cells : List (List Block))
     → ((block : Block) → Contains near block → Contains blocks block)
-    → ((block : Block) → Contains blocks block → (at : Half) → IsHalfIn column at.x → IsInside block at → Contains near block)
+    → ((block : Block) → Contains blocks block → (at : Half) → IsHalfIn column at.x → IsHalfInside block at → Contains near block)
     → AreCells near column rows cells → AreCells blocks column rows cells
 cells_of_near blocks near column rows cells sound complete are = record {
   count = are.count;
@@ -118,23 +118,23 @@ cell_at blocks columns rows cells are i j i_below j_below column cell is_column 
 
 -- what is found in a cell is one of the blocks
 pub found_in_cell : (r : Option Block) (blocks cell : List Block) (at : Half) → ((block : Block) → Contains cell block → Contains blocks block)
-    → IfSome r (λ block. Contains cell block × IsInside block at) → IfSome r (λ block. Contains blocks block × IsInside block at)
+    → IfSome r (λ block. Contains cell block × IsHalfInside block at) → IfSome r (λ block. Contains blocks block × IsHalfInside block at)
 found_in_cell None blocks cell at sound found = tt
 found_in_cell (Some block) blocks cell at sound found = (sound block found.0, found.1)
 
 -- where nothing is found in a cell, no block has the point inside
 pub none_in_cell : (r : Option Block) (blocks cell : List Block) (at : Half) (column row : Range) → IsCellOf blocks column row cell
     → IsHalfIn column at.x → IsHalfIn row at.y
-    → IfNone r (All (λ block. ¬ IsInside block at) cell) → IfNone r ((block : Block) → Contains blocks block → ¬ IsInside block at)
+    → IfNone r (All (λ block. ¬ IsHalfInside block at) cell) → IfNone r ((block : Block) → Contains blocks block → ¬ IsHalfInside block at)
 none_in_cell (Some block) blocks cell at column row is x y none = tt
 none_in_cell None blocks cell at column row is x y none = λ block listed inside.
     let around = is.complete block listed at x y inside in
-    All-contains (λ b. ¬ IsInside b at) cell around.block none around.listed around.inside
+    All-contains (λ b. ¬ IsHalfInside b at) cell around.block none around.listed around.inside
 
 -- a number that is in no column is the x of no point inside a block, and likewise for rows
 module _ (blocks : List Block) (columns rows : Bands) (cells : List (List (List Block))) (is : IsRaster blocks columns rows cells) (at : Half) where
   pub none_beside : (x : ℤ) → (pos 2 *ℤ x) ≤ℤ at.x → at.x ≤ℤ (pos 2 *ℤ x +ℤ pos 1) → ((x <ℤ columns.low) ⊎ (end_of columns ≤ℤ x))
-      → (block : Block) → Contains blocks block → ¬ IsInside block at
+      → (block : Block) → Contains blocks block → ¬ IsHalfInside block at
   none_beside x low high outside block listed inside =
       let left : columns.low ≤ℤ block.x1 = is.left block listed in
       let right : block.x2 ≤ℤ end_of columns = is.right block listed in
@@ -149,7 +149,7 @@ module _ (blocks : List Block) (columns rows : Bands) (cells : List (List (List 
       beyond_end right end x halves a b c d = omega (arith, ints, a, b, c, d)
 
   pub none_above : (y : ℤ) → (pos 2 *ℤ y) ≤ℤ at.y → at.y ≤ℤ (pos 2 *ℤ y +ℤ pos 1) → ((y <ℤ rows.low) ⊎ (end_of rows ≤ℤ y))
-      → (block : Block) → Contains blocks block → ¬ IsInside block at
+      → (block : Block) → Contains blocks block → ¬ IsHalfInside block at
   none_above y low high outside block listed inside =
       let bottom : rows.low ≤ℤ block.y1 = is.bottom block listed in
       let top : block.y2 ≤ℤ end_of rows = is.top block listed in

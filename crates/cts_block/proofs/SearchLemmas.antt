@@ -8,21 +8,21 @@ use Rattle.cts_block.specs.declared.blocks.Block.{Block}
 use Rattle.cts_block.specs.declared.whole.Whole.{Whole}
 use Rattle.cts_block.specs.declared.whole.Range.{Range}
 use Rattle.cts_block.specs.declared.whole.Segment.{Segment}
-use Rattle.cts_block.specs.FreePoints.{IsPointInRange, IsInDie, IsInside}
+use Rattle.cts_block.specs.FreePoints.{IsPointInRange, IsHalfInDie, IsHalfInside}
 use Rattle.cts_block.specs.NearestFree.{IsDieInRange, LiesIn}
 use Rattle.cts_block.specs.Search.{IsWholeInRange, IsFreeAmong, IsAhead, IsClosest, IsOn, IsSegmentIn, rows_of, half_of}
 use Rattle.cts_block.proofs.OrderLemmas.{ahead_trans, upper_is_later, lower_is_later}
 
-pub range_in_die : (die : Die) → IsDieInRange die → (p : Whole) → IsInDie die (half_of p) → IsWholeInRange p
+pub range_in_die : (die : Die) → IsDieInRange die → (p : Whole) → IsHalfInDie die (half_of p) → IsWholeInRange p
 range_in_die die range p in_die = record {
   x = record { low = omega (arith, ints, in_die.x.at_least, range.x1.low); high = omega (arith, ints, in_die.x.at_most, range.x2.high) };
   y = record { low = omega (arith, ints, in_die.y.at_least, range.y1.low); high = omega (arith, ints, in_die.y.at_most, range.y2.high) };
 }
 
-pub point_in_range : (die : Die) → IsDieInRange die → (point : Half) → IsInDie die point → IsPointInRange point
+pub point_in_range : (die : Die) → IsDieInRange die → (point : Half) → IsHalfInDie die point → IsPointInRange point
 point_in_range die range point in_die = record { x = omega (arith, ints, in_die.x.at_most, range.x2.high); y = omega (arith, ints, in_die.y.at_most, range.y2.high) }
 
-pub point_in_die : (die : Die) (x y : ℤ) → die.x1 ≤ℤ x → x ≤ℤ die.x2 → die.y1 ≤ℤ y → y ≤ℤ die.y2 → IsInDie die (half_of (record { x = x; y = y }))
+pub point_in_die : (die : Die) (x y : ℤ) → die.x1 ≤ℤ x → x ≤ℤ die.x2 → die.y1 ≤ℤ y → y ≤ℤ die.y2 → IsHalfInDie die (half_of (record { x = x; y = y }))
 point_in_die die x y left right low high = record {
   x = record { at_least = omega (arith, ints, left); at_most = omega (arith, ints, right) };
   y = record { at_least = omega (arith, ints, low); at_most = omega (arith, ints, high) };
@@ -31,15 +31,15 @@ point_in_die die x y left right low high = record {
 pub left_edge_in_die : (die : Die) (block : Block) (edge : Segment) → LiesIn die block
     → edge.bottom ≡ record { x = block.x1; y = block.y1 } → edge.top ≡ record { x = block.x1; y = block.y2 } → IsSegmentIn die edge
 left_edge_in_die die block edge lies bottom top = record {
-  bottom = rw bottom (point_in_die die block.x1 block.y1 lies.from.left lies.from.right lies.from.bottom lies.from.top);
-  top = rw top (point_in_die die block.x1 block.y2 lies.from.left lies.from.right lies.to.bottom lies.to.top);
+  bottom = rw bottom (point_in_die die block.x1 block.y1 lies.from.west lies.from.east lies.from.south lies.from.north);
+  top = rw top (point_in_die die block.x1 block.y2 lies.from.west lies.from.east lies.to.south lies.to.north);
 }
 
 pub right_edge_in_die : (die : Die) (block : Block) (edge : Segment) → LiesIn die block
     → edge.bottom ≡ record { x = block.x2; y = block.y1 } → edge.top ≡ record { x = block.x2; y = block.y2 } → IsSegmentIn die edge
 right_edge_in_die die block edge lies bottom top = record {
-  bottom = rw bottom (point_in_die die block.x2 block.y1 lies.to.left lies.to.right lies.from.bottom lies.from.top);
-  top = rw top (point_in_die die block.x2 block.y2 lies.to.left lies.to.right lies.to.bottom lies.to.top);
+  bottom = rw bottom (point_in_die die block.x2 block.y1 lies.to.west lies.to.east lies.from.south lies.from.north);
+  top = rw top (point_in_die die block.x2 block.y2 lies.to.west lies.to.east lies.to.south lies.to.north);
 }
 
 -- a point at the x of an edge and within its y lies on it
@@ -52,14 +52,14 @@ on_edge edge x low high q bottom top column above below =
     record { column = column ∙ sym bottom_x; low = omega (arith, ints); high = omega (arith, ints) }
 
 -- from a point inside a block up to its upper edge
-module _ (Counts : Block → Type 0) (die : Die) (block : Block) (counts : Counts block) (lies : LiesIn die block) (p : Whole) (inside : IsInside block (half_of p)) where
+module _ (Counts : Block → Type 0) (die : Die) (block : Block) (counts : Counts block) (lies : LiesIn die block) (p : Whole) (inside : IsHalfInside block (half_of p)) where
   pub over_is_nearer : unsigned_abs (die.y2 -ℤ block.y2) < unsigned_abs (die.y2 -ℤ p.y)
-  over_is_nearer = omega (arith, ints, inside.y.below, lies.to.top)
+  over_is_nearer = omega (arith, ints, inside.y.below, lies.to.north)
 
-  pub over_in_die : IsInDie die (half_of p) → IsInDie die (half_of (record { x = p.x; y = block.y2 }))
+  pub over_in_die : IsHalfInDie die (half_of p) → IsHalfInDie die (half_of (record { x = p.x; y = block.y2 }))
   over_in_die in_die = record {
     x = in_die.x;
-    y = record { at_least = omega (arith, ints, inside.y.below, in_die.y.at_least); at_most = omega (arith, ints, lies.to.top) };
+    y = record { at_least = omega (arith, ints, inside.y.below, in_die.y.at_least); at_most = omega (arith, ints, lies.to.north) };
   }
 
   pub over_above : (low : ℤ) → low ≤ℤ p.y → low ≤ℤ block.y2
@@ -75,12 +75,12 @@ module _ (Counts : Block → Type 0) (die : Die) (block : Block) (counts : Count
       (λ over. over)
 
   pub under_is_nearer : unsigned_abs (block.y1 -ℤ die.y1) < unsigned_abs (p.y -ℤ die.y1)
-  under_is_nearer = omega (arith, ints, inside.y.above, lies.from.bottom)
+  under_is_nearer = omega (arith, ints, inside.y.above, lies.from.south)
 
-  pub under_in_die : IsInDie die (half_of p) → IsInDie die (half_of (record { x = p.x; y = block.y1 }))
+  pub under_in_die : IsHalfInDie die (half_of p) → IsHalfInDie die (half_of (record { x = p.x; y = block.y1 }))
   under_in_die in_die = record {
     x = in_die.x;
-    y = record { at_least = omega (arith, ints, lies.from.bottom); at_most = omega (arith, ints, inside.y.above, in_die.y.at_most) };
+    y = record { at_least = omega (arith, ints, lies.from.south); at_most = omega (arith, ints, inside.y.above, in_die.y.at_most) };
   }
 
   pub under_below : (high : ℤ) → p.y ≤ℤ high → block.y1 ≤ℤ high

@@ -4,3 +4,4 @@ pub mod Index
 pub mod NearestFree
 pub mod Raster
 pub mod Search
+pub mod Places

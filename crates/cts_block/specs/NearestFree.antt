@@ -7,6 +7,7 @@ use Rattle.cts_geom.specs.Coordinate.{IsCoordinate}
 use Rattle.cts_geom.specs.Points.{spot_at, point_of, distance_of}
 use Rattle.cts_block.specs.declared.blocks.Block.{Block}
 use Rattle.cts_block.specs.FreePoints.{IsFreeForWire, IsFreeForBuffer}
+use Rattle.cts_block.specs.Places.{IsInDie}
 
 -- free for what is to stand there: a buffer, or else wires alone
 abbrev pub IsFree : List Block → Die → Bool → Spot → Type 0
@@ -43,17 +44,10 @@ pub record IsDieInRange (die : Die) : Type 0 where
   pub x_ordered : die.x1 ≤ℤ die.x2
   pub y_ordered : die.y1 ≤ℤ die.y2
 
--- the point (x, y), in nm, lies in the closed die
-pub record IsCornerIn (die : Die) (x y : ℤ) : Type 0 where
-  pub left : die.x1 ≤ℤ x
-  pub right : x ≤ℤ die.x2
-  pub bottom : die.y1 ≤ℤ y
-  pub top : y ≤ℤ die.y2
-
 -- both corners of the block lie in the closed die
 pub record LiesIn (die : Die) (block : Block) : Type 0 where
-  pub from : IsCornerIn die block.x1 block.y1
-  pub to : IsCornerIn die block.x2 block.y2
+  pub from : IsInDie die block.x1 block.y1
+  pub to : IsInDie die block.x2 block.y2
 
 -- a place has no more than one nearest free point
 abbrev pub NearestFreeIsOne : Type 0

@@ -5,7 +5,7 @@ use Rattle.cts_geom.specs.declared.points.Half.{Half}
 use Rattle.cts_block.specs.declared.blocks.Block.{Block}
 use Rattle.cts_block.specs.declared.whole.Range.{Range}
 use Rattle.cts_block.specs.declared.bands.Bands.{Bands}
-use Rattle.cts_block.specs.FreePoints.{IsInside}
+use Rattle.cts_block.specs.FreePoints.{IsHalfInside}
 
 -- the whole numbers of one band
 abbrev pub band_of : Bands → ℕ → Range
@@ -26,12 +26,12 @@ pub record IsHalfIn (range : Range) (halves : ℤ) : Type 0 where
 pub record HasAround (blocks : List Block) (at : Half) : Type 0 where
   pub block : Block
   pub listed : Contains blocks block
-  pub inside : IsInside block at
+  pub inside : IsHalfInside block at
 
 -- of these blocks, the cell at these columns and rows has enough to tell whether a point in it lies inside one
 pub record IsCellOf (blocks : List Block) (columns rows : Range) (cell : List Block) : Type 0 where
   pub sound : (block : Block) → Contains cell block → Contains blocks block
-  pub complete : (block : Block) → Contains blocks block → (at : Half) → IsHalfIn columns at.x → IsHalfIn rows at.y → IsInside block at → HasAround cell at
+  pub complete : (block : Block) → Contains blocks block → (at : Half) → IsHalfIn columns at.x → IsHalfIn rows at.y → IsHalfInside block at → HasAround cell at
 
 -- the cells of a column of the raster, from row to row
 pub record AreCells (blocks : List Block) (columns : Range) (rows : Bands) (cells : List (List Block)) : Type 0 where

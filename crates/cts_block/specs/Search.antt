@@ -11,7 +11,7 @@ use Rattle.cts_block.specs.declared.whole.Range.{Range}
 use Rattle.cts_block.specs.declared.whole.Segment.{Segment}
 use Rattle.cts_block.specs.declared.whole.Side.{Side}
 use Rattle.cts_block.specs.declared.whole.Side.TheVariants.{Left, Right}
-use Rattle.cts_block.specs.FreePoints.{IsInDie, IsInside, StopsWires}
+use Rattle.cts_block.specs.FreePoints.{IsHalfInDie, IsHalfInside, StopsWires}
 use Rattle.cts_block.specs.NearestFree.{IsNoLater}
 
 pub record IsWholeInRange (p : Whole) : Type 0 where
@@ -31,8 +31,8 @@ half_of p = record { x = pos 2 *ℤ p.x; y = pos 2 *ℤ p.y }
 
 -- p is in the die and strictly inside none of the blocks that count
 pub record IsFreeAmong (Counts : Block → Type 0) (die : Die) (p : Whole) : Type 0 where
-  pub in_die : IsInDie die (half_of p)
-  pub clear : (block : Block) → Counts block → ¬ IsInside block (half_of p)
+  pub in_die : IsHalfInDie die (half_of p)
+  pub clear : (block : Block) → Counts block → ¬ IsHalfInside block (half_of p)
 
 -- p comes before q, or is q, by (distance, x, y)
 abbrev pub IsAhead : Half → Whole → Whole → Type 0
@@ -63,8 +63,8 @@ pub record IsOn (segment : Segment) (p : Whole) : Type 0 where
 
 -- both ends of the segment lie in the die
 pub record IsSegmentIn (die : Die) (segment : Segment) : Type 0 where
-  pub bottom : IsInDie die (half_of segment.bottom)
-  pub top : IsInDie die (half_of segment.top)
+  pub bottom : IsHalfInDie die (half_of segment.bottom)
+  pub top : IsHalfInDie die (half_of segment.top)
 
 -- the point lies on the left or the right edge of the block
 pub record IsOnEdge (block : Block) (p : Whole) : Type 0 where

@@ -1,5 +1,8 @@
 //! Blocks and their kinds.
 
+ghost use Rattle.std.specs.Prelude.{◌≡◌};
+ghost use Rattle.cts_block.specs.FreePoints.{stops_wires};
+
 /// What a block keeps out.
 #[derive(Clone, Copy, PartialEq, Eq, Debug)]
 pub enum Kind {
@@ -7,6 +10,18 @@ pub enum Kind {
     Buffer,
     /// Buffers and wires.
     All,
+}
+
+impl Kind {
+    /// Whether a block of this kind keeps wires out of its inside, and not buffers alone.
+    pub fn stops_wires(self) -> bool
+        ensures { result ≡ stops_wires self }
+    {
+        match self {
+            Kind::Buffer => false,
+            Kind::All => true,
+        }
+    }
 }
 
 /// A blocked rectangle from (x1, y1) to (x2, y2), in nm.

@@ -5,7 +5,7 @@ ghost use Rattle.cts_geom.specs.Points.{manhattan_of};
 ghost use Rattle.cts_block.specs.declared.blocks.Block.{Block};
 ghost use Rattle.cts_block.specs.declared.whole.Whole.{Whole};
 ghost use Rattle.cts_block.specs.NearestFree.{IsDieInRange, LiesIn};
-ghost use Rattle.cts_block.specs.FreePoints.{IsInDie};
+ghost use Rattle.cts_block.specs.FreePoints.{IsHalfInDie};
 ghost use Rattle.cts_block.specs.Search.{IsPlaceInRange, IsFreeAmong, IsAhead, IsOn, IsOnSide, IsOffset, IsSegmentIn};
 ghost use Rattle.cts_block.specs.Search.{half_of as spec_half_of, edge_of as spec_edge_of};
 ghost use Rattle.cts_block.specs.Index.{IsEdge, IsExposed, IsExposedIn, HasEdge};
@@ -95,7 +95,7 @@ fn edge_of(block: &Block, side: Side) -> Segment
 /// How far a point of the die is from the other side of it, in nm.
 pub fn offset_of(die: &Die, side: Side, p: Whole) -> u64
     requires die { IsDieInRange die.now }
-    requires p { IsInDie die.now (spec_half_of p) }
+    requires p { IsHalfInDie die.now (spec_half_of p) }
     ensures value { IsOffset side die.now p.x result }
     ensures bound { result ≤ 2 ^ 41 }
 {

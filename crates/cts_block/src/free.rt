@@ -1,10 +1,10 @@
 //! Points that blocks leave free.
 
-ghost use Rattle.std.specs.Prelude.{◌↔◌, ◌^◌, pos, ◌+ℤ◌, ◌*ℤ◌, ◌≤ℤ◌, IsTrue};
+ghost use Rattle.std.specs.Prelude.{◌↔◌, ◌^◌, pos, ◌+ℤ◌, ◌*ℤ◌, ◌≤ℤ◌, All, IsTrue};
 ghost use Rattle.cts_geom.specs.Points.{IsSpotInRange, point_of};
-ghost use Rattle.cts_block.specs.FreePoints.{IsPointInRange, IsBetween, IsStrictlyBetween, IsInDie, IsInside, IsFreeForWire, IsFreeForBuffer, IsOpenToWires, IsOpenToBuffers};
+ghost use Rattle.cts_block.specs.FreePoints.{IsPointInRange, IsBetween, IsStrictlyBetween, IsHalfInDie, IsHalfInside, IsFreeForWire, IsFreeForBuffer, IsOpenToWires, IsOpenToBuffers};
 
-use crate::blocks::{Block, Kind};
+use crate::blocks::Block;
 use cts_geom::{Die, Half, Spot, halves};
 
 /// Whole nm, of a number of half nm rounded down.
@@ -40,17 +40,17 @@ fn is_strictly_between(low: i64, high: i64, halves: i64) -> bool
 }
 
 /// Whether the point lies in the closed die.
-pub fn is_in_die(die: &Die, point: Half) -> bool
+pub fn is_half_in_die(die: &Die, point: Half) -> bool
     requires { IsPointInRange point }
-    ensures { IsTrue result ↔ IsInDie die.now point }
+    ensures { IsTrue result ↔ IsHalfInDie die.now point }
 {
     is_between(die.x1, die.x2, point.x) && is_between(die.y1, die.y2, point.y)
 }
 
 /// Whether a point in half nm lies in the inside of a block.
-pub fn is_inside(block: &Block, point: Half) -> bool
+pub fn is_half_inside(block: &Block, point: Half) -> bool
     requires { IsPointInRange point }
-    ensures { IsTrue result ↔ IsInside block.now point }
+    ensures { IsTrue result ↔ IsHalfInside block.now point }
 {
     is_strictly_between(block.x1, block.x2, point.x)
         && is_strictly_between(block.y1, block.y2, point.y)
@@ -60,14 +60,30 @@ fn is_open_to_wires(block: &Block, point: Half) -> bool
     requires { IsPointInRange point }
     ensures { IsTrue result ↔ IsOpenToWires point block.now }
 {
-    block.kind == Kind::Buffer || !is_inside(block, point)
+    !block.kind.stops_wires() || !is_half_inside(block, point)
 }
 
 fn is_open_to_buffers(block: &Block, point: Half) -> bool
     requires { IsPointInRange point }
     ensures { IsTrue result ↔ IsOpenToBuffers point block.now }
 {
-    !is_inside(block, point)
+    !is_half_inside(block, point)
+}
+
+/// Whether all of the blocks let a wire through the point.
+fn are_open_to_wires(blocks: &[Block], point: Half) -> bool
+    requires { IsPointInRange point }
+    ensures { IsTrue result ↔ All (IsOpenToWires point) blocks.now }
+{
+    blocks.iter().all(|block| is_open_to_wires(block, point))
+}
+
+/// Whether none of the blocks keeps a buffer from the point.
+fn are_open_to_buffers(blocks: &[Block], point: Half) -> bool
+    requires { IsPointInRange point }
+    ensures { IsTrue result ↔ All (IsOpenToBuffers point) blocks.now }
+{
+    blocks.iter().all(|block| is_open_to_buffers(block, point))
 }
 
 /// Whether a wire may run through this point.
@@ -78,7 +94,7 @@ pub fn free_for_wire(blocks: &[Block], die: &Die, at: Spot) -> bool
     ensures { IsTrue result ↔ IsFreeForWire blocks.now die.now (point_of at) }
 {
     let point = halves(at);
-    is_in_die(die, point) && blocks.iter().all(|block| is_open_to_wires(block, point))
+    is_half_in_die(die, point) && are_open_to_wires(blocks, point)
 }
 
 /// Whether a buffer may stand at this point.
@@ -89,5 +105,5 @@ pub fn free_for_buffer(blocks: &[Block], die: &Die, at: Spot) -> bool
     ensures { IsTrue result ↔ IsFreeForBuffer blocks.now die.now (point_of at) }
 {
     let point = halves(at);
-    is_in_die(die, point) && blocks.iter().all(|block| is_open_to_buffers(block, point))
+    is_half_in_die(die, point) && are_open_to_buffers(blocks, point)
 }

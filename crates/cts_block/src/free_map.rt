@@ -2,12 +2,12 @@
 ghost use Rattle.std.specs.Prelude.{◌≡◌, ◌↔◌, false, Contains, IfOk, IsTrue};
 ghost use Rattle.cts_geom.specs.declared.points.Half.{Half};
 ghost use Rattle.cts_block.specs.declared.blocks.Block.{Block};
-ghost use Rattle.cts_block.specs.FreePoints.{IsPointInRange, IsInside};
+ghost use Rattle.cts_block.specs.FreePoints.{IsPointInRange, IsHalfInside};
 ghost use Rattle.cts_block.specs.Search.{IsObstacle};
 ghost use Rattle.cts_block.specs.Index.{index_for as spec_index_for};
 
 use crate::blocks::Block;
-use crate::free::is_in_die;
+use crate::free::is_half_in_die;
 use crate::index::Index;
 use crate::indexing::{first_free, index_of};
 use crate::obstacles::Obstacles;
@@ -37,9 +37,9 @@ impl Model for FreeMap {
 }
 
 impl FreeMap {
-    ghost use Rattle.std.specs.Prelude.{◌≡◌, ◌↔◌, All, IfOk, IsTrue};
+    ghost use Rattle.std.specs.Prelude.{◌≡◌, ◌↔◌, All, Contains, IfNone, IfOk, IfSome, IsTrue};
     ghost use Rattle.cts_geom.specs.Points.{IsSpotInRange, point_of};
-    ghost use Rattle.cts_block.specs.FreePoints.{IsOpenToBuffers};
+    ghost use Rattle.cts_block.specs.FreePoints.{IsHalfInside, IsOpenToBuffers, IsPointInRange};
     ghost use Rattle.cts_block.specs.NearestFree.{IsDieInRange, LiesIn, IsFree, IsNearestFree};
 
     /// Prepares blocks that lie in a die.
@@ -68,7 +68,7 @@ impl FreeMap {
     {
         let point = halves(at);
         let index = index_for(&self.for_wires, &self.for_buffers, buffered);
-        is_in_die(&self.die, point) && is_clear(index, point)
+        is_half_in_die(&self.die, point) && is_clear(index, point)
     }
 
     /// Whether this point, in the die or not, lies strictly inside no block of either kind.
@@ -77,6 +77,16 @@ impl FreeMap {
         ensures { IsTrue result ↔ All (IsOpenToBuffers (point_of at)) self.now.blocks }
     {
         is_clear(&self.for_buffers, halves(at))
+    }
+
+    /// A block in which this point, in the die or not, lies strictly inside, or `None` exactly where it lies
+    /// strictly inside no block of either kind.
+    pub fn block_around(&self, point: Half) -> Option<Block>
+        requires { IsPointInRange point }
+        ensures found { IfSome result (λ block. Contains self.now.blocks block × IsHalfInside block point) }
+        ensures none { IfNone result (All (IsOpenToBuffers point) self.now.blocks) }
+    {
+        self.for_buffers.raster.covering(point)
     }
 
     /// Where a place moves that isn't free: to the nearest free point, as the function
@@ -104,7 +114,7 @@ fn index_for<'a>(for_wires: &'a Index, for_buffers: &'a Index, buffered: bool) -
 /// Whether the point lies strictly inside none of the blocks.
 fn is_clear(index: &Index, point: Half) -> bool
     requires { IsPointInRange point }
-    ensures { IsTrue result ↔ ((block : Block) → Contains index.now.raster block → ¬ IsInside block point) }
+    ensures { IsTrue result ↔ ((block : Block) → Contains index.now.raster block → ¬ IsHalfInside block point) }
 {
     index.raster.covering(point).is_none()
 }

@@ -3,7 +3,7 @@ ghost use Rattle.std.specs.Prelude.{◌≡◌, ◌<◌, ◌≤ℤ◌, All, Conta
 ghost use Rattle.std.specs.List.Sorted.{IsNonDecreasingBy};
 ghost use Rattle.cts_block.specs.declared.edge.Edge.{Edge};
 ghost use Rattle.cts_block.specs.declared.whole.Whole.{Whole};
-ghost use Rattle.cts_block.specs.FreePoints.{IsInDie};
+ghost use Rattle.cts_block.specs.FreePoints.{IsHalfInDie};
 ghost use Rattle.cts_block.specs.NearestFree.{IsDieInRange, LiesIn};
 ghost use Rattle.cts_block.specs.Search.{IsPlaceInRange, IsFreeAmong, IsAhead, IsClosest, IsOnSide, IsBeyond, columns_of, last_of, half_of};
 ghost use Rattle.cts_block.specs.Index.{HoldsSide, IsIndex, edges_of as spec_edges_of};
@@ -55,7 +55,7 @@ fn last_column(die: &Die, columns: Range, side: Side) -> Whole
     requires columns { columns.low ≤ℤ columns.high }
     requires high { columns.high ≤ℤ die.now.x2 }
     ensures column { result.x ≡ last_of side columns }
-    ensures in_die { IsInDie die.now (half_of result) }
+    ensures in_die { IsHalfInDie die.now (half_of result) }
 {
     match side {
         Side::Left => Whole {

@@ -29,7 +29,7 @@ mod search;
 mod whole;
 
 pub use blocks::{Block, Kind};
-pub use free::{free_for_buffer, free_for_wire, is_in_die};
+pub use free::{free_for_buffer, free_for_wire, is_half_in_die};
 pub use free_map::FreeMap;
 pub use laws::{every_place_has_a_nearest_free_point, nearest_free_is_one};
 pub use scan::nearest_free;

@@ -2,14 +2,14 @@
 ghost use Rattle.std.specs.Prelude.{◌≡◌, ◌<◌, ◌≤◌, ℤ, All, Contains, List, IfOk, IfSome, IfNone, IsTrue};
 ghost use Rattle.cts_geom.specs.declared.points.Half.{Half};
 ghost use Rattle.cts_block.specs.declared.blocks.Block.{Block};
-ghost use Rattle.cts_block.specs.FreePoints.{IsInside, IsStrictlyBetween, IsPointInRange};
+ghost use Rattle.cts_block.specs.FreePoints.{IsHalfInside, IsStrictlyBetween, IsPointInRange};
 ghost use Rattle.cts_block.specs.NearestFree.{IsDieInRange, LiesIn};
 ghost use Rattle.cts_block.specs.Raster.{IsHalfIn, IsCellOf, AreCells, AreColumns, band_of};
 
 use crate::banding::{band_with, bands_over, numbers_of};
 use crate::bands::Bands;
 use crate::blocks::Block;
-use crate::free::{is_inside, rounded_down};
+use crate::free::{is_half_inside, rounded_down};
 use crate::obstacles::Obstacles;
 use crate::whole::Range;
 use cts_geom::{Die, Half};
@@ -94,10 +94,13 @@ impl Raster {
 /// A block of these in which the point lies strictly inside, if there is one.
 fn around(blocks: &[Block], point: Half) -> Option<Block>
     requires { IsPointInRange point }
-    ensures found { IfSome result (λ block. Contains blocks.now block × IsInside block point) }
-    ensures none { IfNone result (All (λ block. ¬ IsInside block point) blocks.now) }
+    ensures found { IfSome result (λ block. Contains blocks.now block × IsHalfInside block point) }
+    ensures none { IfNone result (All (λ block. ¬ IsHalfInside block point) blocks.now) }
 {
-    blocks.iter().find(|block| is_inside(block, point)).copied()
+    blocks
+        .iter()
+        .find(|block| is_half_inside(block, point))
+        .copied()
 }
 
 /// How many columns and rows a raster has for so many blocks: about as many cells as blocks.
@@ -146,14 +149,14 @@ fn reaches_row(block: &Block, row: Range) -> bool
 
 /// Whether all points of a cell lie strictly inside the block.
 fn fills(block: &Block, column: Range, row: Range) -> bool
-    ensures { IsTrue result → (at : Half) → IsHalfIn column at.x → IsHalfIn row at.y → IsInside block.now at }
+    ensures { IsTrue result → (at : Half) → IsHalfIn column at.x → IsHalfIn row at.y → IsHalfInside block.now at }
 {
     spans_column(block, column) && spans_row(block, row)
 }
 
 /// Whether the block reaches into a cell.
 fn meets(block: &Block, column: Range, row: Range) -> bool
-    ensures { (at : Half) → IsHalfIn column at.x → IsHalfIn row at.y → IsInside block.now at → IsTrue result }
+    ensures { (at : Half) → IsHalfIn column at.x → IsHalfIn row at.y → IsHalfInside block.now at → IsTrue result }
 {
     reaches_column(block, column) && reaches_row(block, row)
 }
@@ -220,7 +223,7 @@ fn cells_of(
 fn beside(alloc: Global, blocks: &[Block], column: Range) -> Result<Vec<Block>, NoMemory>
     ensures sound { IfOk result (λ near. (block : Block) → Contains near.items block → Contains blocks.now block) }
     ensures complete { IfOk result (λ near. (block : Block) → Contains blocks.now block → (at : Half)
-        → IsHalfIn column at.x → IsInside block at → Contains near.items block) }
+        → IsHalfIn column at.x → IsHalfInside block at → Contains near.items block) }
 {
     let mut near = Vec::new(alloc);
     for block in blocks {

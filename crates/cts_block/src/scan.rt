@@ -8,7 +8,7 @@ ghost use Rattle.cts_block.specs.Search.{IsPlaceInRange, IsFreeAmong, IsAhead, I
 
 use crate::blocks::{Block, Kind};
 use crate::distance::closest_columns;
-use crate::free::{free_for_buffer, free_for_wire, is_inside};
+use crate::free::{free_for_buffer, free_for_wire, is_half_inside};
 use crate::obstacles::Obstacles;
 use crate::search::{first_of_columns, improve_beside};
 use crate::whole::Whole;
@@ -26,7 +26,7 @@ impl Obstacles for Scan<'_> {
 
     fn covering(&self, point: Half) -> Option<Block> {
         for block in self.blocks {
-            if stops(block.kind, self.buffered) && is_inside(block, point) {
+            if stops(block.kind, self.buffered) && is_half_inside(block, point) {
                 return Some(*block);
             }
         }
@@ -38,7 +38,7 @@ impl Obstacles for Scan<'_> {
 pub fn stops(kind: Kind, buffered: bool) -> bool
     ensures { IsTrue result ↔ Stops buffered kind }
 {
-    buffered || kind == Kind::All
+    buffered || kind.stops_wires()
 }
 
 /// The first of a free point and of all free points on the edges of the blocks that count.

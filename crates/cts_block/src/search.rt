@@ -3,7 +3,7 @@ ghost use Rattle.std.specs.Prelude.{◌≡◌, ◌≤ℤ◌};
 ghost use Rattle.cts_geom.specs.declared.points.Half.{Half};
 ghost use Rattle.cts_block.specs.declared.blocks.Block.{Block};
 ghost use Rattle.cts_block.specs.declared.whole.Whole.{Whole};
-ghost use Rattle.cts_block.specs.FreePoints.{IsInDie};
+ghost use Rattle.cts_block.specs.FreePoints.{IsHalfInDie};
 ghost use Rattle.cts_block.specs.NearestFree.{IsDieInRange, LiesIn};
 ghost use Rattle.cts_block.specs.Search.{IsPlaceInRange, IsFreeAmong, IsAhead, IsClosest, IsOn, IsOnEdge, IsSegmentIn, columns_of};
 ghost use Rattle.cts_block.specs.Search.{half_of as spec_half_of};
@@ -20,7 +20,7 @@ use cts_geom::{Die, Half};
 pub fn rise<O: Obstacles>(obstacles: &O, die: &Die, from: Whole) -> Whole
     requires die { IsDieInRange die.now }
     requires lie { (block : Block) → O.counts obstacles.now block → LiesIn die.now block }
-    requires in_die { IsInDie die.now (spec_half_of from) }
+    requires in_die { IsHalfInDie die.now (spec_half_of from) }
     ensures free { IsFreeAmong (O.counts obstacles.now) die.now result }
     ensures column { result.x ≡ from.x }
     ensures above { from.y ≤ℤ result.y }
@@ -38,7 +38,7 @@ pub fn rise<O: Obstacles>(obstacles: &O, die: &Die, from: Whole) -> Whole
 pub fn fall<O: Obstacles>(obstacles: &O, die: &Die, from: Whole) -> Whole
     requires die { IsDieInRange die.now }
     requires lie { (block : Block) → O.counts obstacles.now block → LiesIn die.now block }
-    requires in_die { IsInDie die.now (spec_half_of from) }
+    requires in_die { IsHalfInDie die.now (spec_half_of from) }
     ensures free { IsFreeAmong (O.counts obstacles.now) die.now result }
     ensures column { result.x ≡ from.x }
     ensures below { result.y ≤ℤ from.y }
@@ -58,7 +58,7 @@ fn first_in_column<O: Obstacles>(obstacles: &O, die: &Die, from: Half, column: W
     requires die { IsDieInRange die.now }
     requires lie { (block : Block) → O.counts obstacles.now block → LiesIn die.now block }
     requires from { IsPlaceInRange from }
-    requires column { IsInDie die.now (spec_half_of column) }
+    requires column { IsHalfInDie die.now (spec_half_of column) }
     ensures free { IsFreeAmong (O.counts obstacles.now) die.now result }
     ensures first { (q : Whole) → IsFreeAmong (O.counts obstacles.now) die.now q
         → q.x ≡ column.x → IsAhead from result q }

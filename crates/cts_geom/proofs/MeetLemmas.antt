@@ -7,7 +7,7 @@ use Rattle.cts_geom.specs.declared.points.Spot.{Spot}
 use Rattle.cts_geom.specs.declared.regions.Region.{Region}
 use Rattle.cts_geom.specs.Coordinate.{int_abs_diff, interval_gap}
 use Rattle.cts_geom.specs.Points.{point_of, manhattan_of, distance_of}
-use Rattle.cts_geom.specs.Regions.{ContainsSpot, IsWithin, gap_of, IsMeet}
+use Rattle.cts_geom.specs.Regions.{ContainsSpot, IsInReach, gap_of, IsMeet}
 use Rattle.cts_geom.specs.RegionLaws.{IsInBox, IsBoxed, MeetStaysInBox, IsSegment, MeetIsSegment}
 use Rattle.cts_geom.proofs.PointLemmas.{distance_manhattan}
 use Rattle.cts_geom.proofs.RegionLemmas.{IsWidened, widened_from_within, gap_of-is, gap_of-bound, low_corner-inside, high_corner-inside}
@@ -52,7 +52,7 @@ box_between x1 x2 y1 y2 q p s straight at_q at_s =
     }
 
 -- within 0 of a region is in it
-inside_from_within : (region : Region) (len : ℕ) (p : Spot) → len ≡ 0 → IsWithin region len p → ContainsSpot region p
+inside_from_within : (region : Region) (len : ℕ) (p : Spot) → len ≡ 0 → IsInReach region len p → ContainsSpot region p
 inside_from_within region len p none within =
     let w : IsWidened region len p = widened_from_within region len p within in
     record {
@@ -62,7 +62,7 @@ inside_from_within region len p none within =
       v_high = omega (arith, ints);
     }
 
-boxed_over_gap : (x1 x2 y1 y2 : ℤ) (a : Region) (ea : ℕ) (b : Region) (eb : ℕ) (p : Spot) → ea + eb ≡ gap_of a b → IsBoxed x1 x2 y1 y2 a → IsBoxed x1 x2 y1 y2 b → IsWithin a ea p → IsWithin b eb p → IsInBox x1 x2 y1 y2 (point_of p)
+boxed_over_gap : (x1 x2 y1 y2 : ℤ) (a : Region) (ea : ℕ) (b : Region) (eb : ℕ) (p : Spot) → ea + eb ≡ gap_of a b → IsBoxed x1 x2 y1 y2 a → IsBoxed x1 x2 y1 y2 b → IsInReach a ea p → IsInReach b eb p → IsInBox x1 x2 y1 y2 (point_of p)
 boxed_over_gap x1 x2 y1 y2 a ea b eb p tight boxed_a boxed_b near_a near_b =
     let q : Spot = near_a.from in
     let s : Spot = near_b.from in
@@ -73,8 +73,8 @@ boxed_over_gap x1 x2 y1 y2 a ea b eb p tight boxed_a boxed_b near_a near_b =
 
 pub meet-boxed : MeetStaysInBox
 meet-boxed x1 x2 y1 y2 a ea b eb region meet tight boxed_a boxed_b p inside =
-    let near_a : IsWithin a ea p = (meet.sound p inside).0 in
-    let near_b : IsWithin b eb p = (meet.sound p inside).1 in
+    let near_a : IsInReach a ea p = (meet.sound p inside).0 in
+    let near_b : IsInReach b eb p = (meet.sound p inside).1 in
     elim tight [
       | inl over_gap ↦ boxed_over_gap x1 x2 y1 y2 a ea b eb p over_gap boxed_a boxed_b near_a near_b
       | inr one ↦ elim one [
@@ -136,7 +136,7 @@ segment_inside a region low high segment =
       | inr flat ↦ inr (flat_inside a.v1 a.v2 region.v1 region.v2 flat low.v_low region.v_ordered high.v_high)
     ]
 
-segment_within : (a : Region) (ea : ℕ) (region : Region) → ((p : Spot) → ContainsSpot region p → IsWithin a ea p) → ea ≡ 0 → IsSegment a → IsSegment region
+segment_within : (a : Region) (ea : ℕ) (region : Region) → ((p : Spot) → ContainsSpot region p → IsInReach a ea p) → ea ≡ 0 → IsSegment a → IsSegment region
 segment_within a ea region near none segment =
     segment_inside a region
     (inside_from_within a ea _ none (near _ (low_corner-inside region)))

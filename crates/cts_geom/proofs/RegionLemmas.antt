@@ -7,7 +7,7 @@ use Rattle.cts_geom.specs.declared.points.Spot.{Spot}
 use Rattle.cts_geom.specs.declared.regions.Region.{Region}
 use Rattle.cts_geom.specs.Coordinate.{int_abs_diff, interval_gap}
 use Rattle.cts_geom.specs.Points.{distance_of}
-use Rattle.cts_geom.specs.Regions.{ContainsSpot, IsWithin, IsGap, gap_of, IsMeet, IsNoLater, IsNearest, nearest_of}
+use Rattle.cts_geom.specs.Regions.{ContainsSpot, IsInReach, IsGap, gap_of, IsMeet, IsNoLater, IsNearest, nearest_of}
 use Rattle.cts_geom.specs.RegionLaws.{RegionsAreSets, GapIsLeast, NearestIsOne}
 use Rattle.cts_geom.proofs.IntervalLemmas.{clamped, IsClamped, clamped-inside, clamped-near, IsReached, interval_gap-reached, interval_gap-bound, interval_gap-clamped}
 use Rattle.cts_geom.proofs.PointLemmas.{IsClose, close_from_distance, distance_from_parts, distance-u, distance-v, spot_same}
@@ -19,7 +19,7 @@ pub record IsWidened (region : Region) (len : ℕ) (p : Spot) : Type 0 where
   pub v_low : region.v1 ≤ℤ (p.v +ℤ pos len)
   pub v_high : p.v ≤ℤ (region.v2 +ℤ pos len)
 
-pub widened_from_within : (region : Region) (len : ℕ) (p : Spot) → IsWithin region len p → IsWidened region len p
+pub widened_from_within : (region : Region) (len : ℕ) (p : Spot) → IsInReach region len p → IsWidened region len p
 widened_from_within region len p within =
     let inside : ContainsSpot region within.from = within.inside in
     let close : IsClose within.from p len = close_from_distance within.from p len within.near in
@@ -41,7 +41,7 @@ clamped_spot-inside region p u_ordered v_ordered =
     let v : IsClamped region.v1 region.v2 p.v (clamped region.v1 region.v2 p.v) = clamped-inside region.v1 region.v2 p.v v_ordered in
     record { u_low = u.at_least; u_high = u.at_most; v_low = v.at_least; v_high = v.at_most }
 
-pub within_from_widened : (region : Region) (len : ℕ) (p : Spot) → IsWidened region len p → IsWithin region len p
+pub within_from_widened : (region : Region) (len : ℕ) (p : Spot) → IsWidened region len p → IsInReach region len p
 unfolding clamped_spot
 within_from_widened region len p w =
     record {

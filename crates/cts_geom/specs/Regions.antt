@@ -20,7 +20,7 @@ pub record ContainsSpot (region : Region) (p : Spot) : Type 0 where
   pub v_high : p.v ≤ℤ region.v2
 
 -- the spot is at most a length from some point of the region
-pub record IsWithin (region : Region) (len : ℕ) (p : Spot) : Type 0 where
+pub record IsInReach (region : Region) (len : ℕ) (p : Spot) : Type 0 where
   pub from : Spot
   pub inside : ContainsSpot region from
   pub near : distance_of from p ≤ len
@@ -41,8 +41,8 @@ gap_of a b = max (interval_gap a.u1 a.u2 b.u1 b.u2) (interval_gap a.v1 a.v2 b.v1
 -- The region has exactly the spots within ea of a and within eb of b: the merging region of deferred-merge
 -- embedding (Chao, Hsu, Ho 1992), in whole spots.
 pub record IsMeet (a : Region) (ea : ℕ) (b : Region) (eb : ℕ) (region : Region) : Type 0 where
-  pub sound : (p : Spot) → ContainsSpot region p → IsWithin a ea p × IsWithin b eb p
-  pub complete : (p : Spot) → IsWithin a ea p → IsWithin b eb p → ContainsSpot region p
+  pub sound : (p : Spot) → ContainsSpot region p → IsInReach a ea p × IsInReach b eb p
+  pub complete : (p : Spot) → IsInReach a ea p → IsInReach b eb p → ContainsSpot region p
 
 -- p comes before q by u, and where these are equal by v, or is q
 pub record IsNoLater (p q : Spot) : Type 0 where

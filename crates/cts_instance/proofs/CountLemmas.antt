@@ -5,25 +5,26 @@ use Rattle.std.proofs.lemmas.List.Sums.{sum_by_push}
 use Rattle.cts_block.specs.declared.blocks.Block.{Block}
 use Rattle.cts_block.specs.declared.blocks.Kind.{Kind}
 use Rattle.cts_block.specs.declared.blocks.Kind.TheVariants.{Buffer as of_buffers, All as of_all}
+use Rattle.cts_block.specs.FreePoints.{stops_wires}
 use Rattle.cts_instance.specs.declared.counts.BlockCounts.{BlockCounts}
-use Rattle.cts_instance.specs.Tests.{is_kind_buffer, is_kind_all}
+use Rattle.cts_instance.specs.Tests.{is_kind_buffer}
 use Rattle.cts_instance.specs.FirstFault.{counts_of, counts_with}
 
 pub counts_of-push : (blocks : List Block) (block : Block) → counts_of (blocks ++ block ∷ []) ≡ counts_with (counts_of blocks) block.kind
 unfolding counts_of counts_with
 counts_of-push blocks block =
-    ap (λ n. record { buffer = n; all = count_by (λ b. is_kind_all b.kind) (blocks ++ block ∷ []) })
+    ap (λ n. record { buffer = n; all = count_by (λ b. stops_wires b.kind) (blocks ++ block ∷ []) })
     (sum_by_push (λ b. cond (is_kind_buffer b.kind) 1 0) blocks block)
     ∙ ap (λ n. record { buffer = count_by (λ b. is_kind_buffer b.kind) blocks + cond (is_kind_buffer block.kind) 1 0; all = n })
-    (sum_by_push (λ b. cond (is_kind_all b.kind) 1 0) blocks block)
+    (sum_by_push (λ b. cond (stops_wires b.kind) 1 0) blocks block)
     ∙ by block.kind
   where
     by : (kind : Kind) → record {
       buffer = count_by (λ b. is_kind_buffer b.kind) blocks + cond (is_kind_buffer kind) 1 0;
-      all = count_by (λ b. is_kind_all b.kind) blocks + cond (is_kind_all kind) 1 0;
+      all = count_by (λ b. stops_wires b.kind) blocks + cond (stops_wires kind) 1 0;
     } ≡ counts_with (counts_of blocks) kind
     by of_buffers = ap (λ n. record { buffer = count_by (λ b. is_kind_buffer b.kind) blocks + 1; all = n }) (add-zero _)
-    by of_all = ap (λ n. record { buffer = n; all = count_by (λ b. is_kind_all b.kind) blocks + 1 }) (add-zero _)
+    by of_all = ap (λ n. record { buffer = n; all = count_by (λ b. stops_wires b.kind) blocks + 1 }) (add-zero _)
 
 -- the step of a loop that counts the blocks
 pub counts_of-more : (blocks : List Block) (place : ℕ) (d : Block) (old new : BlockCounts)

@@ -4,9 +4,9 @@ use Rattle.std.proofs.lemmas.Int.{ints}
 use Rattle.cts_geom.specs.declared.bounds.Die.{Die}
 use Rattle.cts_geom.specs.Coordinate.{IsCoordinate}
 use Rattle.cts_block.specs.declared.blocks.Block.{Block}
-use Rattle.cts_block.specs.FreePoints.{IsInDie as IsHalfInDie, IsInside as IsHalfInside}
+use Rattle.cts_block.specs.FreePoints.{IsHalfInDie, IsHalfInside}
 use Rattle.cts_instance.specs.declared.parts.Parts.{Parts}
-use Rattle.cts_instance.specs.Places.{IsInDie, IsInside}
+use Rattle.cts_block.specs.Places.{IsInDie, IsInside}
 use Rattle.cts_instance.specs.Validity.{IsValid}
 use Rattle.cts_instance.specs.Laws.{half_at, IsOnChip, HasPlacesOnChip, HasCoordinates, HasFreePlaces}
 

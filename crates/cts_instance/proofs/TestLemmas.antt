@@ -13,12 +13,12 @@ use Rattle.cts_units.specs.Limits.{IsWire, IsBuffer}
 use Rattle.cts_block.specs.declared.blocks.Block.{Block}
 use Rattle.cts_block.specs.declared.blocks.Kind.{Kind}
 use Rattle.cts_block.specs.declared.blocks.Kind.TheVariants.{Buffer as of_buffers, All as of_all}
-use Rattle.cts_block.specs.FreePoints.{StopsWires}
+use Rattle.cts_block.specs.FreePoints.{StopsWires, stops_wires}
 use Rattle.cts_instance.specs.declared.version.Version.{Version}
 use Rattle.cts_instance.specs.declared.version.Version.TheVariants.{One, Two}
-use Rattle.cts_instance.specs.Places.{IsInDie, IsInside}
+use Rattle.cts_block.specs.Places.{IsInDie, IsInside}
 use Rattle.cts_instance.specs.Validity.{IsDie, IsBounded, IsClear}
-use Rattle.cts_instance.specs.Tests.{is_between, is_strictly_between, is_in_die, is_inside, is_side, is_die, is_bounded, is_wire, is_limits, is_buffer, is_offset, is_sink, is_upright, is_block_in_die, is_empty, is_clear, is_kind_all}
+use Rattle.cts_instance.specs.Tests.{is_between, is_strictly_between, is_in_die, is_inside, is_side, is_die, is_bounded, is_wire, is_limits, is_buffer, is_offset, is_sink, is_upright, is_block_in_die, is_empty, is_clear}
 
 pub Decides-int_le : (a b : ℤ) → Decides (int_le a b) (a ≤ℤ b)
 Decides-int_le a b = (λ e. record { le = T_from_true _ e }, λ h. by (int_le a b) h.le)
@@ -160,7 +160,7 @@ Decides-is_clear x y sinks block =
     (λ c stops. (c.of_source stops, c.of_sinks stops))
     (by block.kind)
   where
-    by : (kind : Kind) → Decides (not (is_kind_all kind) || is_empty x y sinks block)
+    by : (kind : Kind) → Decides (not (stops_wires kind) || is_empty x y sinks block)
         (StopsWires kind → (¬ IsInside block x y) × All (λ sink. ¬ IsInside block sink.x sink.y) sinks)
     by of_buffers = (λ e stops. absurd stops, λ h. refl)
     by of_all = let d = Decides-is_empty x y sinks block in (λ e stops. d.0 e, λ h. d.1 (h tt))

@@ -15,9 +15,10 @@ use Rattle.cts_block.specs.declared.blocks.Kind.TheVariants.{Buffer as of_buffer
 use Rattle.cts_instance.specs.declared.counts.BlockCounts.{BlockCounts}
 use Rattle.cts_instance.specs.declared.parts.Parts.{Parts}
 use Rattle.cts_instance.specs.declared.version.Version.{Version}
-use Rattle.cts_instance.specs.Places.{IsInDie}
+use Rattle.cts_block.specs.Places.{IsInDie}
+use Rattle.cts_block.specs.FreePoints.{stops_wires}
 use Rattle.cts_instance.specs.Validity.{IsDie, IsBounded, IsSink, IsBlock, IsClear, IsValid}
-use Rattle.cts_instance.specs.Tests.{has_room, is_kind_buffer, is_kind_all}
+use Rattle.cts_instance.specs.Tests.{has_room, is_kind_buffer}
 use Rattle.cts_instance.specs.FirstFault.{die_fault, source_fault, wire_fault, limits_fault, buffer_count_fault, buffer_fault, buffer_line, buffers_fault, sink_count_fault, sink_fault, sink_line, sinks_fault, block_count_fault, block_fault, block_line, blocks_fault, counts_of, first_of, first_fault}
 use Rattle.cts_instance.proofs.TestLemmas.{IsOffset, Decides-nat_le, Decides-absent, Decides-is_bounded, Decides-is_die, Decides-is_in_die, Decides-is_wire, Decides-is_limits, Decides-is_buffer, Decides-is_sink, Decides-is_upright, Decides-is_block_in_die, Decides-is_clear}
 use Rattle.cts_instance.proofs.AllowLemmas.{Allows, Allows-like, Allows-unless, Allows-last, Allows-or, Allows-first_of, pairs_from_lines, lines_from_pairs, count_from_lines, lines_from_count}
@@ -101,7 +102,7 @@ Allows-block_count_fault count = Allows-last _ _ (Decides-nat_le count 4160)
 
 -- there is room for another block of the kind
 abbrev HasRoom : BlockCounts → Kind → Type 0
-HasRoom counts kind = (is_kind_buffer kind ≡ true → counts.buffer < 4096) × (is_kind_all kind ≡ true → counts.all < 64)
+HasRoom counts kind = (is_kind_buffer kind ≡ true → counts.buffer < 4096) × (stops_wires kind ≡ true → counts.all < 64)
 
 Decides-has_room : (counts : BlockCounts) (kind : Kind) → Decides (has_room counts kind) (HasRoom counts kind)
 unfolding has_room
@@ -130,7 +131,7 @@ pub Allows-blocks_fault : (die : Die) (x y : ℤ) (sinks : List Sink) (blocks : 
     ((length blocks ≤ 4160)
     × (All (IsBlock die) blocks
     × ((count_by (λ block. is_kind_buffer block.kind) blocks ≤ 4096)
-    × ((count_by (λ block. is_kind_all block.kind) blocks ≤ 64)
+    × ((count_by (λ block. stops_wires block.kind) blocks ≤ 64)
     × All (IsClear x y sinks) blocks))))
 unfolding blocks_fault block_line counts_of
 Allows-blocks_fault die x y sinks blocks =
@@ -141,7 +142,7 @@ Allows-blocks_fault die x y sinks blocks =
       (
         count_from_lines (λ block. is_kind_buffer block.kind) 4096 blocks (λ k d inside. (h k d inside).1.1.0.0),
         (
-          count_from_lines (λ block. is_kind_all block.kind) 64 blocks (λ k d inside. (h k d inside).1.1.0.1),
+          count_from_lines (λ block. stops_wires block.kind) 64 blocks (λ k d inside. (h k d inside).1.1.0.1),
           λ k d inside. (h k d inside).1.1.1,
         ),
       ),
@@ -153,7 +154,7 @@ Allows-blocks_fault die x y sinks blocks =
         (
           (
             lines_from_count (λ block. is_kind_buffer block.kind) 4096 blocks p.1.0 k d inside,
-            lines_from_count (λ block. is_kind_all block.kind) 64 blocks p.1.1.0 k d inside,
+            lines_from_count (λ block. stops_wires block.kind) 64 blocks p.1.1.0 k d inside,
           ),
           p.1.1.1 k d inside,
         ),

@@ -8,9 +8,11 @@ use Rattle.cts_geom.specs.declared.bounds.Die.{Die}
 use Rattle.cts_units.specs.declared.params.Sink.{Sink}
 use Rattle.cts_units.specs.declared.params.Wire.{Wire}
 use Rattle.cts_units.specs.declared.params.Buffer.{Buffer}
+use Rattle.cts_units.specs.Limits.{max_sinks, max_buffers}
 use Rattle.cts_block.specs.declared.blocks.Block.{Block}
 use Rattle.cts_block.specs.declared.blocks.Kind.{Kind}
 use Rattle.cts_block.specs.declared.blocks.Kind.TheVariants.{Buffer as of_buffers, All as of_all}
+use Rattle.cts_block.specs.FreePoints.{stops_wires}
 use Rattle.cts_instance.specs.declared.parts.Parts.{Parts}
 use Rattle.cts_instance.specs.declared.counts.BlockCounts.{BlockCounts}
 use Rattle.cts_instance.specs.declared.version.Version.{Version}
@@ -19,7 +21,7 @@ use Rattle.cts_instance.specs.declared.fault.Fault.TheVariants.{NoSink, TwiceSin
 use Rattle.cts_instance.specs.declared.fault.CheckEnd.{CheckEnd}
 use Rattle.cts_instance.specs.declared.fault.CheckEnd.TheVariants.{Fault as told, NoMemory as out_of_memory}
 use Rattle.cts_instance.specs.declared.fault.Item.TheVariants as item
-use Rattle.cts_instance.specs.Tests.{is_die, is_in_die, is_bounded, is_wire, is_limits, is_buffer, is_sink, is_upright, is_block_in_die, has_room, is_clear, is_kind_buffer, is_kind_all}
+use Rattle.cts_instance.specs.Tests.{is_die, is_in_die, is_bounded, is_wire, is_limits, is_buffer, is_sink, is_upright, is_block_in_die, has_room, is_clear, is_kind_buffer, max_blocks}
 
 -- a rule of a line: where it is broken, its fault, else what the later rules say
 abbrev pub unless : Bool → Fault → Option Fault → Option Fault
@@ -50,14 +52,14 @@ limits_fault insert_at load slew = unless (is_limits insert_at load slew) (Range
 
 -- a line that says how many buffers follow
 unfoldable pub buffer_count_fault : ℕ → Option Fault
-buffer_count_fault count = unless (nat_le count 16) (TooMany item.Buffers) None
+buffer_count_fault count = unless (nat_le count max_buffers) (TooMany item.Buffers) None
 
 unfoldable pub buffer_fault : ℕ → Buffer → Option Fault
 buffer_fault number buffer = unless (is_buffer buffer) (Range (item.Buffer number)) None
 
 -- a line that says how many sinks follow
 unfoldable pub sink_count_fault : ℕ → Option Fault
-sink_count_fault count = unless (nat_lt 0 count) NoSink (unless (nat_le count 65536) (TooMany item.Sinks) None)
+sink_count_fault count = unless (nat_lt 0 count) NoSink (unless (nat_le count max_sinks) (TooMany item.Sinks) None)
 
 -- ids are those of the sinks before this one, in order
 unfoldable pub sink_fault : Version → Die → List ℕ → Sink → Option Fault
@@ -68,7 +70,7 @@ sink_fault version die ids sink =
 
 -- a line that says how many blocks follow
 unfoldable pub block_count_fault : ℕ → Option Fault
-block_count_fault count = unless (nat_le count 4160) (TooMany item.Blocks) None
+block_count_fault count = unless (nat_le count max_blocks) (TooMany item.Blocks) None
 
 -- counts are those of the blocks before this one, and (x, y) is the place of the source
 unfoldable pub block_fault : Die → ℤ → ℤ → List Sink → BlockCounts → Block → Option Fault
@@ -83,7 +85,7 @@ block_fault die x y sinks counts block =
 unfoldable pub counts_of : List Block → BlockCounts
 counts_of blocks = record {
   buffer = count_by (λ block. is_kind_buffer block.kind) blocks;
-  all = count_by (λ block. is_kind_all block.kind) blocks;
+  all = count_by (λ block. stops_wires block.kind) blocks;
 }
 
 -- the counts after one more block of this kind

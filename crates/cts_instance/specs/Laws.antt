@@ -1,7 +1,8 @@
 -- What valid parts mean for the layers above.
-use Rattle.std.specs.Prelude.{◌≡◌, ◌^◌, ℤ, pos, ◌*ℤ◌, ◌≤ℤ◌, ◌↔◌, None, All}
+use Rattle.std.specs.Prelude.{◌≡◌, ℤ, pos, ◌*ℤ◌, ◌≤ℤ◌, ◌↔◌, None, All}
 use Rattle.cts_geom.specs.declared.points.Half.{Half}
 use Rattle.cts_geom.specs.Coordinate.{IsCoordinate}
+use Rattle.cts_units.specs.Limits.{max_coordinate}
 use Rattle.cts_block.specs.FreePoints.{IsFreeForWire}
 use Rattle.cts_instance.specs.declared.parts.Parts.{Parts}
 use Rattle.cts_instance.specs.Validity.{IsValid}
@@ -17,7 +18,7 @@ half_at x y = record { x = pos 2 *ℤ x; y = pos 2 *ℤ y }
 -- a coordinate from 0 to 10^8 nm
 pub record IsOnChip (z : ℤ) : Type 0 where
   pub low : pos 0 ≤ℤ z
-  pub high : z ≤ℤ pos (10 ^ 8)
+  pub high : z ≤ℤ pos max_coordinate
 
 pub record HasPlacesOnChip (parts : Parts) : Type 0 where
   pub source_x : IsOnChip parts.source_x

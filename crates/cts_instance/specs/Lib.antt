@@ -1,4 +1,3 @@
-pub mod Places
 pub mod Tests
 pub mod Validity
 pub mod FirstFault
@@ -6,4 +5,5 @@ pub mod Laws
 pub use Rattle.cts_geom.specs.Coordinate
 pub use Rattle.cts_units.specs.Limits
 pub use Rattle.cts_block.specs.FreePoints
+pub use Rattle.cts_block.specs.Places
 pub mod Ids

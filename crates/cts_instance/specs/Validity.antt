@@ -3,23 +3,23 @@ use Rattle.std.specs.Prelude.{◌≡◌, ℕ, ◌^◌, ◌≤◌, ◌<◌, ℤ, 
 use Rattle.cts_geom.specs.declared.bounds.Die.{Die}
 use Rattle.cts_units.specs.declared.params.Sink.{Sink}
 use Rattle.cts_units.specs.Ids.{HasDistinctIds}
-use Rattle.cts_units.specs.Limits.{IsParams}
+use Rattle.cts_units.specs.Limits.{IsParams, max_id, max_sinks, max_coordinate, max_capacitance}
 use Rattle.cts_block.specs.declared.blocks.Block.{Block}
-use Rattle.cts_block.specs.FreePoints.{StopsWires}
+use Rattle.cts_block.specs.FreePoints.{StopsWires, stops_wires}
 use Rattle.cts_instance.specs.declared.parts.Parts.{Parts}
 use Rattle.cts_instance.specs.declared.version.Version.{Version}
 use Rattle.cts_instance.specs.declared.version.Version.TheVariants.{One}
-use Rattle.cts_instance.specs.Places.{IsInDie, IsInside}
-use Rattle.cts_instance.specs.Tests.{is_kind_buffer, is_kind_all}
+use Rattle.cts_block.specs.Places.{IsInDie, IsInside}
+use Rattle.cts_instance.specs.Tests.{is_kind_buffer, max_blocks, max_buffer_blocks, max_all_blocks}
 
 -- the corners are from 0 to 10^8 nm, lower left and upper right
 pub record IsDie (die : Die) : Type 0 where
   pub x_low : pos 0 ≤ℤ die.x1
   pub x_order : die.x1 ≤ℤ die.x2
-  pub x_high : die.x2 ≤ℤ pos (10 ^ 8)
+  pub x_high : die.x2 ≤ℤ pos max_coordinate
   pub y_low : pos 0 ≤ℤ die.y1
   pub y_order : die.y1 ≤ℤ die.y2
-  pub y_high : die.y2 ≤ℤ pos (10 ^ 8)
+  pub y_high : die.y2 ≤ℤ pos max_coordinate
 
 -- numbers without a limit of their own are below 10^18 of their unit
 abbrev pub IsBounded : ℕ → Type 0
@@ -27,8 +27,8 @@ IsBounded n = n < 10 ^ 18
 
 -- a sink of an instance of this version: in version 1 none wants an offset
 pub record IsSink (version : Version) (die : Die) (sink : Sink) : Type 0 where
-  pub id : sink.id ≤ 999999999
-  pub cap : sink.cap ≤ 10 ^ 12
+  pub id : sink.id ≤ max_id
+  pub cap : sink.cap ≤ max_capacitance
   pub offset : IsBounded sink.offset
   pub no_offset : version ≡ One → sink.offset ≡ 0
   pub in_die : IsInDie die sink.x sink.y
@@ -53,13 +53,13 @@ pub record IsValid (parts : Parts) : Type 0 where
   pub load_limit : IsBounded parts.load_limit
   pub slew_limit : IsBounded parts.slew_limit
   pub some_sink : 1 ≤ length parts.sinks
-  pub sink_count : length parts.sinks ≤ 65536
+  pub sink_count : length parts.sinks ≤ max_sinks
   pub sinks : All (IsSink parts.version parts.die) parts.sinks
   pub ids : HasDistinctIds (λ s. s.id) parts.sinks
   pub blocks : All (IsBlock parts.die) parts.blocks
-  pub block_count : length parts.blocks ≤ 4160
-  pub buffer_blocks : count_by (λ block. is_kind_buffer block.kind) parts.blocks ≤ 4096
-  pub all_blocks : count_by (λ block. is_kind_all block.kind) parts.blocks ≤ 64
+  pub block_count : length parts.blocks ≤ max_blocks
+  pub buffer_blocks : count_by (λ block. is_kind_buffer block.kind) parts.blocks ≤ max_buffer_blocks
+  pub all_blocks : count_by (λ block. stops_wires block.kind) parts.blocks ≤ max_all_blocks
   pub clear : All (IsClear parts.source_x parts.source_y parts.sinks) parts.blocks
 
 -- the parts with these sinks in the place of their own

@@ -2,6 +2,8 @@
 
 ghost use Rattle.std.specs.Prelude.{◌≡◌, ◌≤◌, [], None, length, IfOk, IfErr, OnOk};
 ghost use Rattle.cts_instance.specs.FirstFault.{◌or◌, first_of, buffer_line, sink_line, block_line, buffers_fault, sinks_fault, blocks_fault, die_fault, source_fault, wire_fault, limits_fault, first_fault, Ends};
+ghost use Rattle.cts_units.specs.Limits.{max_buffers, max_sinks};
+ghost use Rattle.cts_instance.specs.Tests.{max_blocks};
 ghost use Rattle.cts_instance.specs.Validity.{IsValid};
 
 use crate::counts::BlockCounts;
@@ -21,7 +23,7 @@ use cts_units::{Buffer, Sink};
 use std::alloc::Global;
 
 fn faulty_buffer(buffers: &[Buffer]) -> Option<Fault>
-    requires { length buffers.now ≤ 16 }
+    requires { length buffers.now ≤ max_buffers }
     ensures { result ≡ first_of buffer_line [] buffers.now }
 {
     for (number, buffer) in buffers.iter().enumerate() {
@@ -38,7 +40,7 @@ fn faulty_sink(
     die: &Die,
     sinks: &[Sink],
 ) -> Result<Option<Fault>, NoMemory>
-    requires { length sinks.now ≤ 65536 }
+    requires { length sinks.now ≤ max_sinks }
     ensures { IfOk result (λ fault. fault ≡ first_of (sink_line version die.now) [] sinks.now) }
 {
     let mut ids = SinkIds::with_capacity(alloc, sinks.len())?;
@@ -51,7 +53,7 @@ fn faulty_sink(
 }
 
 fn faulty_block(die: &Die, x: i64, y: i64, sinks: &[Sink], blocks: &[Block]) -> Option<Fault>
-    requires { length blocks.now ≤ 4160 }
+    requires { length blocks.now ≤ max_blocks }
     ensures { result ≡ first_of (block_line die.now x y sinks.now) [] blocks.now }
 {
     let mut counts = BlockCounts::none();

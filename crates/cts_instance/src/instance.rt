@@ -138,7 +138,7 @@ impl Instance {
                 source_x: parts.source_x,
                 source_y: parts.source_y,
                 source_r: parts.source_r,
-                params: copy_of(alloc, &parts.params)?,
+                params: parts.params.try_clone(alloc)?,
                 load_limit: parts.load_limit,
                 slew_limit: parts.slew_limit,
                 sinks: Sinks::of(sinks),
@@ -146,15 +146,4 @@ impl Instance {
             },
         })
     }
-}
-
-/// The same parameters again.
-fn copy_of(alloc: Global, params: &Params) -> Result<Params, NoMemory>
-    ensures { IfOk result (λ copy. copy ≡ params.now) }
-{
-    Ok(Params {
-        wire: params.wire,
-        library: Library::of(params.library.items().to_vec(alloc)?),
-        insert_at: params.insert_at,
-    })
 }

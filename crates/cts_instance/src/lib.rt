@@ -26,5 +26,5 @@ pub use fault::{CheckEnd, Fault, Item};
 pub use ids::SinkIds;
 pub use instance::Instance;
 pub use parts::{Blocks, Parts, Sinks};
-pub use rules::{is_in_die, is_inside};
+pub use rules::{MAX_ALL_BLOCKS, MAX_BUFFER_BLOCKS, is_in_die, is_inside};
 pub use version::Version;

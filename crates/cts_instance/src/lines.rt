@@ -16,14 +16,10 @@ use crate::version::Version;
 use cts_block::Block;
 use cts_geom::Die;
 use cts_num::NoMemory;
-use cts_units::{Buffer, Sink, Wire};
+use cts_units::{Buffer, MAX_BUFFERS, MAX_SINKS, Sink, Wire};
 
-/// The greatest number of buffers in a library.
-const BUFFERS: usize = 16;
-/// The greatest number of sinks.
-const SINKS: usize = 65_536;
-/// The greatest number of blocks of both kinds.
-const BLOCKS: usize = 4_160;
+/// The most blocks of both kinds.
+pub const MAX_BLOCKS: usize = 4_160;
 
 /// `Range{Die}` where a coordinate is below 0 or above 10^8 nm, or the corners are in the wrong
 /// order.
@@ -84,7 +80,7 @@ pub fn limits_fault(insert_at: u64, load: u64, slew: u64) -> Option<Fault>
 pub fn buffer_count_fault(count: usize) -> Option<Fault>
     ensures { result ≡ buffer_count_fault count }
 {
-    if count <= BUFFERS {
+    if count <= MAX_BUFFERS {
         None
     } else {
         Some(Fault::TooMany {
@@ -115,7 +111,7 @@ pub fn sink_count_fault(count: usize) -> Option<Fault>
 {
     if count == 0 {
         Some(Fault::NoSink)
-    } else if count > SINKS {
+    } else if count > MAX_SINKS {
         Some(Fault::TooMany { item: Item::Sinks })
     } else {
         None
@@ -156,7 +152,7 @@ pub fn sink_fault(
 pub fn block_count_fault(count: usize) -> Option<Fault>
     ensures { result ≡ block_count_fault count }
 {
-    if count <= BLOCKS {
+    if count <= MAX_BLOCKS {
         None
     } else {
         Some(Fault::TooMany { item: Item::Blocks })

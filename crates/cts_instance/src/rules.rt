@@ -8,22 +8,19 @@ use crate::counts::BlockCounts;
 use crate::version::Version;
 use cts_block::{Block, Kind};
 use cts_geom::Die;
-use cts_units::{Buffer, Sink, Wire};
+use cts_units::{Buffer, MAX_CAPACITANCE, MAX_COORDINATE, MAX_ID, Sink, Wire};
 
-/// The greatest coordinate of a die, in nm.
-const GREATEST_COORDINATE: i64 = 100_000_000;
 /// Where numbers without a limit of their own end, in their unit.
 const NUMBER_END: u64 = 1_000_000_000_000_000_000;
+
 /// The greatest resistance in µΩ and capacitance in zF of one nm of wire.
-const GREATEST_WIRE: u64 = 1_000_000;
-/// The greatest input capacitance of a sink or a buffer, in zF.
-const GREATEST_CAPACITANCE: u64 = 1_000_000_000_000;
+const MAX_WIRE: u64 = 1_000_000;
 
-const GREATEST_ID: u32 = 999_999_999;
+/// The most blocks of kind `Buffer`.
+pub const MAX_BUFFER_BLOCKS: u32 = 4_096;
 
-const BUFFER_BLOCKS: u32 = 4_096;
-
-const ALL_BLOCKS: u32 = 64;
+/// The most blocks of kind `All`.
+pub const MAX_ALL_BLOCKS: u32 = 64;
 
 #[tactic(auto, unfolding(crate::specs::Tests::is_between))]
 fn is_between(low: i64, high: i64, z: i64) -> bool
@@ -43,7 +40,7 @@ fn is_strictly_between(low: i64, high: i64, z: i64) -> bool
 fn is_side(low: i64, high: i64) -> bool
     ensures { result ≡ is_side low high }
 {
-    is_between(0, high, low) && high <= GREATEST_COORDINATE
+    is_between(0, high, low) && high <= MAX_COORDINATE
 }
 
 /// The sides of the die are from 0 to 10^8 nm, and their ends are in order.
@@ -82,7 +79,7 @@ pub fn is_bounded(number: u64) -> bool
 pub fn is_wire(wire: Wire) -> bool
     ensures { result ≡ is_wire wire }
 {
-    1 <= wire.r && wire.r <= GREATEST_WIRE && 1 <= wire.c && wire.c <= GREATEST_WIRE
+    1 <= wire.r && wire.r <= MAX_WIRE && 1 <= wire.c && wire.c <= MAX_WIRE
 }
 
 /// The insertion threshold, the load limit and the slew limit are below 10^18 of their units.
@@ -98,7 +95,7 @@ pub fn is_limits(insert_at: u64, load: u64, slew: u64) -> bool
 pub fn is_buffer(buffer: &Buffer) -> bool
     ensures { result ≡ is_buffer buffer.now }
 {
-    buffer.cin <= GREATEST_CAPACITANCE && is_bounded(buffer.rout) && is_bounded(buffer.intrinsic)
+    buffer.cin <= MAX_CAPACITANCE && is_bounded(buffer.rout) && is_bounded(buffer.intrinsic)
 }
 
 /// An offset, in 10^-27 s, is below 10^18, and 0 in version 1.
@@ -117,7 +114,7 @@ fn is_offset(version: Version, offset: u64) -> bool
 pub fn is_sink(version: Version, sink: &Sink) -> bool
     ensures { result ≡ is_sink version sink.now }
 {
-    sink.id <= GREATEST_ID && sink.cap <= GREATEST_CAPACITANCE && is_offset(version, sink.offset)
+    sink.id <= MAX_ID && sink.cap <= MAX_CAPACITANCE && is_offset(version, sink.offset)
 }
 
 /// The first corner is the lower left one and the second the upper right one, or they share a side.
@@ -142,8 +139,8 @@ pub fn has_room(counts: BlockCounts, kind: Kind) -> bool
     ensures { result ≡ has_room counts kind }
 {
     match kind {
-        Kind::Buffer => counts.buffer < BUFFER_BLOCKS,
-        Kind::All => counts.all < ALL_BLOCKS,
+        Kind::Buffer => counts.buffer < MAX_BUFFER_BLOCKS,
+        Kind::All => counts.all < MAX_ALL_BLOCKS,
     }
 }
 

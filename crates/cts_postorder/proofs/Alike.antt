@@ -166,3 +166,21 @@ all_zip-then P Q [] (y ∷ ys) zs p q = absurd p
 all_zip-then P Q (x ∷ xs) [] zs p q = absurd p
 all_zip-then P Q (x ∷ xs) (y ∷ ys) [] p q = absurd q
 all_zip-then P Q (x ∷ xs) (y ∷ ys) (z ∷ zs) p q = ((y, p.0, q.0), all_zip-then P Q xs ys zs (p.1) (q.1))
+
+-- nodes that stand place by place for those of a list, and name the same children, are in post-order with them
+module _ {N M : Type 0} (kids : N → Option (ℕ × ℕ)) (kids' : M → Option (ℕ × ℕ)) (R : Occurrence N → M → Type 0)
+    (same : (o : Occurrence N) (m : M) → R o m → kids' m ≡ kids (label o.here)) where
+  same_all : (os : List (Occurrence N)) (ms : List M) → AllZip R os ms
+      → map kids' ms ≡ map (λ (o : Occurrence N). kids (label o.here)) os
+  same_all [] [] all = refl
+  same_all [] (m ∷ ms) all = absurd all
+  same_all (o ∷ os) [] all = absurd all
+  same_all (o ∷ os) (m ∷ ms) all = ap₂ (λ c cs. c ∷ cs) (same o m (all.0)) (same_all os ms (all.1))
+
+  pub same_children : (nodes : List N) → IsPostOrder (map kids nodes) → (ms : List M)
+      → AllZip R (occurrences_of kids nodes) ms → map kids' ms ≡ map kids nodes
+  same_children nodes ok ms all =
+      same_all (occurrences_of kids nodes) ms all
+      ∙ sym (map-map (λ t. kids (label t)) (λ (o : Occurrence N). o.here) (occurrences_of kids nodes))
+      ∙ ap (map (λ t. kids (label t))) (map-here-occurrences_of kids nodes ok)
+      ∙ sym (map-map kids label (trees_of kids nodes)) ∙ ap (map kids) (map-label-trees_of kids nodes)

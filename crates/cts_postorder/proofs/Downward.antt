@@ -4,7 +4,7 @@ use Rattle.std.specs.List.{AllZip}
 use Rattle.std.proofs.lemmas.Bool.{cases_lt}
 use Rattle.cts_postorder.specs.BinaryTree.{BinaryTree, fork, root_number}
 use Rattle.cts_postorder.specs.PostOrder.{IsPostOrder, root_of}
-use Rattle.cts_postorder.specs.Occurrence.{Occurrence, occurrence, occurrences, occurrences_of, IsDownFrom}
+use Rattle.cts_postorder.specs.Occurrence.{Occurrence, occurrence, occurrences, occurrences_of}
 use Rattle.cts_postorder.proofs.Zips.{all_zip-from}
 use Rattle.cts_postorder.proofs.Sizes.{size_pos, root_number-next}
 use Rattle.cts_postorder.proofs.Places.{get_or-occurrences-root}
@@ -175,15 +175,3 @@ module _ {N V : Type 0} (kids : N → Option (ℕ × ℕ)) (IsValue : Occurrence
       due_later : (nodes : List N) (e : N) (k : ℕ) → IsDue kids nodes e (k + 1) k → IsDue kids nodes e 0 k
       due_later nodes e k (root is) = root is
       due_later nodes e k (part i p from within names child) = part i p (omega arith) within names child
-
--- a value that is carried down is one, where the root's and each part's are
-pub down_from_one : {N V : Type 0} (Start : BinaryTree N → V → Type 0) (Step : V → BinaryTree N → BinaryTree N → V → Type 0)
-    → ((t : BinaryTree N) (v w : V) → Start t v → Start t w → v ≡ w)
-    → ((above : V) (pair t : BinaryTree N) (v w : V) → Step above pair t v → Step above pair t w → v ≡ w)
-    → (up : List (BinaryTree N)) (t : BinaryTree N) (v w : V) → IsDownFrom Start Step up t v → IsDownFrom Start Step up t w
-    → v ≡ w
-unfolding IsDownFrom
-down_from_one Start Step start step [] t v w p q = start t v w p q
-down_from_one Start Step start step (pair ∷ up) t v w p q =
-    let same : p.0 ≡ q.0 = down_from_one Start Step start step up pair p.0 q.0 p.1 q.1 in
-    step p.0 pair t v w p.2 (subst (λ above. Step above pair t w) (sym same) q.2)

@@ -1,9 +1,8 @@
 -- The definitions, computed on a worked list of nodes.
-use Rattle.std.proofs.Common.{◌≡◌, ℕ, List, [], ◌∷◌, ◌+◌, Option, Some, None, map, refl, ap, arith}
-use Rattle.std.specs.List.{AllZip}
+use Rattle.std.proofs.Common.{◌≡◌, ℕ, List, [], ◌∷◌, Option, Some, None, map, refl, ap, arith}
 use Rattle.cts_postorder.specs.BinaryTree.{BinaryTree, tip, fork, label, labels, subtrees, size, depth, root_number, IsNumbered}
 use Rattle.cts_postorder.specs.PostOrder.{IsPostOrder, IsPostOrderFrom, trees_of, root_of, grow, tree_over}
-use Rattle.cts_postorder.specs.Occurrence.{Occurrence, occurrences, occurrences_of, tips, tips_of, IsDownFrom}
+use Rattle.cts_postorder.specs.Occurrence.{Occurrence, occurrences, occurrences_of, tips}
 
 -- a node of the example: a leaf with its sink's place in a list, or a pair that names its children
 data Node : Type 0 where
@@ -73,19 +72,11 @@ example_occurrences : map (λ (o : Occurrence Node). map label o.above) (occurre
 unfolding occurrences_of occurrences root_of trees_of grow tree_over label
 example_occurrences = refl
 
--- what is carried down by counting the pairs above
-example_down : AllZip
-    (λ (o : Occurrence Node) (v : ℕ). IsDownFrom (λ here v. v ≡ 0) (λ above pair here v. v ≡ above + 1) o.above o.here v)
-    (occurrences_of children nodes) (2 ∷ 2 ∷ 1 ∷ 2 ∷ 2 ∷ 1 ∷ 0 ∷ [])
-unfolding occurrences_of occurrences root_of trees_of grow tree_over IsDownFrom
-example_down =
-    ((1, (0, refl, refl), refl), ((1, (0, refl, refl), refl), ((0, refl, refl), ((1, (0, refl, refl), refl), ((1, (0, refl, refl), refl), ((0, refl, refl), (refl, tt)))))))
-
 -- the tips, from left to right, told by their nodes and those of the pairs above them
-example_tips : map (λ (o : Occurrence Node). label o.here ∷ map label o.above) (tips_of children nodes)
+example_tips : map (λ (o : Occurrence Node). label o.here ∷ map label o.above) (tips [] whole)
     ≡ (leaf 3 ∷ pair 0 1 ∷ pair 2 5 ∷ []) ∷ (leaf 2 ∷ pair 0 1 ∷ pair 2 5 ∷ [])
     ∷ (leaf 1 ∷ pair 3 4 ∷ pair 2 5 ∷ []) ∷ (leaf 0 ∷ pair 3 4 ∷ pair 2 5 ∷ []) ∷ []
-unfolding tips_of tips root_of trees_of grow tree_over label
+unfolding tips label
 example_tips = refl
 
 -- and as they lie below the first pair alone

@@ -4,8 +4,8 @@ use Rattle.std.specs.List.{AllZip}
 use Rattle.std.proofs.lemmas.List.{drop_more, drop_all, take_more, take-append-drop, length-take-le, map-append, length-map, reverse-append, length-reverse}
 use Rattle.std.proofs.lemmas.Slice.Zip.{AllZip-long}
 use Rattle.cts_postorder.specs.PostOrder.{IsPostOrderFrom, IsPostOrder}
-use Rattle.cts_postorder.specs.Stack.{IsJoin, stack_after}
-use Rattle.cts_postorder.proofs.Stacks.{post_splits}
+use Rattle.cts_postorder.specs.Stack.{stack_after}
+use Rattle.cts_postorder.proofs.Stacks.{IsJoin, post_splits}
 use Rattle.cts_postorder.proofs.Lists.{length_pos}
 
 -- the stack once these nodes are read, of which the first has the number k

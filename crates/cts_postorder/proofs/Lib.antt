@@ -7,7 +7,6 @@ pub mod Parents
 pub mod Lists
 pub mod Upward
 pub mod Downward
-pub mod Decorated
 pub mod Tips
 pub mod Failures
 pub mod Nested

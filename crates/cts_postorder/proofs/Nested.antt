@@ -1,9 +1,9 @@
 -- Subtrees lie one in another: where the nodes of one reach down to a number, the nodes of the tree at that number are
 -- among them.
-use Rattle.std.proofs.Common.{◌≡◌, ℕ, zero, suc, ◌+◌, ◌-◌, ◌<◌, ◌≤◌, List, [], ◌∷◌, ◌++◌, map, length, get_or, Option, refl, ap, ◌∙◌, sym, arith}
+use Rattle.std.proofs.Common.{◌≡◌, ℕ, zero, suc, ◌+◌, ◌-◌, ◌<◌, ◌≤◌, List, [], ◌∷◌, ◌++◌, map, length, get_or, Option, refl, ap, ◌∙◌, arith}
 use Rattle.cts_postorder.specs.BinaryTree.{BinaryTree, tip, fork, size, subtrees}
 use Rattle.cts_postorder.specs.PostOrder.{IsPostOrder, trees_of}
-use Rattle.cts_postorder.proofs.Sizes.{length-subtrees, size_pos}
+use Rattle.cts_postorder.proofs.Sizes.{length-subtrees}
 use Rattle.cts_postorder.proofs.Places.{place, in_left, in_right, at_root, past, get_or-left, get_or-right, get_or-root}
 use Rattle.cts_postorder.proofs.Lists.{Whole, whole_of}
 use Rattle.cts_postorder.proofs.Failures.{size-subtree}

@@ -1,8 +1,15 @@
 -- Steps of reading with a stack, and its completion.
-use Rattle.std.proofs.Common.{ℕ, zero, suc, ◌+◌, ◌-◌, ◌<◌, ◌≤◌, List, [], ◌∷◌, length, Option, Some, None, refl, ap, inl, inr, arith}
+use Rattle.std.proofs.Common.{◌≡◌, ℕ, zero, suc, ◌+◌, ◌-◌, ◌<◌, ◌≤◌, List, [], ◌∷◌, length, Option, Some, None, refl, ap, inl, inr, arith}
 use Rattle.std.proofs.lemmas.Bool.{cases_lt}
 use Rattle.cts_postorder.specs.PostOrder.{IsPostOrderFrom}
-use Rattle.cts_postorder.specs.Stack.{IsJoin, stack_after, IsOpen, Completion, OpenIsCompletable}
+use Rattle.cts_postorder.specs.Stack.{stack_after, IsOpen, Completion, OpenIsCompletable}
+
+-- the node names the two trees that a pair would take: the latest as its right child, the one before it as its left
+abbrev pub IsJoin : Option (ℕ × ℕ) → List ℕ → Type 0
+IsJoin None stack = Unit {0}
+IsJoin (Some children) [] = ⊥
+IsJoin (Some children) (b ∷ []) = ⊥
+IsJoin (Some children) (b ∷ a ∷ stack) = children ≡ (a, b)
 
 -- a node that joins, and then the rest
 pub post_joins : (children : Option (ℕ × ℕ)) (nodes : List (Option (ℕ × ℕ))) (stack : List ℕ) (k : ℕ)

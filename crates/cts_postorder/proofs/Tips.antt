@@ -1,14 +1,11 @@
 -- The tips of a tree: how they lie among its occurrences, below its pairs and below the pairs above it.
-use Rattle.std.proofs.Common.{◌≡◌, ℕ, ◌+◌, ◌<◌, ◌≤◌, Bool, List, [], ◌∷◌, ◌++◌, map, length, Option, refl, sym, ap, ap₂, ◌∙◌, arith, length-append, append-nil}
+use Rattle.std.proofs.Common.{◌≡◌, ℕ, ◌+◌, ◌<◌, ◌≤◌, Bool, List, [], ◌∷◌, ◌++◌, map, length, refl, sym, ap₂, ◌∙◌, arith, length-append, append-nil}
 use Rattle.std.specs.List.{All, filter}
-use Rattle.std.specs.Option.{option_map_or}
 use Rattle.std.proofs.lemmas.List.{map-append}
 use Rattle.std.proofs.lemmas.List.Elements.{All-append, All-cons, All-nil, All-weaker, filter-append}
 use Rattle.std.proofs.Math.Nat.{le-max_left, le-max_right}
 use Rattle.cts_postorder.specs.BinaryTree.{BinaryTree, tip, fork, is_tip, size, depth}
-use Rattle.cts_postorder.specs.PostOrder.{IsPostOrder}
-use Rattle.cts_postorder.specs.Occurrence.{Occurrence, occurrence, occurrences, tips, tips_of}
-use Rattle.cts_postorder.proofs.Lists.{whole_of}
+use Rattle.cts_postorder.specs.Occurrence.{Occurrence, occurrence, occurrences, tips}
 
 -- one more tip than there are pairs
 pub length-tips : {N : Type 0} (up : List (BinaryTree N)) (t : BinaryTree N)
@@ -58,9 +55,3 @@ tips_deep {N} up (fork l r n) =
     (λ o h. omega (arith, h, le-max_left (depth l) (depth r))) (tips (top ∷ up) l) (tips_deep (top ∷ up) l))
     (All-weaker (Near (length (top ∷ up) + depth r)) (Near (length up + depth top))
     (λ o h. omega (arith, h, le-max_right (depth l) (depth r))) (tips (top ∷ up) r) (tips_deep (top ∷ up) r))
-
--- the tips of a list of nodes are those of its tree
-pub tips_of-whole : {N : Type 0} (kids : N → Option (ℕ × ℕ)) (nodes : List N) (ok : IsPostOrder (map kids nodes))
-    → tips_of kids nodes ≡ tips [] (whole_of kids nodes ok).tree
-unfolding tips_of
-tips_of-whole kids nodes ok = ap (λ o. option_map_or (tips []) o []) (whole_of kids nodes ok).root_is

@@ -6,8 +6,8 @@ use Rattle.std.proofs.lemmas.List.{drop_more, drop_all, reverse-append, length-r
 use Rattle.std.proofs.lemmas.Slice.Zip.{AllZip-long}
 use Rattle.cts_postorder.specs.BinaryTree.{BinaryTree}
 use Rattle.cts_postorder.specs.PostOrder.{IsPostOrderFrom, IsPostOrder, root_of}
-use Rattle.cts_postorder.specs.Stack.{IsJoin, stack_after}
-use Rattle.cts_postorder.proofs.Stacks.{post_splits}
+use Rattle.cts_postorder.specs.Stack.{stack_after}
+use Rattle.cts_postorder.proofs.Stacks.{IsJoin, post_splits}
 use Rattle.cts_postorder.specs.Waiting.{StandsAt, AreWaiting}
 
 -- the two latest trees of a stack that a pair joins

@@ -27,19 +27,3 @@ occurrences_of kids nodes = option_map_or (occurrences []) (root_of kids nodes) 
 unfoldable pub tips : {N : Type 0} → List (BinaryTree N) → BinaryTree N → List (Occurrence N)
 tips up (tip n) = occurrence up (tip n) ∷ []
 tips up (fork l r n) = tips (fork l r n ∷ up) l ++ tips (fork l r n ∷ up) r
-
--- the tips of a list of nodes
-unfoldable pub tips_of : {N : Type 0} → (N → Option (ℕ × ℕ)) → List N → List (Occurrence N)
-tips_of kids nodes = option_map_or (tips []) (root_of kids nodes) []
-
--- A tree of the same form with other nodes: each is told from the subtree and the pairs above it.
-unfoldable pub decorate : {N M : Type 0} → (Occurrence N → M) → List (BinaryTree N) → BinaryTree N → BinaryTree M
-decorate g up (tip n) = tip (g (occurrence up (tip n)))
-decorate g up (fork l r n) =
-    fork (decorate g (fork l r n ∷ up) l) (decorate g (fork l r n ∷ up) r) (g (occurrence up (fork l r n)))
-
--- A value carried down: `Start` tells it at the root, and `Step value pair part` tells that of a part from its pair's.
-unfoldable pub IsDownFrom : {N V : Type 0} → (BinaryTree N → V → Type 0)
-    → (V → BinaryTree N → BinaryTree N → V → Type 0) → List (BinaryTree N) → BinaryTree N → V → Type 0
-IsDownFrom Start Step [] t v = Start t v
-IsDownFrom {V} Start Step (pair ∷ up) t v = (above : V) × IsDownFrom Start Step up pair above × Step above pair t v

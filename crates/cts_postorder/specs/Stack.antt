@@ -1,13 +1,6 @@
--- One step of reading a list of nodes in post-order with a stack, and the stacks from which it can be read to its end.
-use Rattle.std.specs.Prelude.{◌≡◌, ℕ, ◌+◌, ◌*◌, List, [], ◌∷◌, drop, length, Option, Some, None, ◌↔◌}
+-- The stack after one node of a list that is read in post-order, and the stacks from which it can be read to its end.
+use Rattle.std.specs.Prelude.{◌≡◌, ℕ, ◌+◌, ◌*◌, List, ◌∷◌, drop, length, Option, Some, None, ◌↔◌}
 use Rattle.cts_postorder.specs.PostOrder.{IsPostOrderFrom}
-
--- the node names the two trees that a pair would take: the latest as its right child, the one before it as its left
-abbrev pub IsJoin : Option (ℕ × ℕ) → List ℕ → Type 0
-IsJoin None stack = Unit {0}
-IsJoin (Some children) [] = ⊥
-IsJoin (Some children) (b ∷ []) = ⊥
-IsJoin (Some children) (b ∷ a ∷ stack) = children ≡ (a, b)
 
 -- the stack after the node of number k
 abbrev pub stack_after : Option (ℕ × ℕ) → List ℕ → ℕ → List ℕ

@@ -10,7 +10,7 @@
 //! them whatever the nodes are, given what children a node names. A layer above cites these
 //! definitions, the [`laws`], and the lemmas of `proofs/`: `Lists` for what stands at a number,
 //! `Tips` for the tips of a tree, `Upward` and `Downward` for the steps of passes, `Failures` for
-//! those that stop, `Decorated` for trees of the same form with other nodes, `Zips` for lists that
+//! those that stop, `Alike` for trees of the same form with other nodes, `Zips` for lists that
 //! are related place by place, `Stacks` for reading nodes with a stack, whose step
 //! `specs/Stack.antt` has, and `Waiting` and `Handed` for passes upward and downward that keep such a
 //! stack. Passes are stated over a relation between trees or occurrences and their values, so that a
@@ -18,3 +18,6 @@
 #![tactic(auto)]
 
 pub mod laws;
+mod stack;
+
+pub use stack::take_pair;

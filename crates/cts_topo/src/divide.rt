@@ -5,6 +5,7 @@ ghost use Rattle.std.specs.Prelude.{◌≡◌, ℕ, ◌+◌, ◌*◌, ◌%◌, �
 ghost use Rattle.std.specs.List.{range_with_len};
 ghost use Rattle.std.specs.List.Sorted.{IsPermutation, IsSortedBy};
 ghost use Rattle.cts_units.specs.Ids.{HasDistinctIds};
+ghost use Rattle.cts_units.specs.Limits.{max_sinks};
 ghost use Rattle.cts_postorder.specs.BinaryTree.{labels};
 ghost use Rattle.cts_topo.specs.declared.shape.ShapeNode.TheVariants.{Leaf, Pair};
 ghost use Rattle.cts_topo.specs.Shape.{IsShapeOver};
@@ -63,7 +64,7 @@ fn pins_of(alloc: Global, sinks: &[Sink]) -> Result<Vec<Pin>, NoMemory>
 /// A sink as a pin, with its place in the list of sinks.
 fn pin_of(sink: &Sink, place: usize) -> Pin
     requires placed { IsPlaced sink.now }
-    requires place { place ≤ 65536 }
+    requires place { place ≤ max_sinks }
     ensures { result ≡ spec_pin_of sink.now place }
 {
     Pin {
@@ -183,7 +184,7 @@ fn split(pins: &[Pin], wide: bool, pivot: Pin, half: usize, target: &mut [Pin])
 
 /// The pins sorted along x or along y; ties go by the other coordinate, then by id.
 fn sorted_along(alloc: Global, pins: &[Pin], wide: bool) -> Result<Vec<Pin>, NoMemory>
-    requires { length pins.now ≤ 65536 }
+    requires { length pins.now ≤ max_sinks }
     ensures permutation { IfOk result (λ sorted. IsPermutation pins.now sorted.items) }
     ensures sorted { IfOk result (λ sorted. IsSortedBy (is_before wide) sorted.items) }
 {
@@ -195,7 +196,7 @@ fn sorted_along(alloc: Global, pins: &[Pin], wide: bool) -> Result<Vec<Pin>, NoM
 /// The pins in the order of their rough keys. It is mostly the order along the axis, which the sort then sees in one
 /// pass; words are sorted in less than half of the time that pins take.
 fn in_rough_order(alloc: Global, pins: &[Pin], wide: bool) -> Result<Vec<Pin>, NoMemory>
-    requires { length pins.now ≤ 65536 }
+    requires { length pins.now ≤ max_sinks }
     ensures { IfOk result (λ ordered. IsPermutation pins.now ordered.items) }
 {
     let mut keys = rough_keys(alloc, pins, wide)?;
@@ -209,7 +210,7 @@ fn in_rough_order(alloc: Global, pins: &[Pin], wide: bool) -> Result<Vec<Pin>, N
 
 /// The rough keys of the pins, in their order.
 fn rough_keys(alloc: Global, pins: &[Pin], wide: bool) -> Result<Vec<u64>, NoMemory>
-    requires { length pins.now ≤ 65536 }
+    requires { length pins.now ≤ max_sinks }
     ensures { IfOk result (λ keys. map (λ key. key % 2 ^ 17) keys.items ≡ range_with_len 0 (length pins.now)) }
 {
     let mut keys = Vec::with_capacity(alloc, pins.len())?;
@@ -224,7 +225,7 @@ fn rough_keys(alloc: Global, pins: &[Pin], wide: bool) -> Result<Vec<u64>, NoMem
 /// in the list. A coordinate has at most 27 bits, and a place at most 17.
 #[inline(always)]
 fn rough_key(first: u32, second: u32, place: usize) -> u64
-    requires { place ≤ 65536 }
+    requires { place ≤ max_sinks }
     ensures { result % 2 ^ 17 ≡ place }
 {
     (u64::from(first) << 37)

@@ -1,7 +1,8 @@
 //! Routes of wires.
 
 use cts_geom::Half;
-use std::alloc::{AllocError, Global};
+use cts_num::NoMemory;
+use std::alloc::Global;
 use std::marker::Model;
 use std::slice;
 
@@ -49,8 +50,8 @@ impl Corners {
         }
     }
 
-    /// These corners, in this order. Answers with an error where an allocation fails.
-    pub fn of(alloc: Global, items: Vec<Half>) -> Result<Corners, AllocError>
+    /// These corners, in this order. Answers NoMemory where an allocation fails.
+    pub fn of(alloc: Global, items: Vec<Half>) -> Result<Corners, NoMemory>
         ensures { IfOk result (λ corners. corners ≡ items.items) }
     {
         match items.as_slice() {

@@ -1,7 +1,7 @@
 //! The choice of a buffer from the library.
 
-ghost use Rattle.std.specs.Prelude.{◌≡◌, ◌≤◌, [], length, vec_len, All, MatchOption};
-ghost use Rattle.cts_units.specs.Choice.{IsBufferChoice, IsLeastBuffer};
+ghost use Rattle.std.specs.Prelude.{◌≡◌, ◌^◌, ◌<◌, ◌≤◌, [], length, vec_len, All, IfSome, MatchOption};
+ghost use Rattle.cts_units.specs.Choice.{IsBufferChoice, IsLeastBuffer, added_delay_of, seen_load_of};
 ghost use Rattle.cts_units.specs.Limits.{IsBuffer, IsParams, max_load};
 
 use crate::delay::buffer_delay;
@@ -40,4 +40,24 @@ fn least_buffer(buffers: &[Buffer], load: u64) -> Option<u16>
         }
     }
     Some(best as u16)
+}
+
+/// The doubled delay in 10^-27 s that the buffer at a node adds over a load of `load` zF, and the load in zF that is
+/// seen from above the node: nothing and the load itself where the node has no buffer.
+pub fn buffered(params: &Params, buffer: Option<u16>, load: u64) -> (u128, u64)
+    requires params { IsParams params.now }
+    requires load { load ≤ max_load }
+    requires buffer { IfSome buffer (λ index. index < length params.now.library) }
+    ensures added { result.0 ≡ added_delay_of params.now.library buffer load }
+    ensures added_bound { result.0 ≤ 2 ^ 118 }
+    ensures seen { result.1 ≡ seen_load_of params.now.library buffer load }
+    ensures seen_bound { result.1 ≤ max_load }
+{
+    match buffer {
+        Some(index) => {
+            let chosen = params.library.items()[index as usize];
+            (buffer_delay(chosen, load), chosen.cin)
+        }
+        None => (0, load),
+    }
 }

@@ -1,6 +1,10 @@
 //! What a clock instance says of sinks, wires and buffers.
 
+ghost use Rattle.std.specs.Prelude.{◌≡◌, IfOk};
+
 use cts_list::Items;
+use cts_num::NoMemory;
+use std::alloc::Global;
 
 /// A sink: a clock pin that the tree must reach.
 #[derive(Clone, Copy)]
@@ -50,4 +54,17 @@ pub struct Params {
     pub library: Library,
     /// The insertion threshold in zF, below 10^18: a pair whose load is above it takes a buffer.
     pub insert_at: u64,
+}
+
+impl Params {
+    /// The same parameters again. Answers NoMemory where an allocation fails.
+    pub fn try_clone(&self, alloc: Global) -> Result<Params, NoMemory>
+        ensures { IfOk result (λ copy. copy ≡ self.now) }
+    {
+        Ok(Params {
+            wire: self.wire,
+            library: Library::of(self.library.items().to_vec(alloc)?),
+            insert_at: self.insert_at,
+        })
+    }
 }

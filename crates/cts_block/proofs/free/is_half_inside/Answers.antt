@@ -1,6 +1,6 @@
 use Rattle.std.proofs.Common.{refl, arith}
 use Rattle.std.proofs.lemmas.Int.{ints}
-use Rattle.cts_block.proofs.free.is_inside.Goals as goal
+use Rattle.cts_block.proofs.free.is_half_inside.Goals as goal
 
 pub returns-then-is_strictly_between : goal.returns-then-is_strictly_between
 returns-then-is_strictly_between c = (

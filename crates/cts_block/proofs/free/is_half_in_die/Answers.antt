@@ -1,5 +1,5 @@
 use Rattle.std.proofs.Common.{rules}
-use Rattle.cts_block.proofs.free.is_in_die.Goals as goal
+use Rattle.cts_block.proofs.free.is_half_in_die.Goals as goal
 
 pub returns-then-is_between : goal.returns-then-is_between
 returns-then-is_between c =
