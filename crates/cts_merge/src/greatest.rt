@@ -9,8 +9,9 @@ ghost use Rattle.cts_merge.specs.Side.{IsSideInRange};
 
 use crate::lengths::delay_through;
 use crate::side::Side;
-use cts_num::isqrt;
+use cts_num::{isqrt, near_float};
 use cts_units::Wire;
+use std::num::{nearest_u64_to_f64, saturating_f64_to_u64};
 
 /// The greatest length in nm from 0 to `d` on the first side at which it is not slower than the second one
 /// with the rest of `d`, or 0 where there is none: it takes one quotient.
@@ -63,6 +64,15 @@ pub fn snake(wire: Wire, load: u64, delta: u128) -> u64
     ensures { IsLongest wire load delta result }
 {
     wide_snake(wire.r as u128, wire.c as u128, load as u128, delta) as u64
+}
+
+/// A length in nm near that of [`snake`], by floats. Nothing is claimed of it: it is looked at before it is taken.
+#[inline(always)]
+pub(crate) fn near_snake(wire: Wire, load: u64, delta: u128) -> u64 {
+    let c = nearest_u64_to_f64(wire.c);
+    let load = nearest_u64_to_f64(load);
+    let quotient = near_float(delta) / nearest_u64_to_f64(wire.r);
+    saturating_f64_to_u64(((load * load + c * quotient).sqrt() - load) / c)
 }
 
 // With q = delta / r the delay of a length L is at most delta exactly where (c·L + load)² is at most

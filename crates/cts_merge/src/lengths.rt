@@ -1,12 +1,13 @@
 //! Lengths of wire that bring two delays together: a greatest length, or the next unit.
 
+ghost use Rattle.std.specs.Bool.{OnTrue};
 ghost use Rattle.std.specs.Prelude.{◌≡◌, ◌+◌, ◌-◌, ◌*◌, ◌^◌, ◌<◌, ◌≤◌, MatchOption, IfOk, IfErr};
 ghost use Rattle.cts_units.specs.Limits.{IsWire, max_length};
 ghost use Rattle.cts_merge.specs.LeastPair.{IsLeastPair, IsTooLong, Spans};
 ghost use Rattle.cts_merge.specs.Side.{IsSideInRange, delay_through};
 ghost use Rattle.cts_merge.specs.Stretch.{IsStretch, IsLongStretch, IsLastBelow};
 
-use crate::greatest::{snake, tap};
+use crate::greatest::{near_snake, snake, tap};
 use crate::side::{Beyond, Side};
 use cts_units::{MAX_LENGTH, Wire, wire_delay};
 
@@ -40,7 +41,25 @@ fn last_below(wire: Wire, side: &Side, base: u64, target: u128) -> Option<u64>
     if delay_through(wire, side, MAX_LENGTH + 1) <= target {
         return None;
     }
-    Some(snake(wire, side.load, target - side.greatest))
+    let delta = target - side.greatest;
+    let near = near_snake(wire, side.load, delta);
+    if is_last_below(wire, side, near, target) {
+        return Some(near);
+    }
+    Some(snake(wire, side.load, delta))
+}
+
+/// Whether a length is the last one at which a side's delay is at most `target`.
+#[inline(always)]
+fn is_last_below(wire: Wire, side: &Side, length: u64, target: u128) -> bool
+    requires wire { IsWire wire }
+    requires side { IsSideInRange side.now }
+    ensures { OnTrue result (IsLastBelow (delay_through wire side.now) target length) }
+{
+    if length > MAX_LENGTH {
+        return false;
+    }
+    delay_through(wire, side, length) <= target && target < delay_through(wire, side, length + 1)
 }
 
 /// The length from `base` on at which a side's delay comes nearest to `target`, the shorter of two.

@@ -4,7 +4,7 @@ ghost use Rattle.std.specs.Prelude.{◌≡◌, ◌+◌, ◌-◌, ◌*◌, ◌^�
 ghost use Rattle.cts_geom.specs.Coordinate.{IsCoordinate};
 ghost use Rattle.cts_geom.specs.declared.points.Spot.{Spot};
 ghost use Rattle.cts_geom.specs.Regions.{ContainsSpot};
-ghost use Rattle.cts_units.specs.Choice.{IsBufferChoice, added_delay_of, seen_load_of};
+ghost use Rattle.cts_units.specs.Choice.{IsBufferChoice};
 ghost use Rattle.cts_units.specs.Limits.{IsParams, IsWire, max_length, max_load};
 ghost use Rattle.cts_merge.specs.Merge.{IsLeaf, IsMergePair, Merges};
 ghost use Rattle.cts_merge.specs.Side.{IsMergeable, IsSideInRange};
@@ -13,7 +13,7 @@ use crate::lengths::{delay_through, least_pair};
 use crate::side::{Beyond, Finished, Side};
 use crate::steps::Steps;
 use cts_geom::{Region, Spot, gap, meet, spot_of};
-use cts_units::{MAX_DELAY, MAX_LOAD, Params, Sink, Wire, buffer_delay, choose_buffer};
+use cts_units::{MAX_DELAY, MAX_LOAD, Params, Sink, Wire, buffered, choose_buffer};
 use std::sync::ledger::Ledger;
 
 /// Twice an offset in 10^-27 s, as delays are doubled.
@@ -73,25 +73,6 @@ fn wire_load(wire: Wire, length: u64) -> u64
     ensures bound { result ≤ 2 ^ 52 }
 {
     wire.c * length
-}
-
-/// The delay that a node's buffer adds over a load, and the load that is seen from above it.
-fn buffered(params: &Params, buffer: Option<u16>, load: u64) -> (u128, u64)
-    requires params { IsParams params.now }
-    requires load { load ≤ max_load }
-    requires choice { IsBufferChoice params.now load buffer }
-    ensures added { result.0 ≡ added_delay_of params.now.library buffer load }
-    ensures added_bound { result.0 ≤ 2 ^ 118 }
-    ensures seen { result.1 ≡ seen_load_of params.now.library buffer load }
-    ensures seen_bound { result.1 ≤ max_load }
-{
-    match buffer {
-        Some(index) => {
-            let chosen = params.library.items()[index as usize];
-            (buffer_delay(chosen, load), chosen.cin)
-        }
-        None => (0, load),
-    }
 }
 
 /// The pair of two sides with wires of these lengths, its least pair.
