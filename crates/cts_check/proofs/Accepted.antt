@@ -1,19 +1,16 @@
--- The report of a sound tree that can be printed has the verdict Yes.
-use Rattle.std.proofs.Common.{◌≡◌, ℕ, ◌+◌, ◌-◌, ◌*◌, ◌^◌, ◌<◌, ◌≤◌, inl, inr, ◌⊎◌, List, [], ◌∷◌, ◌++◌, map, length, slice_get, Option, Some, None, refl, sym, ap₂, subst, ◌∙◌, arith}
-use Rattle.std.specs.Prelude.{ℤ, pos, ◌*ℤ◌, ◌≤ℤ◌, unsigned_abs, sum_by, IfSome, IsSomeAnd}
-use Rattle.std.specs.List.{All, AllZip}
-use Rattle.std.specs.Option.{option_map_or, option_and_then}
-use Rattle.std.proofs.lemmas.Bool.{cases_lt}
+-- The report of a sound tree with few corners has the verdict Yes.
+use Rattle.std.proofs.Common.{◌≡◌, ℕ, ◌+◌, ◌-◌, ◌*◌, ◌^◌, ◌≤◌, inl, inr, List, [], ◌∷◌, ◌++◌, map, length, slice_get, Option, Some, None, refl, sym, ap₂, subst, ◌∙◌, arith}
+use Rattle.std.specs.Prelude.{ℤ, pos, ◌*ℤ◌, ◌≤ℤ◌, unsigned_abs, sum_by, IsSomeAnd}
+use Rattle.std.specs.List.{All}
 use Rattle.std.proofs.lemmas.Int.{ints}
 use Rattle.std.proofs.lemmas.List.{length-map}
-use Rattle.std.proofs.lemmas.List.Elements.{All-cons, All-nil, All-head, All-tail, All-append}
+use Rattle.std.proofs.lemmas.List.Elements.{All-cons, All-nil, All-head, All-tail, All-append, All-weaker}
 use Rattle.std.proofs.lemmas.List.Sums.{sum_by-cons}
 use Rattle.std.proofs.lemmas.Option.{slice_get_within, get_or_from_slice_get}
-use Rattle.cts_geom.specs.declared.bounds.Die.{Die}
 use Rattle.cts_geom.specs.declared.points.Half.{Half}
 use Rattle.cts_geom.specs.declared.points.Spot.{Spot}
 use Rattle.cts_geom.specs.Points.{point_of}
-use Rattle.cts_block.specs.FreePoints.{IsInDie}
+use Rattle.cts_block.specs.FreePoints.{IsHalfInDie}
 use Rattle.cts_units.specs.declared.params.Sink.{Sink}
 use Rattle.cts_units.specs.Limits.{max_length, max_load, max_delay}
 use Rattle.cts_postorder.specs.BinaryTree.{BinaryTree, tip, fork, label, labels, subtrees}
@@ -24,7 +21,7 @@ use Rattle.cts_postorder.proofs.Sizes.{map-here-occurrences}
 use Rattle.cts_tree.specs.declared.nodes.NodeKind.{NodeKind}
 use Rattle.cts_tree.specs.declared.nodes.NodeKind.TheVariants.{Leaf, Pair}
 use Rattle.cts_tree.specs.declared.nodes.TreeNode.{TreeNode}
-use Rattle.cts_tree.specs.Nodes.{tree_children, children_of, leaf_sink}
+use Rattle.cts_tree.specs.Nodes.{tree_children, children_of}
 use Rattle.cts_instance.specs.declared.parts.Parts.{Parts}
 use Rattle.cts_instance.specs.declared.version.Version.{Version}
 use Rattle.cts_instance.specs.declared.version.Version.TheVariants.{One, Two}
@@ -35,29 +32,18 @@ use Rattle.cts_elmore.specs.Figures.{IsNodeFigure, AreFiguresOf, AreFigures, IsF
 use Rattle.cts_elmore.specs.Fits.{FitsInstance, NamesSink, NamesBuffer}
 use Rattle.cts_elmore.specs.Limits.{IsPairOver, IsRootOver, IsOver, long_left, long_right, great_load, long_root, great_source_load}
 use Rattle.cts_elmore.specs.Loads.{load_below, source_load}
-use Rattle.cts_elmore.specs.Sound.{IsSound}
-use Rattle.cts_report.specs.Report.{IsOnSheet, IsPrintableNode, printed_point, printed_kind, printed_arrival, printed_arrivals, printed_node, printed_nodes, printed_report, report_text}
+use Rattle.cts_elmore.specs.Measurement.{HasFigures}
+use Rattle.cts_elmore.specs.Sound.{IsSound, StandsInDie}
+use Rattle.cts_elmore.proofs.InDie.{all_front, all_back, sound_in_die}
+use Rattle.cts_elmore.proofs.InRange.{all_partners, figures_in_range}
+use Rattle.cts_elmore.proofs.Rising.{not_above, sink_load_le}
+use Rattle.cts_report.specs.Report.{printed_point, printed_kind, printed_arrival, printed_arrivals, printed_node, printed_nodes, printed_report, report_text}
 use Rattle.cts_report_reader.specs.Bounds.{IsPrintedCoordinate, IsPrintedPoint, IsPrintedPlace, IsPrintedKind, IsArrival, AreArrivals, IsPrintedNode, IsReport, children_of_kind, printed_children}
 use Rattle.cts_report_reader.specs.Forms.{form_of, tells_arrival}
+use Rattle.cts_check.specs.Laws.{SoundReportsAreAccepted}
 use Rattle.cts_check.specs.Verdict.{IsRight}
 use Rattle.cts_check.proofs.Retold.{length-printed}
-use Rattle.cts_check.proofs.Verdicts.{figure_each}
-use Rattle.cts_check.proofs.BareTrees.{all_turned, all_before_map}
-
-all_front : {A : Type 0} (P : A → Type 0) (xs ys : List A) → All P (xs ++ ys) → All P xs
-all_front P [] ys h = All-nil P
-all_front P (x ∷ xs) ys h = All-cons P x xs (All-head P x (xs ++ ys) h) (all_front P xs ys (All-tail P x (xs ++ ys) h))
-
-all_back : {A : Type 0} (P : A → Type 0) (xs ys : List A) → All P (xs ++ ys) → All P ys
-all_back P [] ys h = h
-all_back P (x ∷ xs) ys h = all_back P xs ys (All-tail P x (xs ++ ys) h)
-
-at_most : (w most : ℕ) → (most < w → ⊥) → w ≤ most
-at_most w most n = by (cases_lt most w)
-  where
-    by : (most < w) ⊎ (w ≤ most) → w ≤ most
-    by (inl more) = absurd (n more)
-    by (inr le) = le
+use Rattle.cts_check.proofs.BareTrees.{all_before_map}
 
 -- wires of a tree of which no pair is over the limits
 short_wires : (i : Parts) (t : BinaryTree TreeNode) → All (λ u. ¬ IsPairOver i u) (subtrees t) → (label t).wire ≤ max_length
@@ -70,28 +56,15 @@ short_wires i (fork l r n) h here =
     All-head (λ u. ¬ IsPairOver i u) (fork l r n) [] (all_back (λ u. ¬ IsPairOver i u) (subtrees l ++ subtrees r) (fork l r n ∷ []) h) in
     All-append (λ (m : TreeNode). m.wire ≤ max_length) (labels l ++ labels r) (n ∷ [])
     (All-append (λ (m : TreeNode). m.wire ≤ max_length) (labels l) (labels r)
-    (short_wires i l (all_front (λ u. ¬ IsPairOver i u) (subtrees l) (subtrees r) front) (at_most (label l).wire max_length (λ long. own (long_left long))))
-    (short_wires i r (all_back (λ u. ¬ IsPairOver i u) (subtrees l) (subtrees r) front) (at_most (label r).wire max_length (λ long. own (long_right long)))))
+    (short_wires i l (all_front (λ u. ¬ IsPairOver i u) (subtrees l) (subtrees r) front) (not_above (label l).wire max_length (λ long. own (long_left long))))
+    (short_wires i r (all_back (λ u. ¬ IsPairOver i u) (subtrees l) (subtrees r) front) (not_above (label r).wire max_length (λ long. own (long_right long)))))
     (All-cons (λ (m : TreeNode). m.wire ≤ max_length) n [] here (All-nil (λ (m : TreeNode). m.wire ≤ max_length)))
 
 -- loads of such a tree
 small_load : (i : Parts) → IsValid i → (t : BinaryTree TreeNode) → ¬ IsPairOver i t → load_below i t ≤ max_load
 unfolding load_below
-small_load i valid (tip n) fine = by (option_and_then (slice_get i.sinks) (leaf_sink n.kind)) (found (leaf_sink n.kind))
-  where
-    found : (o : Option ℕ) → IfSome (option_and_then (slice_get i.sinks) o) (λ (s : Sink). s.cap ≤ 10 ^ 12)
-    found None = tt
-    found (Some k) = at (slice_get i.sinks k) refl
-      where
-        at : (o : Option Sink) → slice_get i.sinks k ≡ o → IfSome o (λ (s : Sink). s.cap ≤ 10 ^ 12)
-        at None e = tt
-        at (Some s) e =
-            subst (λ (q : Sink). q.cap ≤ 10 ^ 12) (get_or_from_slice_get i.sinks k s s e) (valid.sinks k s (slice_get_within i.sinks k s e)).cap
-
-    by : (o : Option Sink) → IfSome o (λ (s : Sink). s.cap ≤ 10 ^ 12) → option_map_or (λ (s : Sink). s.cap) o 0 ≤ max_load
-    by None h = omega arith
-    by (Some s) h = omega (arith, h)
-small_load i valid (fork l r n) fine = at_most (load_below i (fork l r n)) max_load (λ more. fine (great_load more))
+small_load i valid (tip n) fine = omega (arith, sink_load_le i valid n)
+small_load i valid (fork l r n) fine = not_above (load_below i (fork l r n)) max_load (λ more. fine (great_load more))
 
 sum_most : (ns : List TreeNode) → All (λ (n : TreeNode). n.wire ≤ max_length) ns
     → sum_by (λ (n : TreeNode). n.wire) ns ≤ length ns * 2 ^ 31
@@ -117,10 +90,6 @@ arrivals_fit : (version : Version) (greatest least : ℕ) → greatest ≤ max_d
 arrivals_fit One greatest least greatest_within least_within = tt
 arrivals_fit Two greatest least greatest_within least_within = (omega (arith, greatest_within), omega (arith, least_within))
 
--- What is asked of a node of such a tree beside its figures.
-abbrev pub Stands : Die → TreeNode → Type 0
-Stands die n = IsInDie die (point_of n.place) × All (IsInDie die) n.route.corners
-
 module _ (i : Parts) (valid : IsValid i) where
   coordinate : (low high z : ℤ) → pos 0 ≤ℤ low → high ≤ℤ pos (10 ^ 8) → (pos 2 *ℤ low) ≤ℤ z → z ≤ℤ (pos 2 *ℤ high)
       → IsPrintedCoordinate (5 * unsigned_abs z)
@@ -129,29 +98,23 @@ module _ (i : Parts) (valid : IsValid i) where
     half = omega arith;
   }
 
-  point : (p : Half) → IsInDie i.die p → IsPrintedPoint (printed_point p)
+  point : (p : Half) → IsHalfInDie i.die p → IsPrintedPoint (printed_point p)
   point p h = record {
     x = coordinate i.die.x1 i.die.x2 p.x valid.die.x_low valid.die.x_high h.x.at_least h.x.at_most;
     y = coordinate i.die.y1 i.die.y2 p.y valid.die.y_low valid.die.y_high h.y.at_least h.y.at_most;
   }
 
-  on_sheet : (p : Half) → IsInDie i.die p → IsOnSheet p
-  on_sheet p h = record {
-    x = grind (arith, ints, valid.die.x_low, h.x.at_least);
-    y = grind (arith, ints, valid.die.y_low, h.y.at_least);
-  }
-
-  place : (s : Spot) → IsInDie i.die (point_of s) → IsPrintedPlace (printed_point (point_of s))
+  place : (s : Spot) → IsHalfInDie i.die (point_of s) → IsPrintedPlace (printed_point (point_of s))
   place s h = record {
     point = point (point_of s) h;
-    even = grind (arith, ints, (on_sheet (point_of s) h).x, (on_sheet (point_of s) h).y);
+    even = grind (arith, ints, valid.die.x_low, valid.die.y_low, h.x.at_least, h.y.at_least);
   }
 
-  corners : (ps : List Half) → All (IsInDie i.die) ps → All IsPrintedPoint (map printed_point ps)
+  corners : (ps : List Half) → All (IsHalfInDie i.die) ps → All IsPrintedPoint (map printed_point ps)
   corners [] h = All-nil IsPrintedPoint
   corners (p ∷ ps) h =
-      All-cons IsPrintedPoint (printed_point p) (map printed_point ps) (point p (All-head (IsInDie i.die) p ps h))
-      (corners ps (All-tail (IsInDie i.die) p ps h))
+      All-cons IsPrintedPoint (printed_point p) (map printed_point ps) (point p (All-head (IsHalfInDie i.die) p ps h))
+      (corners ps (All-tail (IsHalfInDie i.die) p ps h))
 
   kind : (k : NodeKind) (residue : ℕ) → NamesSink i.sinks k → NamesBuffer i.params.library k → residue ≤ max_delay
       → IsPrintedKind (length i.params.library) (printed_kind k residue)
@@ -165,23 +128,23 @@ module _ (i : Parts) (valid : IsValid i) where
   kind (Pair left right None) residue names buffer small = (tt, omega (arith, small))
   kind (Pair left right (Some index)) residue names buffer small = (buffer, omega (arith, small))
 
-  node : (n : TreeNode) (f : NodeFigure) → NamesSink i.sinks n.kind → NamesBuffer i.params.library n.kind → Stands i.die n
+  node : (n : TreeNode) (f : NodeFigure) → NamesSink i.sinks n.kind → NamesBuffer i.params.library n.kind → StandsInDie i.die n
       → length n.route.corners ≤ 65536 → n.wire ≤ max_length → f.below ≤ max_load → IsFigureInRange f
       → IsPrintedNode (form_of i) (printed_node i.version n f)
   node n f names buffer stands few wire below range = record {
     kind = kind n.kind f.residue names buffer range.residue_within;
-    place = place n.place (stands.0);
+    place = place n.place stands.place;
     load = omega (arith, below);
     delay = omega (arith, range.delay_within);
     arrival = arrival_fits i.version n.kind f.residue (f.delay + 2 * f.offset) range.arrival_within;
     slew = omega (arith, range.stage_within);
     wire = omega (arith, wire);
     few = omega (arith, length-map n.route.corners printed_point, few);
-    corners = corners n.route.corners (stands.1);
+    corners = corners n.route.corners stands.corners;
   }
 
   nodes : (ns : List TreeNode) (fs : List NodeFigure) → All (λ (n : TreeNode). NamesSink i.sinks n.kind) ns
-      → All (λ (n : TreeNode). NamesBuffer i.params.library n.kind) ns → All (Stands i.die) ns
+      → All (λ (n : TreeNode). NamesBuffer i.params.library n.kind) ns → All (StandsInDie i.die) ns
       → All (λ (n : TreeNode). length n.route.corners ≤ 65536) ns → All (λ (n : TreeNode). n.wire ≤ max_length) ns
       → All (λ (f : NodeFigure). f.below ≤ max_load) fs → All IsFigureInRange fs
       → All (IsPrintedNode (form_of i)) (printed_nodes i.version ns fs)
@@ -191,37 +154,13 @@ module _ (i : Parts) (valid : IsValid i) where
   nodes (n ∷ ns) (f ∷ fs) names buffers stands few wires below range =
       All-cons (IsPrintedNode (form_of i)) (printed_node i.version n f) (printed_nodes i.version ns fs)
       (node n f (All-head (λ (m : TreeNode). NamesSink i.sinks m.kind) n ns names) (All-head (λ (m : TreeNode). NamesBuffer i.params.library m.kind) n ns buffers)
-      (All-head (Stands i.die) n ns stands) (All-head (λ (m : TreeNode). length m.route.corners ≤ 65536) n ns few)
+      (All-head (StandsInDie i.die) n ns stands) (All-head (λ (m : TreeNode). length m.route.corners ≤ 65536) n ns few)
       (All-head (λ (m : TreeNode). m.wire ≤ max_length) n ns wires) (All-head (λ (g : NodeFigure). g.below ≤ max_load) f fs below)
       (All-head IsFigureInRange f fs range))
       (nodes ns fs (All-tail (λ (m : TreeNode). NamesSink i.sinks m.kind) n ns names) (All-tail (λ (m : TreeNode). NamesBuffer i.params.library m.kind) n ns buffers)
-      (All-tail (Stands i.die) n ns stands) (All-tail (λ (m : TreeNode). length m.route.corners ≤ 65536) n ns few)
+      (All-tail (StandsInDie i.die) n ns stands) (All-tail (λ (m : TreeNode). length m.route.corners ≤ 65536) n ns few)
       (All-tail (λ (m : TreeNode). m.wire ≤ max_length) n ns wires) (All-tail (λ (g : NodeFigure). g.below ≤ max_load) f fs below)
       (All-tail IsFigureInRange f fs range))
-
-  printable : (ns : List TreeNode) → All (Stands i.die) ns → All IsPrintableNode ns
-  printable [] h = All-nil IsPrintableNode
-  printable (n ∷ ns) h =
-      let at : Stands i.die n = All-head (Stands i.die) n ns h in
-      All-cons IsPrintableNode n ns (record {
-        in_range = record {
-          u = record {
-            low = grind (arith, ints, (on_sheet (point_of n.place) (at.0)).x, (on_sheet (point_of n.place) (at.0)).y);
-            high = grind (arith, ints, at.0.x.at_most, at.0.y.at_most, valid.die.x_high, valid.die.y_high);
-          };
-          v = record {
-            low = grind (arith, ints, (on_sheet (point_of n.place) (at.0)).x, at.0.y.at_most, valid.die.y_high);
-            high = grind (arith, ints, at.0.x.at_most, (on_sheet (point_of n.place) (at.0)).y, valid.die.x_high);
-          };
-        };
-        place = on_sheet (point_of n.place) (at.0);
-        corners = sheets n.route.corners (at.1);
-      }) (printable ns (All-tail (Stands i.die) n ns h))
-    where
-      sheets : (ps : List Half) → All (IsInDie i.die) ps → All IsOnSheet ps
-      sheets [] hs = All-nil IsOnSheet
-      sheets (p ∷ ps) hs =
-          All-cons IsOnSheet p ps (on_sheet p (All-head (IsInDie i.die) p ps hs)) (sheets ps (All-tail (IsInDie i.die) p ps hs))
 
   kids_printed : (ns : List TreeNode) (fs : List NodeFigure) → length fs ≡ length ns
       → map printed_children (printed_nodes i.version ns fs) ≡ map tree_children ns
@@ -234,44 +173,39 @@ module _ (i : Parts) (valid : IsValid i) where
       of_kind (Leaf id s) residue = refl
       of_kind (Pair left right buffer) residue = refl
 
-  zip_loads : (root : BinaryTree TreeNode) (os : List (Occurrence TreeNode)) (fs : List NodeFigure) → AllZip (IsNodeFigure i root) os fs
-      → All (λ (o : Occurrence TreeNode). load_below i o.here ≤ max_load) os → All (λ (f : NodeFigure). f.below ≤ max_load) fs
-  zip_loads root [] [] zip h = All-nil (λ (f : NodeFigure). f.below ≤ max_load)
-  zip_loads root [] (f ∷ fs) zip h = absurd zip
-  zip_loads root (o ∷ os) [] zip h = absurd zip
-  zip_loads root (o ∷ os) (f ∷ fs) zip h =
-      All-cons (λ (g : NodeFigure). g.below ≤ max_load) f fs
-      (omega (arith, zip.0.below, All-head (λ (p : Occurrence TreeNode). load_below i p.here ≤ max_load) o os h))
-      (zip_loads root os fs (zip.1) (All-tail (λ (p : Occurrence TreeNode). load_below i p.here ≤ max_load) o os h))
-
   here_loads : (os : List (Occurrence TreeNode)) → All (λ t. load_below i t ≤ max_load) (map (λ (o : Occurrence TreeNode). o.here) os)
       → All (λ (o : Occurrence TreeNode). load_below i o.here ≤ max_load) os
   here_loads os h = all_before_map (λ t. load_below i t ≤ max_load) (λ (o : Occurrence TreeNode). o.here) os h
 
-  -- the report of a sound tree that stands in the die and has few corners
-  pub accepted : (tree : List TreeNode) → IsPostOrder (map tree_children tree) → FitsInstance i tree → IsSound i tree
-      → All (Stands i.die) tree → All (λ (n : TreeNode). length n.route.corners ≤ 65536) tree
-      → (figures : Figures) → AreFigures i tree figures → AreFiguresInRange figures → IsRight i (report_text i.version tree figures)
+  -- the report of a sound tree with few corners
+  sound_accepted : (tree : List TreeNode) → IsPostOrder (map tree_children tree) → FitsInstance i tree → IsSound i tree
+      → All (λ (n : TreeNode). length n.route.corners ≤ 65536) tree → (figures : Figures) → AreFigures i tree figures
+      → IsRight i (report_text i.version tree figures)
   unfolding root_of
-  accepted tree ok fits sound stands few figures are range =
+  sound_accepted tree ok fits sound few figures are =
+      let has : HasFigures i tree figures = figures_in_range i tree figures ok fits.few sound.within are in
+      let range : AreFiguresInRange figures = has.in_range in
+      let stands : All (StandsInDie i.die) tree = sound_in_die i tree valid ok sound in
       let w : Whole tree_children tree = whole_of tree_children tree ok in
-      let long : length figures.nodes ≡ length tree = figure_each i valid tree ok figures are in
+      let long : length figures.nodes ≡ length tree = has.one_each in
       let same : are.root ≡ w.tree = some_same (sym are.root_is ∙ w.root_is) in
       let of_tree : AreFiguresOf i w.tree figures = subst (λ t. AreFiguresOf i t figures) same are.figures_of in
       let pairs : All (λ t. ¬ IsPairOver i t) (subtrees w.tree) =
       subst (All (λ t. ¬ IsPairOver i t)) w.trees_are
-      (all_turned (λ t. ¬ IsOver i tree t) (λ t. ¬ IsPairOver i t) (λ t fine over. fine (inl over)) (trees_of tree_children tree) sound.within) in
+      (All-weaker (λ t. ¬ IsOver i tree t) (λ t. ¬ IsPairOver i t) (λ t fine over. fine (inl over)) (trees_of tree_children tree) sound.within) in
       let root_fine : ¬ IsRootOver i w.tree = λ over.
       sound.within (length tree - 1) w.tree (slice_get_within (trees_of tree_children tree) (length tree - 1) w.tree w.root_is)
       (subst (IsOver i tree) (sym (get_or_from_slice_get (trees_of tree_children tree) (length tree - 1) w.tree w.tree w.root_is)) (inr (w.root_is, over))) in
       let wires : All (λ (n : TreeNode). n.wire ≤ max_length) tree =
       subst (All (λ (n : TreeNode). n.wire ≤ max_length)) w.labels_are
-      (short_wires i w.tree pairs (at_most (label w.tree).wire max_length (λ more. root_fine (long_root more)))) in
+      (short_wires i w.tree pairs (not_above (label w.tree).wire max_length (λ more. root_fine (long_root more)))) in
       let loads : All (λ (f : NodeFigure). f.below ≤ max_load) figures.nodes =
-      zip_loads w.tree (occurrences [] w.tree) figures.nodes of_tree.each_node
+      all_partners (λ (o : Occurrence TreeNode). load_below i o.here ≤ max_load) (IsNodeFigure i w.tree)
+      (λ (f : NodeFigure). f.below ≤ max_load) (λ o f small is. omega (arith, is.below, small)) (occurrences [] w.tree) figures.nodes
       (here_loads (occurrences [] w.tree) (subst (All (λ t. load_below i t ≤ max_load)) (sym (map-here-occurrences [] w.tree))
-      (all_turned (λ t. ¬ IsPairOver i t) (λ t. load_below i t ≤ max_load) (λ t fine. small_load i valid t fine) (subtrees w.tree) pairs))) in
-      let source : source_load i w.tree ≤ max_load = at_most (source_load i w.tree) max_load (λ more. root_fine (great_source_load more)) in
+      (All-weaker (λ t. ¬ IsPairOver i t) (λ t. load_below i t ≤ max_load) (λ t fine. small_load i valid t fine) (subtrees w.tree) pairs)))
+      of_tree.each_node in
+      let source : source_load i w.tree ≤ max_load = not_above (source_load i w.tree) max_load (λ more. root_fine (great_source_load more)) in
       let total : sum_by (λ (n : TreeNode). n.wire) (labels w.tree) ≤ length tree * 2 ^ 31 =
       subst (λ (ns : List TreeNode). sum_by (λ (n : TreeNode). n.wire) ns ≤ length tree * 2 ^ 31) (sym w.labels_are) (sum_most tree wires) in
       let report : IsReport (form_of i) (printed_report i.version tree figures) = record {
@@ -292,7 +226,6 @@ module _ (i : Parts) (valid : IsValid i) where
         tree = tree;
         post_order = ok;
         fits = fits;
-        on_sheet = printable tree stands;
         sound = sound;
         figures = figures;
         are_figures = are;
@@ -301,3 +234,6 @@ module _ (i : Parts) (valid : IsValid i) where
     where
       some_same : {A : Type 0} {x y : A} → Some x ≡ Some y → x ≡ y
       some_same e = cc
+
+pub accepted : SoundReportsAreAccepted
+accepted i tree figures valid ok fits sound few are = sound_accepted i valid tree ok fits sound few figures are

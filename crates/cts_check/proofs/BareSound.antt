@@ -3,6 +3,7 @@ use Rattle.std.proofs.Common.{◌≡◌, ℕ, ◌+◌, ◌*◌, ◌≤◌, ◌<�
 use Rattle.std.specs.Prelude.{◌-◌, count_by}
 use Rattle.std.specs.List.{All, cons_option}
 use Rattle.std.proofs.lemmas.Option.{slice_get_within, get_or_from_slice_get}
+use Rattle.std.proofs.lemmas.List.Elements.{All-map, All-weaker}
 use Rattle.cts_geom.specs.declared.points.Half.{Half}
 use Rattle.cts_geom.specs.Points.{point_of}
 use Rattle.cts_units.specs.declared.params.Sink.{Sink}
@@ -17,7 +18,7 @@ use Rattle.cts_instance.specs.declared.parts.Parts.{Parts}
 use Rattle.cts_elmore.specs.Limits.{IsLong, IsPairOver, IsRootOver, IsOver, IsWithinLimits, long_left, long_right, great_load, great_delay, long_root, great_source_load, great_leaf_delay}
 use Rattle.cts_elmore.specs.Sound.{IsSinkAt, leaf_ids, ReachesEachSinkOnce, IsLegalRoute, upper_end, HasLegalWire, HasOpenBuffer, IsSound}
 use Rattle.cts_check.proofs.Bare.{bare, bare_tree, bare_occurrence, label-bare, upper_end-bare, load_below-bare, greatest-bare, source_load-bare, source_delay-bare, wire_delay-bare}
-use Rattle.cts_check.proofs.BareTrees.{all_of_map, all_turned, BareWhole, bare_whole}
+use Rattle.cts_check.proofs.BareTrees.{BareWhole, bare_whole}
 
 pub ids-bare : (nodes : List TreeNode) → leaf_ids (map bare nodes) ≡ leaf_ids nodes
 ids-bare [] = refl
@@ -25,8 +26,8 @@ ids-bare (n ∷ nodes) = ap (cons_option (leaf_id n.kind)) (ids-bare nodes)
 
 reached-bare : (sinks : List Sink) (nodes : List TreeNode) → ReachesEachSinkOnce sinks nodes → ReachesEachSinkOnce sinks (map bare nodes)
 reached-bare sinks nodes h = record {
-  leaves = all_of_map (λ n. MatchOption (leaf_id n.kind) (Unit {0}) (IsSinkAt sinks n)) bare nodes
-      (all_turned (λ n. MatchOption (leaf_id n.kind) (Unit {0}) (IsSinkAt sinks n))
+  leaves = All-map (λ n. MatchOption (leaf_id n.kind) (Unit {0}) (IsSinkAt sinks n)) bare nodes
+      (All-weaker (λ n. MatchOption (leaf_id n.kind) (Unit {0}) (IsSinkAt sinks n))
       (λ n. MatchOption (leaf_id n.kind) (Unit {0}) (IsSinkAt sinks (bare n))) (λ n stands. turned n (leaf_id n.kind) stands) nodes h.leaves);
   once = subst (λ ids. All (λ (s : Sink). count_by (λ id. id == s.id) ids ≡ 1) sinks) (sym (ids-bare nodes)) h.once;
 }
@@ -89,8 +90,8 @@ module _ (i : Parts) where
     within-bare : IsWithinLimits i (map bare nodes)
     within-bare =
         subst (All (λ t. ¬ IsOver i (map bare nodes) t)) (sym w.bare_trees)
-        (all_of_map (λ t. ¬ IsOver i (map bare nodes) t) bare_tree (trees_of tree_children nodes)
-        (all_turned (λ t. ¬ IsOver i nodes t) (λ t. ¬ IsOver i (map bare nodes) (bare_tree t)) not_over (trees_of tree_children nodes) within))
+        (All-map (λ t. ¬ IsOver i (map bare nodes) t) bare_tree (trees_of tree_children nodes)
+        (All-weaker (λ t. ¬ IsOver i nodes t) (λ t. ¬ IsOver i (map bare nodes) (bare_tree t)) not_over (trees_of tree_children nodes) within))
 
   pub sound-bare : (nodes : List TreeNode) → IsPostOrder (map tree_children nodes) → IsSound i nodes → IsSound i (map bare nodes)
   sound-bare nodes ok h =
@@ -98,8 +99,8 @@ module _ (i : Parts) where
       record {
         sinks = reached-bare i.sinks nodes h.sinks;
         wires = subst (All (HasLegalWire i)) (sym w.bare_occurrences)
-            (all_of_map (HasLegalWire i) bare_occurrence (occurrences_of tree_children nodes)
-            (all_turned (HasLegalWire i) (λ o. HasLegalWire i (bare_occurrence o)) wire-bare (occurrences_of tree_children nodes) h.wires));
-        buffers = all_of_map (HasOpenBuffer i.blocks) bare nodes h.buffers;
+            (All-map (HasLegalWire i) bare_occurrence (occurrences_of tree_children nodes)
+            (All-weaker (HasLegalWire i) (λ o. HasLegalWire i (bare_occurrence o)) wire-bare (occurrences_of tree_children nodes) h.wires));
+        buffers = All-map (HasOpenBuffer i.blocks) bare nodes h.buffers;
         within = within-bare nodes w h.within;
       }

@@ -3,7 +3,7 @@
 use Rattle.std.proofs.Common.{◌≡◌, ◌+◌, ◌*◌, ◌≤◌, Bool, List, [], ◌∷◌, map, Option, Some, IsTrue, refl, sym, ap, ap₂, subst, ◌∙◌}
 use Rattle.std.specs.Prelude.{sum_by, ◌||◌}
 use Rattle.std.specs.List.{All, AllZip}
-use Rattle.std.proofs.lemmas.List.Elements.{All-cons, All-nil, All-head, All-tail}
+use Rattle.std.proofs.lemmas.List.Elements.{All-cons, All-nil, All-head, All-map, All-tail, All-weaker}
 use Rattle.std.specs.Option.{is_some, option_map_or}
 use Rattle.std.proofs.lemmas.List.Sums.{sum_by-cons}
 use Rattle.cts_units.specs.Delay.{slew_of}
@@ -24,20 +24,10 @@ use Rattle.cts_elmore.specs.Figures.{IsNodeFigure, AreFiguresOf, AreFigures}
 use Rattle.cts_elmore.specs.Limits.{MeetsLoadLimit, MeetsSlewLimit}
 use Rattle.cts_check.proofs.Bare.{bare, bare_tree, bare_occurrence, labels-bare, subtrees-bare, occurrences-bare, numbered-bare, buffer_at-bare, offset_at-bare, is_tip-bare, load_below-bare, source_load-bare, residue-bare, bound-bare, delay_at-bare, stage_at-bare, leaf_delays-bare, leaf_arrivals-bare, skew-bare}
 
-pub all_of_map : {A B : Type 0} (P : B → Type 0) (f : A → B) (xs : List A) → All (λ x. P (f x)) xs → All P (map f xs)
-all_of_map P f [] h = All-nil P
-all_of_map P f (x ∷ xs) h =
-    All-cons P (f x) (map f xs) (All-head (λ y. P (f y)) x xs h) (all_of_map P f xs (All-tail (λ y. P (f y)) x xs h))
-
 pub all_before_map : {A B : Type 0} (P : B → Type 0) (f : A → B) (xs : List A) → All P (map f xs) → All (λ x. P (f x)) xs
 all_before_map P f [] h = All-nil (λ x. P (f x))
 all_before_map P f (x ∷ xs) h =
     All-cons (λ y. P (f y)) x xs (All-head P (f x) (map f xs) h) (all_before_map P f xs (All-tail P (f x) (map f xs) h))
-
-pub all_turned : {A : Type 0} (P Q : A → Type 0) → ((x : A) → P x → Q x) → (xs : List A) → All P xs → All Q xs
-all_turned P Q turn [] h = All-nil Q
-all_turned P Q turn (x ∷ xs) h =
-    All-cons Q x xs (turn x (All-head P x xs h)) (all_turned P Q turn xs (All-tail P x xs h))
 
 -- a list of nodes in post-order, and its trees with and without the lengths
 pub record BareWhole (nodes : List TreeNode) : Type 0 where
@@ -95,8 +85,8 @@ module _ (i : Parts) (root : BinaryTree TreeNode) where
   load_to_bare h = record {
     source = subst (λ x. x ≤ i.load_limit) (sym (source_load-bare i root)) h.source;
     buffers = subst (All (λ t. IsTrue (is_buffered i t) → load_below i t ≤ i.load_limit)) (sym (subtrees-bare root))
-        (all_of_map (λ t. IsTrue (is_buffered i t) → load_below i t ≤ i.load_limit) bare_tree (subtrees root)
-        (all_turned (λ t. IsTrue (is_buffered i t) → load_below i t ≤ i.load_limit)
+        (All-map (λ t. IsTrue (is_buffered i t) → load_below i t ≤ i.load_limit) bare_tree (subtrees root)
+        (All-weaker (λ t. IsTrue (is_buffered i t) → load_below i t ≤ i.load_limit)
         (λ t. IsTrue (is_buffered i (bare_tree t)) → load_below i (bare_tree t) ≤ i.load_limit)
         (λ t met buffered. subst (λ x. x ≤ i.load_limit) (sym (load_below-bare i t)) (met (subst IsTrue (buffered-bare t) buffered)))
         (subtrees root) h.buffers));
@@ -106,7 +96,7 @@ module _ (i : Parts) (root : BinaryTree TreeNode) where
   load_from_bare h = record {
     source = subst (λ x. x ≤ i.load_limit) (source_load-bare i root) h.source;
     buffers =
-        all_turned (λ t. IsTrue (is_buffered i (bare_tree t)) → load_below i (bare_tree t) ≤ i.load_limit)
+        All-weaker (λ t. IsTrue (is_buffered i (bare_tree t)) → load_below i (bare_tree t) ≤ i.load_limit)
         (λ t. IsTrue (is_buffered i t) → load_below i t ≤ i.load_limit)
         (λ t met buffered. subst (λ x. x ≤ i.load_limit) (load_below-bare i t) (met (subst IsTrue (sym (buffered-bare t)) buffered)))
         (subtrees root)
@@ -123,14 +113,14 @@ module _ (i : Parts) (root : BinaryTree TreeNode) where
   slew_to_bare : MeetsSlewLimit i root → MeetsSlewLimit i (bare_tree root)
   slew_to_bare h =
       subst (All (MeetsSlewAt (bare_tree root))) (sym (occurrences-bare [] root))
-      (all_of_map (MeetsSlewAt (bare_tree root)) bare_occurrence (occurrences [] root)
-      (all_turned (MeetsSlewAt root) (λ o. MeetsSlewAt (bare_tree root) (bare_occurrence o))
+      (All-map (MeetsSlewAt (bare_tree root)) bare_occurrence (occurrences [] root)
+      (All-weaker (MeetsSlewAt root) (λ o. MeetsSlewAt (bare_tree root) (bare_occurrence o))
       (λ o met ends. subst (λ s. slew_of s ≤ 10 * i.slew_limit) (sym (stage_at-bare i root o)) (met (subst IsTrue (ends-bare o.here) ends)))
       (occurrences [] root) h))
 
   slew_from_bare : MeetsSlewLimit i (bare_tree root) → MeetsSlewLimit i root
   slew_from_bare h =
-      all_turned (λ o. MeetsSlewAt (bare_tree root) (bare_occurrence o)) (MeetsSlewAt root)
+      All-weaker (λ o. MeetsSlewAt (bare_tree root) (bare_occurrence o)) (MeetsSlewAt root)
       (λ o met ends. subst (λ s. slew_of s ≤ 10 * i.slew_limit) (stage_at-bare i root o) (met (subst IsTrue (sym (ends-bare o.here)) ends)))
       (occurrences [] root)
       (all_before_map (MeetsSlewAt (bare_tree root)) bare_occurrence (occurrences [] root)

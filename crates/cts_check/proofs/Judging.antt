@@ -1,5 +1,5 @@
 -- What a told tree gives to the rules, and what they give back.
-use Rattle.std.proofs.Common.{◌≡◌, ℕ, ◌<◌, List, [], ◌∷◌, map, length, slice_get, Option, Some, None, MatchOption, refl, subst, ◌∙◌, arith}
+use Rattle.std.proofs.Common.{◌≡◌, ℕ, ◌<◌, List, [], ◌∷◌, map, length, slice_get, Option, Some, None, MatchOption, refl, ap, subst, ◌∙◌, arith}
 use Rattle.std.specs.List.{All}
 use Rattle.std.proofs.lemmas.Int.{ints}
 use Rattle.std.proofs.lemmas.List.{length-map, length-take-le, get_or-take}
@@ -24,6 +24,12 @@ use Rattle.cts_check.specs.Rules.{IsFirstFailing, MeetsLimit}
 use Rattle.cts_check.specs.Told.{told_point, told_kind, told_node, told_nodes}
 use Rattle.cts_check.proofs.BareTrees.{all_before_map}
 use Rattle.cts_check.proofs.Meeting.{if_there}
+
+-- the tree is told of what was read, under other names
+pub told_is : (tree : List TreeNode) (nodes before : List ReportNode) (listed sinks : List Sink) → tree ≡ told_nodes listed (seen_nodes nodes)
+    → nodes ≡ before → listed ≡ sinks → tree ≡ told_nodes sinks (seen_nodes before)
+told_is tree nodes before listed sinks is nodes_are sinks_are =
+    is ∙ ap (λ ns. told_nodes listed (seen_nodes ns)) nodes_are ∙ ap (λ qs. told_nodes qs (seen_nodes before)) sinks_are
 
 pub tellable : (form : Form) (nodes : List ReportNode) → All (IsPrintedNode form) (seen_nodes nodes) → All IsSeenNode nodes
     → All IsTellable nodes

@@ -6,7 +6,7 @@ use Rattle.cts_geom.specs.declared.bounds.Die.{Die}
 use Rattle.cts_geom.specs.declared.points.Half.{Half}
 use Rattle.cts_geom.specs.Points.{manhattan_of}
 use Rattle.cts_block.specs.declared.blocks.Block.{Block}
-use Rattle.cts_block.specs.FreePoints.{IsBetween, IsInDie}
+use Rattle.cts_block.specs.FreePoints.{IsBetween, IsHalfInDie}
 use Rattle.cts_tree.specs.Path.{points_along, path_length, IsAxisStep, HasAxisSteps, IsWithin, IsOnSegment, AllAlong}
 use Rattle.cts_route.specs.Grid.{IsClear}
 use Rattle.cts_check.specs.Ways.{IsLegalStep, HasLegalSteps}
@@ -36,7 +36,7 @@ between low high a b c first second within =
 
 module _ (blocks : List Block) (die : Die) where
   -- a step is legal where its ends are in the die and it is clear
-  pub legal_step : (p q : Half) → IsAxisStep p q → IsInDie die p → IsInDie die q → IsClear blocks p q → IsLegalStep blocks die p q
+  pub legal_step : (p q : Half) → IsAxisStep p q → IsHalfInDie die p → IsHalfInDie die q → IsClear blocks p q → IsLegalStep blocks die p q
   legal_step p q axis from to clear = record {
     axis = axis;
     free = λ r on. record {
@@ -45,10 +45,10 @@ module _ (blocks : List Block) (die : Die) where
     };
   }
 
-  pub start_in_die : (p q : Half) → IsLegalStep blocks die p q → IsInDie die p
+  pub start_in_die : (p q : Half) → IsLegalStep blocks die p q → IsHalfInDie die p
   start_in_die p q step = (step.free p (start_on p q)).in_die
 
-  pub end_in_die : (p q : Half) → IsLegalStep blocks die p q → IsInDie die q
+  pub end_in_die : (p q : Half) → IsLegalStep blocks die p q → IsHalfInDie die q
   end_in_die p q step = (step.free q (end_on p q)).in_die
 
   pub is_clear : (p q : Half) → IsLegalStep blocks die p q → IsClear blocks p q

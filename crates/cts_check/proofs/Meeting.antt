@@ -2,6 +2,7 @@
 use Rattle.std.proofs.Common.{◌≡◌, ℕ, List, slice_get, Option, Some, None, MatchOption, refl, subst}
 use Rattle.std.specs.List.{All}
 use Rattle.std.proofs.lemmas.Option.{slice_get-get_or, slice_get_within, get_or_from_slice_get}
+use Rattle.std.proofs.lemmas.List.Elements.{All-weaker}
 use Rattle.cts_postorder.specs.PostOrder.{trees_of}
 use Rattle.cts_postorder.specs.Occurrence.{occurrences_of}
 use Rattle.cts_tree.specs.declared.nodes.TreeNode.{TreeNode}
@@ -11,7 +12,6 @@ use Rattle.cts_elmore.specs.Limits.{IsOver}
 use Rattle.cts_elmore.specs.Sound.{HasLegalWire, HasOpenBuffer, IsSound}
 use Rattle.cts_check.specs.Rules.{HoldsIfThere, HasLegalRoute, HasLongWire, MeetsSinks, MeetsRoute, MeetsShort, MeetsBufferBlocked, MeetsLimit}
 use Rattle.cts_check.proofs.Reaching.{reached_meets, meets_reached}
-use Rattle.cts_check.proofs.BareTrees.{all_turned}
 
 pub if_there : {A : Type 0} (P : A → Type 0) (xs : List A) → All P xs → (k : ℕ) → HoldsIfThere P xs k
 if_there {A} P xs all k = by (slice_get xs k) refl
@@ -37,9 +37,9 @@ module _ (i : Parts) (nodes : List TreeNode) where
   sound_meets h = record {
     sinks = reached_meets i nodes h.sinks;
     route = if_there (HasLegalRoute i nodes) (occurrences_of tree_children nodes)
-        (all_turned (HasLegalWire i) (HasLegalRoute i nodes) (λ o wire. wire.route) (occurrences_of tree_children nodes) h.wires);
+        (All-weaker (HasLegalWire i) (HasLegalRoute i nodes) (λ o wire. wire.route) (occurrences_of tree_children nodes) h.wires);
     short = if_there (HasLongWire i nodes) (occurrences_of tree_children nodes)
-        (all_turned (HasLegalWire i) (HasLongWire i nodes) (λ o wire. wire.no_shorter) (occurrences_of tree_children nodes) h.wires);
+        (All-weaker (HasLegalWire i) (HasLongWire i nodes) (λ o wire. wire.no_shorter) (occurrences_of tree_children nodes) h.wires);
     buffer = if_there (HasOpenBuffer i.blocks) nodes h.buffers;
     limit = if_there (λ t. ¬ IsOver i nodes t) (trees_of tree_children nodes) h.within;
   }

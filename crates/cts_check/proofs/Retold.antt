@@ -2,7 +2,7 @@
 use Rattle.std.proofs.Common.{◌≡◌, ℕ, ◌+◌, ◌*◌, ◌/◌, ℤ, List, [], ◌∷◌, map, length, slice_get, Option, Some, None, refl, sym, ap, ap₂, ◌∙◌, arith}
 use Rattle.std.specs.Prelude.{pos, ◌≤ℤ◌, ◌+ℤ◌, ◌-ℤ◌, unsigned_abs, IsSomeAnd}
 use Rattle.std.specs.List.{All}
-use Rattle.std.proofs.lemmas.List.Elements.{All-cons, All-nil, All-head, All-tail}
+use Rattle.std.proofs.lemmas.List.Elements.{All-head, All-tail}
 use Rattle.std.proofs.lemmas.Int.{ints}
 use Rattle.cts_geom.specs.declared.points.Half.{Half}
 use Rattle.cts_geom.specs.declared.points.Spot.{Spot}
@@ -16,10 +16,9 @@ use Rattle.cts_tree.specs.Nodes.{tree_children, children_of}
 use Rattle.cts_instance.specs.declared.version.Version.{Version}
 use Rattle.cts_elmore.specs.declared.figures.NodeFigure.{NodeFigure}
 use Rattle.cts_elmore.specs.Fits.{NamesSink}
-use Rattle.cts_report.specs.Printed.{PrintedPoint, PrintedKind, sink_leaf, pair_node, PrintedNode}
+use Rattle.cts_report.specs.Printed.{PrintedKind, sink_leaf, pair_node, PrintedNode}
 use Rattle.cts_report.specs.Report.{IsOnSheet, IsPrintableNode, printed_point, printed_kind, printed_node, printed_nodes}
-use Rattle.cts_report_reader.specs.declared.form.Form.{Form}
-use Rattle.cts_report_reader.specs.Bounds.{IsPrintedNode, children_of_kind, printed_children}
+use Rattle.cts_report_reader.specs.Bounds.{children_of_kind, printed_children}
 use Rattle.cts_check.specs.Told.{told_point, told_place, told_kind, told_node, told_nodes, place_of_id}
 use Rattle.cts_check.proofs.Ids.{place_found}
 use Rattle.cts_check.proofs.ToldNodes.{half_same}
@@ -104,25 +103,3 @@ told_children sinks (p ∷ printed) = ap₂ (λ c cs. c ∷ cs) (of_kind p.kind)
     of_kind : (kind : PrintedKind) → children_of (told_kind sinks kind) ≡ children_of_kind kind
     of_kind (sink_leaf id) = refl
     of_kind (pair_node left right buffer residue) = refl
-
--- a told tree can be printed
-module _ (sinks : List Sink) (form : Form) where
-  told_printable : (p : PrintedNode) → IsPrintedNode form p → IsPrintableNode (told_node sinks p)
-  told_printable p h = record {
-    in_range = record {
-      u = record { low = grind (arith, ints); high = grind (arith, ints, h.place.point.x.inside, h.place.point.y.inside) };
-      v = record { low = grind (arith, ints, h.place.point.x.inside, h.place.point.y.inside); high = grind (arith, ints, h.place.point.x.inside, h.place.point.y.inside) };
-    };
-    place = record { x = grind (arith, ints); y = grind (arith, ints, h.place.even) };
-    corners = on_sheet p.corners;
-  }
-    where
-      on_sheet : (ps : List PrintedPoint) → All IsOnSheet (map told_point ps)
-      on_sheet [] = All-nil IsOnSheet
-      on_sheet (q ∷ qs) = All-cons IsOnSheet (told_point q) (map told_point qs) (record { x = grind (arith, ints); y = grind (arith, ints) }) (on_sheet qs)
-
-  pub told_nodes_printable : (ps : List PrintedNode) → All (IsPrintedNode form) ps → All IsPrintableNode (told_nodes sinks ps)
-  told_nodes_printable [] h = All-nil IsPrintableNode
-  told_nodes_printable (p ∷ ps) h =
-      All-cons IsPrintableNode (told_node sinks p) (told_nodes sinks ps) (told_printable p (All-head (IsPrintedNode form) p ps h))
-      (told_nodes_printable ps (All-tail (IsPrintedNode form) p ps h))

@@ -22,6 +22,7 @@ use Rattle.cts_elmore.proofs.Unique.{figures_one}
 use Rattle.cts_report.specs.Lines.{report_lines}
 use Rattle.cts_report.specs.Printed.{PrintedKind, sink_leaf, pair_node, PrintedNode, Printed}
 use Rattle.cts_report.specs.Report.{printed_nodes, printed_totals, printed_report}
+use Rattle.cts_report.proofs.Printable.{sound_nodes_printable}
 use Rattle.cts_report_reader.specs.Bounds.{IsPrintedKind, IsPrintedNode, IsReport}
 use Rattle.cts_report_reader.specs.Forms.{form_of}
 use Rattle.cts_report_reader.specs.Whole.{report_at}
@@ -41,7 +42,7 @@ use Rattle.cts_check.proofs.Bare.{bare}
 use Rattle.cts_check.proofs.BareTrees.{figures_bare}
 use Rattle.cts_check.proofs.BareSound.{sound-bare}
 use Rattle.cts_check.proofs.Meeting.{MeetsAll, sound_meets, meets_sound}
-use Rattle.cts_check.proofs.Retold.{told_again, printed-bare, length-printed, told_children, told_nodes_printable}
+use Rattle.cts_check.proofs.Retold.{told_again, printed-bare, length-printed, told_children}
 use Rattle.cts_check.proofs.SinkRule.{rule_at}
 use Rattle.cts_check.proofs.Ranks.{same_rank}
 use Rattle.cts_check.proofs.EndLengths.{zip_length}
@@ -146,7 +147,6 @@ module _ (i : Parts) (valid : IsValid i) where
       tree = tree;
       post_order = post_order;
       fits = told_fits (h.meets Sinks);
-      on_sheet = told_nodes_printable i.sinks (form_of i) printed.nodes report.each;
       sound = meets_sound i tree (meets_all i printed h.meets);
       figures = h.figures;
       are_figures = h.are_figures;
@@ -175,7 +175,8 @@ module _ (i : Parts) (valid : IsValid i) where
       long = figure_each h.tree h.post_order h.figures h.are_figures
 
       again : told_nodes i.sinks (printed_nodes i.version h.tree h.figures.nodes) ≡ map bare h.tree
-      again = told_again i.sinks valid.ids i.version h.tree h.figures.nodes long h.fits.sinks h.on_sheet
+      again = told_again i.sinks valid.ids i.version h.tree h.figures.nodes long h.fits.sinks
+          (sound_nodes_printable i h.tree valid h.post_order h.sound)
 
       all : MeetsAll i (told_nodes i.sinks (printed_nodes i.version h.tree h.figures.nodes))
       all = subst (MeetsAll i) (sym again) (sound_meets i (map bare h.tree) (sound-bare i h.tree h.post_order h.sound))

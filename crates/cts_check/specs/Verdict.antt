@@ -1,5 +1,5 @@
 -- The verdict on some bytes as the report of an instance.
-use Rattle.std.specs.Prelude.{ℕ, List, map, All}
+use Rattle.std.specs.Prelude.{ℕ, List, map}
 use Rattle.cts_postorder.specs.PostOrder.{IsPostOrder}
 use Rattle.cts_tree.specs.declared.nodes.TreeNode.{TreeNode}
 use Rattle.cts_tree.specs.Nodes.{tree_children}
@@ -10,7 +10,7 @@ use Rattle.cts_elmore.specs.Fits.{FitsInstance}
 use Rattle.cts_elmore.specs.Sound.{IsSound}
 use Rattle.cts_report.specs.Lines.{report_lines}
 use Rattle.cts_report.specs.Printed.{Printed}
-use Rattle.cts_report.specs.Report.{IsPrintableNode, printed_report}
+use Rattle.cts_report.specs.Report.{printed_report}
 use Rattle.cts_report_reader.specs.Bounds.{IsReport}
 use Rattle.cts_report_reader.specs.Forms.{form_of}
 use Rattle.cts_report_reader.specs.Text.{IsNotText}
@@ -24,13 +24,11 @@ use Rattle.cts_check.specs.Rules.{IsFirstBroken}
 abbrev pub Spells : Parts → List ℕ → Printed → Type 0
 Spells i bytes printed = SpellsText (IsReport (form_of i)) (report_lines i.version) bytes printed
 
--- The bytes are the report of a sound tree of the instance, which has no point below or left of (0, 0): each figure is that
--- of its definition.
+-- The bytes are the report of a sound tree of the instance, and each figure is that of its definition.
 pub record IsRight (i : Parts) (bytes : List ℕ) : Type 0 where
   pub tree : List TreeNode
   pub post_order : IsPostOrder (map tree_children tree)
   pub fits : FitsInstance i tree
-  pub on_sheet : All IsPrintableNode tree
   pub sound : IsSound i tree
   pub figures : Figures
   pub are_figures : AreFigures i tree figures

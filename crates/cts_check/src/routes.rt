@@ -13,7 +13,7 @@ ghost use Rattle.cts_check.specs.Ranges.{IsInRange};
 ghost use Rattle.cts_check.specs.Rules.{IsFirstFailing, MeetsRoute};
 ghost use Rattle.cts_check.specs.Ways.{AreUpperEnds, HasLegalSteps, IsLegalStep};
 
-use cts_block::is_in_die;
+use cts_block::is_half_in_die;
 use cts_geom::{Die, Half, halves};
 use cts_instance::Instance;
 use cts_num::NoMemory;
@@ -36,7 +36,7 @@ fn is_legal_step(die: &Die, walls: &Walls, p: Half, q: Half) -> bool
     ensures { (blocks : List Block) → KeepsOut blocks walls.now
         → IsTrue result ↔ IsLegalStep blocks die.now p q }
 {
-    is_axis_step(p, q) && is_in_die(die, p) && is_in_die(die, q) && walls.is_clear(p, q)
+    is_axis_step(p, q) && is_half_in_die(die, p) && is_half_in_die(die, q) && walls.is_clear(p, q)
 }
 
 /// Whether all steps of the way over these corners are legal.

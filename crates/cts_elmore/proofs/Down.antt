@@ -43,7 +43,7 @@ pub record IsHandedTo (i : Parts) (root : BinaryTree TreeNode) (o : Occurrence T
       → (label o.here).kind ≡ kind → (label o.here).wire ≡ len → IsPartFigure i.params kind len g output f → IsRight i root o f
 
 -- so the figures are in range
-residue_le : (i : Parts) (t : BinaryTree TreeNode) → residue i t ≤ greatest_below i t
+pub residue_le : (i : Parts) (t : BinaryTree TreeNode) → residue i t ≤ greatest_below i t
 unfolding residue
 residue_le i (tip n) = omega arith
 residue_le i (fork l r n) = omega (arith, greatest_at_pair i l r n)

@@ -13,4 +13,7 @@ pub mod TreeFigures
 pub mod AddUp
 pub mod NoOffsets
 pub mod Unique
+pub mod InRange
+pub mod InDie
+pub mod SinkCount
 mod Example

@@ -1,14 +1,20 @@
--- What holds of the figures of every tree.
-use Rattle.std.specs.Prelude.{◌≡◌, ◌+◌, ◌≤◌, max, List, All, [], ◌∷◌, if◌then◌else◌}
+-- What holds of every tree and of its figures.
+use Rattle.std.specs.Prelude.{◌≡◌, ◌+◌, ◌*◌, ◌≤◌, max, List, length, map, All, [], ◌∷◌, if◌then◌else◌}
 use Rattle.cts_postorder.specs.BinaryTree.{BinaryTree, fork}
+use Rattle.cts_postorder.specs.PostOrder.{IsPostOrder}
 use Rattle.cts_postorder.specs.Occurrence.{occurrence}
 use Rattle.cts_tree.specs.declared.nodes.TreeNode.{TreeNode}
+use Rattle.cts_tree.specs.Nodes.{tree_children}
 use Rattle.cts_instance.specs.declared.parts.Parts.{Parts}
+use Rattle.cts_instance.specs.Validity.{IsValid}
 use Rattle.cts_elmore.specs.declared.figures.Figures.{Figures}
 use Rattle.cts_elmore.specs.Loads.{is_buffered, wire_load, load_below, load_seen}
 use Rattle.cts_elmore.specs.Delays.{wire_delay, buffer_delay, output_delay, source_delay, delay_at, stage_at}
 use Rattle.cts_elmore.specs.Skew.{greatest_below, leaf_arrivals, leaf_delays, residue, skew, bound}
 use Rattle.cts_elmore.specs.Figures.{AreFigures}
+use Rattle.cts_elmore.specs.Limits.{IsWithinLimits}
+use Rattle.cts_elmore.specs.Measurement.{HasFigures}
+use Rattle.cts_elmore.specs.Sound.{IsSound, StandsInDie}
 
 -- the skew is at most the bound
 abbrev pub SkewIsAtMostBound : Type 0
@@ -48,3 +54,21 @@ PathsAddUp =
     → (delay_at i root (occurrence [] root) ≡ source_delay i root + wire_delay i root)
     × (stage_at i root (occurrence [] root) ≡ source_delay i root + wire_delay i root)
     × ((pair part : BinaryTree TreeNode) (above : List (BinaryTree TreeNode)) → HandsDown i root pair part above)
+
+-- a tree within the limits has one figure for each node, and all of its figures are in range
+abbrev pub FiguresAreInRange : Type 0
+FiguresAreInRange =
+    (i : Parts) (nodes : List TreeNode) (figures : Figures) → IsPostOrder (map tree_children nodes) → length nodes ≤ 131071
+    → IsWithinLimits i nodes → AreFigures i nodes figures → HasFigures i nodes figures
+
+-- a sound tree of a valid instance stands in the die: each node, and each corner of a route
+abbrev pub SoundTreesStandInDie : Type 0
+SoundTreesStandInDie =
+    (i : Parts) (nodes : List TreeNode) → IsValid i → IsPostOrder (map tree_children nodes) → IsSound i nodes
+    → All (StandsInDie i.die) nodes
+
+-- and has one leaf for each sink: two nodes a sink, less one
+abbrev pub SoundTreesHaveOneLeafASink : Type 0
+SoundTreesHaveOneLeafASink =
+    (i : Parts) (nodes : List TreeNode) → IsValid i → IsPostOrder (map tree_children nodes) → IsSound i nodes
+    → length nodes + 1 ≡ 2 * length i.sinks

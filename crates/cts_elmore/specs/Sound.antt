@@ -5,7 +5,7 @@ use Rattle.cts_geom.specs.declared.points.Half.{Half}
 use Rattle.cts_geom.specs.Points.{point_of, spot_at}
 use Rattle.cts_units.specs.declared.params.Sink.{Sink}
 use Rattle.cts_block.specs.declared.blocks.Block.{Block}
-use Rattle.cts_block.specs.FreePoints.{IsFreeForWire, IsOpenToBuffers}
+use Rattle.cts_block.specs.FreePoints.{IsHalfInDie, IsFreeForWire, IsOpenToBuffers}
 use Rattle.cts_postorder.specs.BinaryTree.{BinaryTree, label}
 use Rattle.cts_postorder.specs.Occurrence.{Occurrence, occurrences_of}
 use Rattle.cts_tree.specs.declared.nodes.TreeNode.{TreeNode}
@@ -59,3 +59,8 @@ pub record IsSound (i : Parts) (nodes : List TreeNode) : Type 0 where
   pub wires : All (HasLegalWire i) (occurrences_of tree_children nodes)
   pub buffers : All (HasOpenBuffer i.blocks) nodes
   pub within : IsWithinLimits i nodes
+
+-- a node stands in the die, and so do the corners of its route
+pub record StandsInDie (die : Die) (node : TreeNode) : Type 0 where
+  pub place : IsHalfInDie die (point_of node.place)
+  pub corners : All (IsHalfInDie die) node.route.corners

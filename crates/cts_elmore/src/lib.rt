@@ -9,7 +9,8 @@
 //! `Limits` what is over the limits of a tree and what meets those of an instance.
 //!
 //! All of these are told of a tree and of the path of each node. The laws of [`laws`] say what a pair
-//! adds to its parts and hands down to them, and that the skew is at most the bound.
+//! adds to its parts and hands down to them, that the skew is at most the bound, that the figures of a tree
+//! within the limits are in range, and that a sound tree (`specs/Sound.antt`) stands in the die.
 //!
 //! Delays and arrivals are two things: the arrival of a leaf is its delay and twice the offset that its sink wants (useful
 //! skew). Residues, limits, skew and bound go by arrivals; loads, stages and slews know no offset. Where no sink wants one,

@@ -1,6 +1,6 @@
 //! A pass upward: what is known of each subtree when the pair above it is reached.
 
-ghost use Rattle.std.specs.Prelude.{◌≡◌, ◌+◌, ◌<◌, ◌≤◌, ◌++◌, ◌∷◌, [], map, drop, length, vec_len, slice_get, IfSome, IfNone, IfOk, MatchOption};
+ghost use Rattle.std.specs.Prelude.{◌≡◌, ◌+◌, ◌<◌, ◌≤◌, ◌++◌, ◌∷◌, [], map, drop, length, slice_get, IfSome, IfNone, IfOk, MatchOption};
 ghost use Rattle.std.specs.Slice.Iter.{iter_rest};
 ghost use Rattle.cts_units.specs.Limits.{IsParams, IsWire, max_length};
 ghost use Rattle.cts_postorder.specs.PostOrder.{IsPostOrder, trees_of};
@@ -15,8 +15,9 @@ use crate::figures::NodeFigure;
 use crate::pin_list::Pin;
 use cts_instance::Instance;
 use cts_num::NoMemory;
+use cts_postorder::take_pair;
 use cts_tree::{NodeKind, TreeNode};
-use cts_units::{MAX_DELAY, MAX_LENGTH, MAX_LOAD, Params, Wire, buffer_delay, wire_delay};
+use cts_units::{MAX_DELAY, MAX_LENGTH, MAX_LOAD, Params, Wire, buffered, wire_delay};
 use std::alloc::Global;
 use std::slice;
 
@@ -112,13 +113,7 @@ fn pair(params: &Params, a: &Branch, b: &Branch, buffer: Option<u16>) -> Option<
     if below > MAX_LOAD {
         return None;
     }
-    let (seen, added) = match buffer {
-        Some(index) => {
-            let buffer = params.library.items()[index as usize];
-            (buffer.cin, buffer_delay(buffer, below))
-        }
-        None => (below, 0),
-    };
+    let (added, seen) = buffered(params, buffer, below);
     let greatest = a.greatest.max(b.greatest) + added;
     if greatest > MAX_DELAY {
         return None;
@@ -136,17 +131,6 @@ fn pair(params: &Params, a: &Branch, b: &Branch, buffer: Option<u16>) -> Option<
         residue,
         bound: a.bound.max(b.bound) + residue,
     })
-}
-
-/// The two latest of the subtrees that wait, the earlier one first. They leave the list.
-fn take_pair(waiting: &mut Vec<Subtree>) -> (Subtree, Subtree)
-    requires two { 2 ≤ vec_len waiting.old }
-    ensures { waiting.old.items ≡ waiting.new.items ++ result.0 ∷ result.1 ∷ [] }
-{
-    let (Some(second), Some(first)) = (waiting.pop(), waiting.pop()) else {
-        unreachable!()
-    };
-    (first, second)
 }
 
 /// The subtree at a number, by those that wait for the pair above them, or `None` exactly where it is a

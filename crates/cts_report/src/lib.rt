@@ -4,11 +4,13 @@
 //! `specs/Lines.antt`), and the report of a tree prints the numbers of the tree and of its figures
 //! (`specs/Report.antt`). So a layer above that reads a report speaks of the same lines. In version 2 a
 //! report has arrivals too, which are printed or not, and a summary has none. The writer takes no memory,
-//! and gives the sink some KiB at a time.
+//! and gives the sink some KiB at a time. What can be printed is `IsPrintable`; by the [`laws`] it is met by
+//! each sound tree of a valid instance with its own figures.
 #![tactic(auto)]
 
+pub mod laws;
 mod line;
 mod report;
-mod words;
+pub mod words;
 
 pub use report::{write_report, write_summary};

@@ -26,7 +26,7 @@ pub fn put_node<K: ByteSink>(
 )
     requires node { IsPrintableNode node.now }
     requires figure { IsPrintableFigure figure.now }
-    ensures { Puts K.held K.faults sink.old out.old sink.new out.new
+    ensures { Puts K.ByteSink (sink.old, out.old) (sink.new, out.new)
         (node_line number (printed_node version node.now figure.now)) }
 {
     put_whole(out, sink, b"node ", number as u64);
@@ -46,7 +46,7 @@ pub fn put_node<K: ByteSink>(
 /// What a node is: the id of its sink, or its left and right child.
 #[tactic(auto, unfolding(crate::specs::Lines::name_words))]
 fn put_name<K: ByteSink>(out: &mut SinkBuffer, sink: &mut K, kind: NodeKind, residue: u128)
-    ensures { Puts K.held K.faults sink.old out.old sink.new out.new (name_words (printed_kind kind residue)) }
+    ensures { Puts K.ByteSink (sink.old, out.old) (sink.new, out.new) (name_words (printed_kind kind residue)) }
 {
     match kind {
         NodeKind::Leaf { id, .. } => put_whole(out, sink, b" leaf ", u64::from(id)),
@@ -67,7 +67,7 @@ fn put_load<K: ByteSink>(
     residue: u128,
 )
     requires { residue ≤ 10 ^ 37 }
-    ensures { Puts K.held K.faults sink.old out.old sink.new out.new
+    ensures { Puts K.ByteSink (sink.old, out.old) (sink.new, out.new)
         (load_words (printed_kind kind residue) load) }
 {
     match kind {
@@ -82,7 +82,7 @@ fn put_load<K: ByteSink>(
 
 #[tactic(auto, unfolding(crate::specs::Lines::buffer_words))]
 fn put_buffer<K: ByteSink>(out: &mut SinkBuffer, sink: &mut K, buffer: Option<u16>)
-    ensures { Puts K.held K.faults sink.old out.old sink.new out.new (buffer_words buffer) }
+    ensures { Puts K.ByteSink (sink.old, out.old) (sink.new, out.new) (buffer_words buffer) }
 {
     match buffer {
         Some(index) => put_whole(out, sink, b" buffer ", u64::from(index)),
@@ -100,7 +100,7 @@ fn put_arrival<K: ByteSink>(
     arrival: u128,
 )
     requires { arrival ≤ 10 ^ 37 }
-    ensures { Puts K.held K.faults sink.old out.old sink.new out.new
+    ensures { Puts K.ByteSink (sink.old, out.old) (sink.new, out.new)
         (arrival_words (printed_arrival version kind arrival)) }
 {
     match version {
@@ -111,7 +111,7 @@ fn put_arrival<K: ByteSink>(
 
 fn put_leaf_arrival<K: ByteSink>(out: &mut SinkBuffer, sink: &mut K, kind: NodeKind, arrival: u128)
     requires { arrival ≤ 10 ^ 37 }
-    ensures { Puts K.held K.faults sink.old out.old sink.new out.new
+    ensures { Puts K.ByteSink (sink.old, out.old) (sink.new, out.new)
         (arrival_words (printed_arrival Version.Two kind arrival)) }
 {
     match kind {
@@ -122,7 +122,7 @@ fn put_leaf_arrival<K: ByteSink>(out: &mut SinkBuffer, sink: &mut K, kind: NodeK
 
 /// The number of corners, and each of them.
 fn put_corners<K: ByteSink>(out: &mut SinkBuffer, sink: &mut K, corners: &[Half])
-    ensures { Puts K.held K.faults sink.old out.old sink.new out.new
+    ensures { Puts K.ByteSink (sink.old, out.old) (sink.new, out.new)
         (corner_words (map printed_point corners.now)) }
 {
     put_whole(out, sink, b" via ", corners.len() as u64);
@@ -130,7 +130,7 @@ fn put_corners<K: ByteSink>(out: &mut SinkBuffer, sink: &mut K, corners: &[Half]
 }
 
 fn put_points<K: ByteSink>(out: &mut SinkBuffer, sink: &mut K, points: &[Half])
-    ensures { Puts K.held K.faults sink.old out.old sink.new out.new
+    ensures { Puts K.ByteSink (sink.old, out.old) (sink.new, out.new)
         (flat_map point_words (map printed_point points.now)) }
 {
     for point in points {

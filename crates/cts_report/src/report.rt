@@ -57,7 +57,7 @@ pub fn write_summary<K: ByteSink>(
 
 /// The first line of a report.
 fn put_title<K: ByteSink>(out: &mut SinkBuffer, sink: &mut K, version: Version)
-    ensures { Puts K.held K.faults sink.old out.old sink.new out.new (title_line version) }
+    ensures { Puts K.ByteSink (sink.old, out.old) (sink.new, out.new) (title_line version) }
 {
     match version {
         Version::One => out.put(sink, b"cts report 1\n"),
@@ -67,7 +67,7 @@ fn put_title<K: ByteSink>(out: &mut SinkBuffer, sink: &mut K, version: Version)
 
 /// The line that says how many nodes there are.
 fn put_count<K: ByteSink>(out: &mut SinkBuffer, sink: &mut K, count: usize)
-    ensures { Puts K.held K.faults sink.old out.old sink.new out.new (count_line count) }
+    ensures { Puts K.ByteSink (sink.old, out.old) (sink.new, out.new) (count_line count) }
 {
     put_whole(out, sink, b"nodes ", count as u64);
     out.put(sink, b"\n");
@@ -84,7 +84,7 @@ fn put_nodes<K: ByteSink>(
     requires long { length figures.now ≡ length nodes.now }
     requires nodes { All IsPrintableNode nodes.now }
     requires figures { All IsPrintableFigure figures.now }
-    ensures { Puts K.held K.faults sink.old out.old sink.new out.new
+    ensures { Puts K.ByteSink (sink.old, out.old) (sink.new, out.new)
         (concat (node_lines 0 (printed_nodes version nodes.now figures.now))) }
 {
     for number in 0..nodes.len() {
@@ -96,7 +96,7 @@ fn put_nodes<K: ByteSink>(
 fn put_totals<K: ByteSink>(out: &mut SinkBuffer, sink: &mut K, version: Version, figures: &Figures)
     requires totals { HasPrintableTotals figures.now }
     requires arrivals { version ≡ Version.Two → HasPrintableArrivals figures.now }
-    ensures { Puts K.held K.faults sink.old out.old sink.new out.new
+    ensures { Puts K.ByteSink (sink.old, out.old) (sink.new, out.new)
         (concat (total_lines (printed_totals version figures.now))) }
 {
     put_load_line(out, sink, b"source load ", figures.source_load);
@@ -127,7 +127,7 @@ fn put_arrivals<K: ByteSink>(
 )
     requires greatest { version ≡ Version.Two → greatest ≤ 10 ^ 37 }
     requires least { version ≡ Version.Two → least ≤ 10 ^ 37 }
-    ensures { Puts K.held K.faults sink.old out.old sink.new out.new
+    ensures { Puts K.ByteSink (sink.old, out.old) (sink.new, out.new)
         (concat (arrival_lines (printed_arrivals version greatest least))) }
 {
     match version {
@@ -140,14 +140,14 @@ fn put_arrivals<K: ByteSink>(
 }
 
 fn put_load_line<K: ByteSink>(out: &mut SinkBuffer, sink: &mut K, label: &[u8], load: u64)
-    ensures { Puts K.held K.faults sink.old out.old sink.new out.new (capacitance label.now load ++ codes "\n") }
+    ensures { Puts K.ByteSink (sink.old, out.old) (sink.new, out.new) (capacitance label.now load ++ codes "\n") }
 {
     put_capacitance(out, sink, label, load);
     out.put(sink, b"\n");
 }
 
 fn put_length_line<K: ByteSink>(out: &mut SinkBuffer, sink: &mut K, label: &[u8], length: u64)
-    ensures { Puts K.held K.faults sink.old out.old sink.new out.new (length_in_um label.now length ++ codes "\n") }
+    ensures { Puts K.ByteSink (sink.old, out.old) (sink.new, out.new) (length_in_um label.now length ++ codes "\n") }
 {
     put_length(out, sink, label, length);
     out.put(sink, b"\n");
@@ -155,7 +155,7 @@ fn put_length_line<K: ByteSink>(out: &mut SinkBuffer, sink: &mut K, label: &[u8]
 
 fn put_delay_line<K: ByteSink>(out: &mut SinkBuffer, sink: &mut K, label: &[u8], delay: u128)
     requires { delay ≤ 10 ^ 37 }
-    ensures { Puts K.held K.faults sink.old out.old sink.new out.new (time label.now (printed_time delay) ++ codes "\n") }
+    ensures { Puts K.ByteSink (sink.old, out.old) (sink.new, out.new) (time label.now (printed_time delay) ++ codes "\n") }
 {
     put_delay(out, sink, label, delay);
     out.put(sink, b"\n");

@@ -23,7 +23,7 @@ fn put_number<K: ByteSink>(
 )
     requires value { value < 10 ^ 38 }
     requires places { places ≤ 16 }
-    ensures { Puts K.held K.faults sink.old out.old sink.new out.new (labelled label.now places value) }
+    ensures { Puts K.ByteSink (sink.old, out.old) (sink.new, out.new) (labelled label.now places value) }
 {
     out.put_labelled(sink, label, value, places);
 }
@@ -32,7 +32,7 @@ fn put_number<K: ByteSink>(
 #[tactic(auto, unfolding(crate::specs::Lines::whole))]
 #[inline(always)]
 pub fn put_whole<K: ByteSink>(out: &mut SinkBuffer, sink: &mut K, label: &[u8], number: u64)
-    ensures { Puts K.held K.faults sink.old out.old sink.new out.new (whole label.now number) }
+    ensures { Puts K.ByteSink (sink.old, out.old) (sink.new, out.new) (whole label.now number) }
 {
     put_number(out, sink, label, 0, u128::from(number));
 }
@@ -41,7 +41,7 @@ pub fn put_whole<K: ByteSink>(out: &mut SinkBuffer, sink: &mut K, label: &[u8], 
 #[tactic(auto, unfolding(crate::specs::Lines::length_in_um))]
 #[inline(always)]
 pub fn put_length<K: ByteSink>(out: &mut SinkBuffer, sink: &mut K, label: &[u8], length: u64)
-    ensures { Puts K.held K.faults sink.old out.old sink.new out.new (length_in_um label.now length) }
+    ensures { Puts K.ByteSink (sink.old, out.old) (sink.new, out.new) (length_in_um label.now length) }
 {
     put_number(out, sink, label, 3, u128::from(length));
 }
@@ -50,7 +50,7 @@ pub fn put_length<K: ByteSink>(out: &mut SinkBuffer, sink: &mut K, label: &[u8],
 #[tactic(auto, unfolding(crate::specs::Lines::capacitance))]
 #[inline(always)]
 pub fn put_capacitance<K: ByteSink>(out: &mut SinkBuffer, sink: &mut K, label: &[u8], load: u64)
-    ensures { Puts K.held K.faults sink.old out.old sink.new out.new (capacitance label.now load) }
+    ensures { Puts K.ByteSink (sink.old, out.old) (sink.new, out.new) (capacitance label.now load) }
 {
     put_number(out, sink, label, 6, u128::from(load));
 }
@@ -60,7 +60,7 @@ pub fn put_capacitance<K: ByteSink>(out: &mut SinkBuffer, sink: &mut K, label: &
 #[inline(always)]
 pub fn put_delay<K: ByteSink>(out: &mut SinkBuffer, sink: &mut K, label: &[u8], delay: u128)
     requires { delay ≤ 10 ^ 37 }
-    ensures { Puts K.held K.faults sink.old out.old sink.new out.new (time label.now (printed_time delay)) }
+    ensures { Puts K.ByteSink (sink.old, out.old) (sink.new, out.new) (time label.now (printed_time delay)) }
 {
     put_number(out, sink, label, 16, 5 * delay);
 }
@@ -70,7 +70,7 @@ pub fn put_delay<K: ByteSink>(out: &mut SinkBuffer, sink: &mut K, label: &[u8], 
 #[inline(always)]
 pub fn put_slew<K: ByteSink>(out: &mut SinkBuffer, sink: &mut K, label: &[u8], stage: u128)
     requires { stage ≤ 2 ^ 120 }
-    ensures { Puts K.held K.faults sink.old out.old sink.new out.new (time label.now (slew_of stage)) }
+    ensures { Puts K.ByteSink (sink.old, out.old) (sink.new, out.new) (time label.now (slew_of stage)) }
 {
     put_number(out, sink, label, 16, slew_tenths(stage));
 }
@@ -79,7 +79,7 @@ pub fn put_slew<K: ByteSink>(out: &mut SinkBuffer, sink: &mut K, label: &[u8], s
 #[tactic(auto, unfolding(crate::specs::Lines::coordinate))]
 #[inline(always)]
 fn put_x<K: ByteSink>(out: &mut SinkBuffer, sink: &mut K, point: Half)
-    ensures { Puts K.held K.faults sink.old out.old sink.new out.new
+    ensures { Puts K.ByteSink (sink.old, out.old) (sink.new, out.new)
         (coordinate (codes " ") (5 * unsigned_abs point.x)) }
 {
     put_number(out, sink, b" ", 4, 5 * u128::from(point.x.unsigned_abs()));
@@ -89,7 +89,7 @@ fn put_x<K: ByteSink>(out: &mut SinkBuffer, sink: &mut K, point: Half)
 #[tactic(auto, unfolding(crate::specs::Lines::coordinate))]
 #[inline(always)]
 fn put_y<K: ByteSink>(out: &mut SinkBuffer, sink: &mut K, point: Half)
-    ensures { Puts K.held K.faults sink.old out.old sink.new out.new
+    ensures { Puts K.ByteSink (sink.old, out.old) (sink.new, out.new)
         (coordinate (codes " ") (5 * unsigned_abs point.y)) }
 {
     put_number(out, sink, b" ", 4, 5 * u128::from(point.y.unsigned_abs()));
@@ -98,7 +98,7 @@ fn put_y<K: ByteSink>(out: &mut SinkBuffer, sink: &mut K, point: Half)
 /// A point in half nm, its x before its y.
 #[inline]
 pub fn put_point<K: ByteSink>(out: &mut SinkBuffer, sink: &mut K, point: Half)
-    ensures { Puts K.held K.faults sink.old out.old sink.new out.new (point_words (printed_point point)) }
+    ensures { Puts K.ByteSink (sink.old, out.old) (sink.new, out.new) (point_words (printed_point point)) }
 {
     put_x(out, sink, point);
     put_y(out, sink, point);
@@ -108,7 +108,7 @@ pub fn put_point<K: ByteSink>(out: &mut SinkBuffer, sink: &mut K, point: Half)
 #[inline]
 pub fn put_place<K: ByteSink>(out: &mut SinkBuffer, sink: &mut K, place: Spot)
     requires { IsSpotInRange place }
-    ensures { Puts K.held K.faults sink.old out.old sink.new out.new (point_words (printed_point (point_of place))) }
+    ensures { Puts K.ByteSink (sink.old, out.old) (sink.new, out.new) (point_words (printed_point (point_of place))) }
 {
     put_point(out, sink, halves(place));
 }
@@ -116,7 +116,7 @@ pub fn put_place<K: ByteSink>(out: &mut SinkBuffer, sink: &mut K, place: Spot)
 /// Whether a limit is met, and the end of the line.
 #[tactic(auto, unfolding(crate::specs::Lines::answer))]
 pub fn put_answer<K: ByteSink>(out: &mut SinkBuffer, sink: &mut K, label: &[u8], met: bool)
-    ensures { Puts K.held K.faults sink.old out.old sink.new out.new (answer label.now met) }
+    ensures { Puts K.ByteSink (sink.old, out.old) (sink.new, out.new) (answer label.now met) }
 {
     out.put(sink, label);
     out.put(sink, if met { b" yes\n" } else { b" no\n" });

@@ -4,8 +4,8 @@ use Rattle.std.specs.List.{concat}
 use Rattle.std.proofs.lemmas.List.Elements.{All-nil, All-cons, All-head, All-tail}
 use Rattle.std.proofs.lemmas.List.{length-map}
 use Rattle.cts_postorder.specs.PostOrder.{IsPostOrderFrom}
-use Rattle.cts_postorder.specs.Stack.{IsJoin, stack_after, IsOpen}
-use Rattle.cts_postorder.proofs.Stacks.{post_joins, post_splits, post_ends, post_counts, open_leaf, open_leaf_room, open_pair, completion}
+use Rattle.cts_postorder.specs.Stack.{stack_after, IsOpen}
+use Rattle.cts_postorder.proofs.Stacks.{IsJoin, post_joins, post_splits, post_ends, post_counts, open_leaf, open_leaf_room, open_pair, completion}
 use Rattle.cts_instance.specs.declared.version.Version.{Version}
 use Rattle.cts_instance.specs.declared.version.Version.TheVariants.{One, Two}
 use Rattle.cts_report.specs.Lines.{node_line, node_lines}

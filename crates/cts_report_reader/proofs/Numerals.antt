@@ -1,17 +1,15 @@
 -- Digits in front of a text, and the canonical text of the number that they write.
-use Rattle.std.proofs.Common.{◌≡◌, ◌≢◌, ℕ, zero, suc, ◌+◌, ◌-◌, ◌*◌, ◌/◌, ◌%◌, ◌^◌, ◌<◌, ◌≤◌, Bool, true, ◌&&◌, T, eqb, List, [], ◌∷◌, ◌++◌, length, get_or, take, drop, Some, sym, ap, ap₂, ◌∙◌, inl, inr, arith, append_assoc, length-drop, pow-suc, eq-zero-or-pos, eqb→eq}
+use Rattle.std.proofs.Common.{◌≡◌, ◌≢◌, ℕ, zero, suc, ◌+◌, ◌-◌, ◌*◌, ◌/◌, ◌%◌, ◌^◌, ◌<◌, ◌≤◌, List, [], ◌∷◌, ◌++◌, length, get_or, take, drop, Some, sym, ap, ap₂, ◌∙◌, arith, append_assoc, length-drop, pow-suc}
 use Rattle.std.proofs.Math.Nat.{pow-zero}
 use Rattle.std.proofs.lemmas.List.{take_more, take_all, take-append-drop}
 use Rattle.std.proofs.lemmas.Nat.{mod-mul-add}
 use Rattle.std.specs.Char.{IsAsciiDigit}
-use lib.Ieee.Fits.{and_l, and_r}
 use Rattle.cts_num.specs.Decimal.{glyph, whole_text, padded_text, fraction_text, decimal_text}
 use Rattle.cts_num.specs.Number.{digit_number}
 use Rattle.cts_num.proofs.Fronts.{digit_number-none, digit_number_more}
 use Rattle.cts_num.proofs.Texts.{whole_text_one, whole_text_step, padded_text-zero, padded_text_step, fraction_text-some, decimal_text-parts}
 use Rattle.cts_report_reader.specs.Reader.{IsStop}
 use Rattle.cts_report_reader.specs.Words.{number_at}
-use Rattle.cts_report_reader.specs.declared.digits.TheConstants.{POWERS_OF_TEN}
 use Rattle.cts_report_reader.proofs.Labels.{number_part}
 
 -- so many digits stand in front
@@ -115,23 +113,6 @@ point_and_digits places whole fraction unit text front back some long digits uni
     ap (fraction_text places) value ∙ fraction_is places whole (digit_number (take places front)) some less
     ∙ ap (λ t. 46 ∷ t) (digits_padded front places (omega (arith, long)) each ∙ all) in
     text_is ∙ sym (ap (λ t. t ++ back) fraction_text_is)
-
--- the powers of ten of the table
-
-abbrev are_powers : ℕ → Bool
-are_powers zero = true
-are_powers (suc k) = eqb (get_or POWERS_OF_TEN k 0) (10 ^ k) && are_powers k
-
-power_below : (n k : ℕ) → T (are_powers n) → k < n → get_or POWERS_OF_TEN k 0 ≡ 10 ^ k
-power_below zero k t h = absurd (omega arith)
-power_below (suc n) k t h =
-    elim (eq-zero-or-pos (n - k)) [
-      | inl z ↦ let e : k ≡ n = omega arith in rw e (eqb→eq _ _ (and_l _ (are_powers n) t))
-      | inr g ↦ power_below n k (and_r _ (are_powers n) t) (omega arith)
-    ]
-
-pub power_at : (k : ℕ) → k ≤ 16 → get_or POWERS_OF_TEN k 0 ≡ 10 ^ k
-power_at k h = power_below 17 k tt (omega arith)
 
 -- both parts are a number, where none goes on
 pub parts_are_number : (places value : ℕ) (bytes middle rest : List ℕ) → bytes ≡ whole_text (value / 10 ^ places) ++ middle

@@ -8,29 +8,10 @@ ghost use Rattle.cts_num.specs.Number.{digit_number};
 ghost use Rattle.cts_report_reader.specs.Reader.{IsStop, is_number_byte};
 ghost use Rattle.cts_report_reader.specs.Words.{number_at};
 
+use cts_num::POWERS_OF_TEN;
+
 // Any number of so many digits is below 2^64.
 const MOST: usize = 18;
-
-// Ten to the power of each number of places.
-static POWERS_OF_TEN: [u64; 17] = [
-    1,
-    10,
-    100,
-    1_000,
-    10_000,
-    100_000,
-    1_000_000,
-    10_000_000,
-    100_000_000,
-    1_000_000_000,
-    10_000_000_000,
-    100_000_000_000,
-    1_000_000_000_000,
-    10_000_000_000_000,
-    100_000_000_000_000,
-    1_000_000_000_000_000,
-    10_000_000_000_000_000,
-];
 
 /// A number in canonical text with so many places, and what follows it, where its whole part has at most
 /// 18 digits. Other bytes are not looked into any further.

@@ -15,10 +15,11 @@ use crate::words::{after_word, bounded, labelled};
 use cts_geom::Half;
 use cts_num::NoMemory;
 use cts_tree::Corners;
+use cts_units::{MAX_ID, MAX_LENGTH};
 use std::alloc::Global;
 
-// The longest wire, in nm.
-const LONGEST: u64 = 2_147_483_647;
+// The greatest id of a sink.
+const LAST_ID: u64 = MAX_ID as u64;
 
 // The greatest number of a type of 32 bits.
 const MOST: u64 = 4_294_967_295;
@@ -101,7 +102,7 @@ fn node_tail(alloc: Global, told: bool, bytes: &[u8]) -> Result<Option<(Tail, &[
     let Some((slew, rest)) = labelled(rest, b" slew ", 16) else {
         return Ok(None);
     };
-    let Some((wire, rest)) = bounded(rest, b" wire ", 3, LONGEST) else {
+    let Some((wire, rest)) = bounded(rest, b" wire ", 3, MAX_LENGTH) else {
         return Ok(None);
     };
     let Some((corners, rest)) = corners(alloc, rest)? else {
@@ -139,7 +140,7 @@ fn leaf(alloc: Global, told: bool, bytes: &[u8]) -> Result<Option<(ReportNode, &
     ensures found { FindsIn seen_node result (leaf_at told bytes.now) }
     ensures seen { IfOk result (λ found. IfSome found (λ node. IsSeenNode node.0)) }
 {
-    let Some((id, rest)) = bounded(bytes, b" leaf ", 0, 999_999_999) else {
+    let Some((id, rest)) = bounded(bytes, b" leaf ", 0, LAST_ID) else {
         return Ok(None);
     };
     let Some((place, rest)) = place(rest) else {

@@ -1,2 +1,1 @@
-mod Printable
 mod Pairs

@@ -18,6 +18,7 @@ use cts_elmore::{Figures, measure, within};
 use cts_instance::{Instance, check_instance};
 use cts_io::MemSink;
 use cts_num::NoMemory;
+use cts_report::laws::figures_in_range_are_printable;
 use cts_report::write_report;
 use cts_tree::Tree;
 use cts_units::MAX_LENGTH;
@@ -35,7 +36,9 @@ fn figures_of(alloc: Global, instance: &Instance, tree: &Tree) -> Result<Figures
     requires nodes { All IsPrintableNode tree.now }
     ensures { IfOk result (IsPrintable tree.now) }
 {
-    measure(alloc, instance, tree)
+    let figures = measure(alloc, instance, tree)?;
+    figures_in_range_are_printable();
+    Ok(figures)
 }
 
 /// The report of a tree with these figures.

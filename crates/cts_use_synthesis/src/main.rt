@@ -5,7 +5,8 @@
 #![tactic(auto)]
 
 ghost use Rattle.std.specs.Prelude.{◌≡◌, ◌<◌, IfOk};
-ghost use Rattle.cts_report.specs.Report.{IsPrintable};
+ghost use Rattle.cts_elmore.specs.Figures.{AreFigures};
+ghost use Rattle.cts_elmore.specs.Sound.{IsSound};
 
 mod chip;
 mod refusal;
@@ -13,9 +14,10 @@ mod refusal;
 use cts_block::Block;
 use cts_elmore::Figures;
 use cts_instance::{Instance, check_instance};
-use cts_io::{ByteSink, HostSink, MemSink};
+use cts_io::{ByteSink, HostSink, MemSink, WriteEnd};
 use cts_merge::Steps;
 use cts_plain::{NoTree, synthesise};
+use cts_report::laws::sound_trees_are_printable;
 use cts_report::write_report;
 use cts_tree::Tree;
 use cts_units::Sink;
@@ -34,19 +36,36 @@ fn counted<L: Ledger>(
     requires name { blank.name ≡ L.name }
     requires parts { blank.parts ≡ L.parts }
     requires some { 0 < L.parts }
-    ensures { IfOk result (λ r. IsPrintable r.0 r.1) }
+    ensures sound { IfOk result (λ r. IsSound instance.now r.0) }
+    ensures figures { IfOk result (λ r. AreFigures instance.now r.0 r.1) }
 {
-    // A read call says that the instance is valid, which the limits of what is printed rest on.
-    let _die = instance.die();
     let mut steps = Steps::<L>::open(blank);
     synthesise(alloc, instance, &mut steps)
 }
 
 /// The same, where nobody reads the counter.
 fn synthesis_of(alloc: Global, instance: &Instance) -> Result<(Tree, Figures), NoTree>
-    ensures { IfOk result (λ r. IsPrintable r.0 r.1) }
+    ensures sound { IfOk result (λ r. IsSound instance.now r.0) }
+    ensures figures { IfOk result (λ r. AreFigures instance.now r.0 r.1) }
 {
     counted::<Brand>(alloc, Blank::new(1), instance)
+}
+
+/// Writes the report of a sound tree with its figures.
+fn write<K: ByteSink>(
+    output: &mut K,
+    instance: &Instance,
+    tree: &Tree,
+    figures: &Figures,
+) -> Result<(), WriteEnd>
+    requires sound { IsSound instance.now tree.now }
+    requires figures { AreFigures instance.now tree.now figures.now }
+{
+    // Read calls say that the instance is valid and that the nodes are in post-order. The law asks for both.
+    let _die = instance.die();
+    let _nodes = tree.nodes();
+    sound_trees_are_printable();
+    write_report(output, instance, tree, figures)
 }
 
 /// Writes the report of the tree of a chip with these sinks and blocks.
@@ -59,7 +78,7 @@ fn report<K: ByteSink>(
     let parts = chip::parts_with(alloc, sinks, blocks)?;
     let instance = check_instance(alloc, parts)?;
     let (tree, figures) = synthesis_of(alloc, &instance)?;
-    write_report(output, &instance, &tree, &figures)?;
+    write(output, &instance, &tree, &figures)?;
     Ok(())
 }
 

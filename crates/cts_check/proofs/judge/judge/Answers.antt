@@ -9,7 +9,7 @@ use Rattle.cts_elmore.specs.Figures.{AreFigures}
 use Rattle.cts_elmore.specs.Measurement.{IsMeasured}
 use Rattle.cts_elmore.specs.Fits.{FitsInstance}
 use Rattle.cts_report_reader.specs.Forms.{form_of}
-use Rattle.cts_report_reader.specs.Nodes.{seen_node, seen_nodes}
+use Rattle.cts_report_reader.specs.Nodes.{seen_node}
 use Rattle.cts_report_reader.specs.Reports.{seen_report}
 use Rattle.cts_check.specs.declared.verdict.Rule.TheVariants.{Sinks, Limit, Figure}
 use Rattle.cts_check.specs.Claims.{Agrees, IsTellable, claim_of, claims_seen}
@@ -18,7 +18,7 @@ use Rattle.cts_check.specs.Marks.{NamesById}
 use Rattle.cts_check.specs.Ranges.{IsInRange}
 use Rattle.cts_check.specs.Rules.{IsFirstFailing, MeetsLimit}
 use Rattle.cts_check.specs.Told.{told_node, told_nodes}
-use Rattle.cts_check.proofs.Judging.{tellable, told_names, told_in_range, over_first}
+use Rattle.cts_check.proofs.Judging.{told_is, tellable, told_names, told_in_range, over_first}
 use Rattle.cts_check.proofs.ToldFigures.{figures_first}
 use Rattle.cts_check.proofs.Order.{told_first, met_too, broken_first, all_met}
 use Rattle.cts_check.proofs.Verdicts.{post_order, told_fits}
@@ -31,40 +31,40 @@ told_nodes_of-requires-clause-nodes g c =
 
 pub first_broken-requires-clause-post_order : goal.first_broken-requires-clause-post_order
 first_broken-requires-clause-post_order g c =
-    subst (λ (ns : List TreeNode). IsPostOrder (map tree_children ns)) (sym (c.as_slice.ensures.value ∙ (c.in_ok-told.ensures.tree ∙ ap (λ ns. told_nodes c.sinks.result.now (seen_nodes ns)) c.as_mut_slice.ensures.value ∙ ap (λ qs. told_nodes qs (seen_report c.args.report).nodes) c.sinks.ensures.part)))
+    subst (λ (ns : List TreeNode). IsPostOrder (map tree_children ns)) (sym (c.as_slice.ensures.value ∙ (told_is _ _ _ _ _ c.in_ok-told.ensures.tree c.as_mut_slice.ensures.value c.sinks.ensures.part)))
     (post_order c.args.instance.now c.sinks.ensures.valid (seen_report c.args.report) c.requires.report)
 
 pub first_broken-requires-clause-names : goal.first_broken-requires-clause-names
 first_broken-requires-clause-names g c =
-    subst (All (λ (n : TreeNode). NamesById c.args.instance.now.sinks n.kind)) (sym (c.as_slice.ensures.value ∙ (c.in_ok-told.ensures.tree ∙ ap (λ ns. told_nodes c.sinks.result.now (seen_nodes ns)) c.as_mut_slice.ensures.value ∙ ap (λ qs. told_nodes qs (seen_report c.args.report).nodes) c.sinks.ensures.part)))
+    subst (All (λ (n : TreeNode). NamesById c.args.instance.now.sinks n.kind)) (sym (c.as_slice.ensures.value ∙ (told_is _ _ _ _ _ c.in_ok-told.ensures.tree c.as_mut_slice.ensures.value c.sinks.ensures.part)))
     (told_names c.args.instance.now.sinks (seen_report c.args.report).nodes)
 
 pub first_broken-requires-clause-in_range : goal.first_broken-requires-clause-in_range
 first_broken-requires-clause-in_range g c =
-    subst (All IsInRange) (sym (c.as_slice.ensures.value ∙ (c.in_ok-told.ensures.tree ∙ ap (λ ns. told_nodes c.sinks.result.now (seen_nodes ns)) c.as_mut_slice.ensures.value ∙ ap (λ qs. told_nodes qs (seen_report c.args.report).nodes) c.sinks.ensures.part)))
+    subst (All IsInRange) (sym (c.as_slice.ensures.value ∙ (told_is _ _ _ _ _ c.in_ok-told.ensures.tree c.as_mut_slice.ensures.value c.sinks.ensures.part)))
     (told_in_range c.args.instance.now.sinks (form_of c.args.instance.now) (seen_report c.args.report).nodes c.requires.report.each)
 
 pub of-tree-requires : goal.of-tree-requires
 of-tree-requires g c =
-    subst (λ (ns : List TreeNode). IsPostOrder (map tree_children ns)) (sym (c.in_ok-told.ensures.tree ∙ ap (λ ns. told_nodes c.sinks.result.now (seen_nodes ns)) c.as_mut_slice.ensures.value ∙ ap (λ qs. told_nodes qs (seen_report c.args.report).nodes) c.sinks.ensures.part))
+    subst (λ (ns : List TreeNode). IsPostOrder (map tree_children ns)) (sym (told_is _ _ _ _ _ c.in_ok-told.ensures.tree c.as_mut_slice.ensures.value c.sinks.ensures.part))
     (post_order c.args.instance.now c.sinks.ensures.valid (seen_report c.args.report) c.requires.report)
 
 pub returns-in-Some : goal.returns-in-Some
 returns-in-Some g c =
-    let first = c.in_ok-rule.ensures (seen_report c.args.report) (c.as_slice.ensures.value ∙ (c.in_ok-told.ensures.tree ∙ ap (λ ns. told_nodes c.sinks.result.now (seen_nodes ns)) c.as_mut_slice.ensures.value ∙ ap (λ qs. told_nodes qs (seen_report c.args.report).nodes) c.sinks.ensures.part)) in
+    let first = c.in_ok-rule.ensures (seen_report c.args.report) (c.as_slice.ensures.value ∙ (told_is _ _ _ _ _ c.in_ok-told.ensures.tree c.as_mut_slice.ensures.value c.sinks.ensures.part)) in
     subst (Judges c.args.instance.now (seen_report c.args.report)) (sym c.broken.ensures)
     (subst (IsFirstOfFour c.args.instance.now (seen_report c.args.report)) c.in-Some.is first)
 
 pub try_measure-requires : goal.try_measure-requires
 try_measure-requires g c =
-    let four = subst (IsFirstOfFour c.args.instance.now (seen_report c.args.report)) c.in_default.is (c.in_ok-rule.ensures (seen_report c.args.report) (c.as_slice.ensures.value ∙ (c.in_ok-told.ensures.tree ∙ ap (λ ns. told_nodes c.sinks.result.now (seen_nodes ns)) c.as_mut_slice.ensures.value ∙ ap (λ qs. told_nodes qs (seen_report c.args.report).nodes) c.sinks.ensures.part))) in
-    subst (FitsInstance c.args.instance.now) (sym (c.of-tree.ensures ∙ (c.in_ok-told.ensures.tree ∙ ap (λ ns. told_nodes c.sinks.result.now (seen_nodes ns)) c.as_mut_slice.ensures.value ∙ ap (λ qs. told_nodes qs (seen_report c.args.report).nodes) c.sinks.ensures.part)))
+    let four = subst (IsFirstOfFour c.args.instance.now (seen_report c.args.report)) c.in_default.is (c.in_ok-rule.ensures (seen_report c.args.report) (c.as_slice.ensures.value ∙ (told_is _ _ _ _ _ c.in_ok-told.ensures.tree c.as_mut_slice.ensures.value c.sinks.ensures.part))) in
+    subst (FitsInstance c.args.instance.now) (sym (c.of-tree.ensures ∙ (told_is _ _ _ _ _ c.in_ok-told.ensures.tree c.as_mut_slice.ensures.value c.sinks.ensures.part)))
     (told_fits c.args.instance.now c.sinks.ensures.valid (seen_report c.args.report) c.requires.report (four Sinks (omega arith)))
 
 pub returns-in-Over : goal.returns-in-Over
 returns-in-Over g c =
-    let four = subst (IsFirstOfFour c.args.instance.now (seen_report c.args.report)) c.in_default.is (c.in_ok-rule.ensures (seen_report c.args.report) (c.as_slice.ensures.value ∙ (c.in_ok-told.ensures.tree ∙ ap (λ ns. told_nodes c.sinks.result.now (seen_nodes ns)) c.as_mut_slice.ensures.value ∙ ap (λ qs. told_nodes qs (seen_report c.args.report).nodes) c.sinks.ensures.part))) in
-    let told : c.of-tree.result ≡ told_nodes c.args.instance.now.sinks (seen_report c.args.report).nodes = c.of-tree.ensures ∙ (c.in_ok-told.ensures.tree ∙ ap (λ ns. told_nodes c.sinks.result.now (seen_nodes ns)) c.as_mut_slice.ensures.value ∙ ap (λ qs. told_nodes qs (seen_report c.args.report).nodes) c.sinks.ensures.part) in
+    let four = subst (IsFirstOfFour c.args.instance.now (seen_report c.args.report)) c.in_default.is (c.in_ok-rule.ensures (seen_report c.args.report) (c.as_slice.ensures.value ∙ (told_is _ _ _ _ _ c.in_ok-told.ensures.tree c.as_mut_slice.ensures.value c.sinks.ensures.part))) in
+    let told : c.of-tree.result ≡ told_nodes c.args.instance.now.sinks (seen_report c.args.report).nodes = c.of-tree.ensures ∙ (told_is _ _ _ _ _ c.in_ok-told.ensures.tree c.as_mut_slice.ensures.value c.sinks.ensures.part) in
     let over = subst (IsMeasured c.args.instance.now c.of-tree.result) c.in-Over.is c.in_ok-figures.ensures in
     subst (Judges c.args.instance.now (seen_report c.args.report)) (sym c.broken-in-Over.ensures)
     (broken_first c.args.instance.now (seen_report c.args.report) Limit four c.in-Over.node
@@ -73,8 +73,8 @@ returns-in-Over g c =
 
 pub returns-in-Some-first_wrong_figure : goal.returns-in-Some-first_wrong_figure
 returns-in-Some-first_wrong_figure g c =
-    let four = subst (IsFirstOfFour c.args.instance.now (seen_report c.args.report)) c.in_default.is (c.in_ok-rule.ensures (seen_report c.args.report) (c.as_slice.ensures.value ∙ (c.in_ok-told.ensures.tree ∙ ap (λ ns. told_nodes c.sinks.result.now (seen_nodes ns)) c.as_mut_slice.ensures.value ∙ ap (λ qs. told_nodes qs (seen_report c.args.report).nodes) c.sinks.ensures.part))) in
-    let told : c.of-tree.result ≡ told_nodes c.args.instance.now.sinks (seen_report c.args.report).nodes = c.of-tree.ensures ∙ (c.in_ok-told.ensures.tree ∙ ap (λ ns. told_nodes c.sinks.result.now (seen_nodes ns)) c.as_mut_slice.ensures.value ∙ ap (λ qs. told_nodes qs (seen_report c.args.report).nodes) c.sinks.ensures.part) in
+    let four = subst (IsFirstOfFour c.args.instance.now (seen_report c.args.report)) c.in_default.is (c.in_ok-rule.ensures (seen_report c.args.report) (c.as_slice.ensures.value ∙ (told_is _ _ _ _ _ c.in_ok-told.ensures.tree c.as_mut_slice.ensures.value c.sinks.ensures.part))) in
+    let told : c.of-tree.result ≡ told_nodes c.args.instance.now.sinks (seen_report c.args.report).nodes = c.of-tree.ensures ∙ (told_is _ _ _ _ _ c.in_ok-told.ensures.tree c.as_mut_slice.ensures.value c.sinks.ensures.part) in
     let has = subst (IsMeasured c.args.instance.now c.of-tree.result) c.in-Within.is c.in_ok-figures.ensures in
     let five = met_too c.args.instance.now (seen_report c.args.report) Limit four
     (told_first (MeetsLimit c.args.instance.now) c.of-tree.result (told_nodes c.args.instance.now.sinks (seen_report c.args.report).nodes) told
@@ -96,8 +96,8 @@ returns-in-Some-first_wrong_figure g c =
 
 pub returns : goal.returns
 returns g c =
-    let four = subst (IsFirstOfFour c.args.instance.now (seen_report c.args.report)) c.in_default.is (c.in_ok-rule.ensures (seen_report c.args.report) (c.as_slice.ensures.value ∙ (c.in_ok-told.ensures.tree ∙ ap (λ ns. told_nodes c.sinks.result.now (seen_nodes ns)) c.as_mut_slice.ensures.value ∙ ap (λ qs. told_nodes qs (seen_report c.args.report).nodes) c.sinks.ensures.part))) in
-    let told : c.of-tree.result ≡ told_nodes c.args.instance.now.sinks (seen_report c.args.report).nodes = c.of-tree.ensures ∙ (c.in_ok-told.ensures.tree ∙ ap (λ ns. told_nodes c.sinks.result.now (seen_nodes ns)) c.as_mut_slice.ensures.value ∙ ap (λ qs. told_nodes qs (seen_report c.args.report).nodes) c.sinks.ensures.part) in
+    let four = subst (IsFirstOfFour c.args.instance.now (seen_report c.args.report)) c.in_default.is (c.in_ok-rule.ensures (seen_report c.args.report) (c.as_slice.ensures.value ∙ (told_is _ _ _ _ _ c.in_ok-told.ensures.tree c.as_mut_slice.ensures.value c.sinks.ensures.part))) in
+    let told : c.of-tree.result ≡ told_nodes c.args.instance.now.sinks (seen_report c.args.report).nodes = c.of-tree.ensures ∙ (told_is _ _ _ _ _ c.in_ok-told.ensures.tree c.as_mut_slice.ensures.value c.sinks.ensures.part) in
     let has = subst (IsMeasured c.args.instance.now c.of-tree.result) c.in-Within.is c.in_ok-figures.ensures in
     let five = met_too c.args.instance.now (seen_report c.args.report) Limit four
     (told_first (MeetsLimit c.args.instance.now) c.of-tree.result (told_nodes c.args.instance.now.sinks (seen_report c.args.report).nodes) told

@@ -4,7 +4,7 @@ use Rattle.cts_report.proofs.line.put_arrival.Goals as goal
 
 pub returns-in-One : goal.returns-in-One
 unfolding arrival_words
-returns-in-One g c = rw c.in-One.is (puts_nothing _ _ _ _)
+returns-in-One g c = rw c.in-One.is (puts_nothing _ _)
 
 pub put_leaf_arrival-requires : goal.put_leaf_arrival-requires
 put_leaf_arrival-requires g c = c.requires

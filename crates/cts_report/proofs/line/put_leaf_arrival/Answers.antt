@@ -11,4 +11,4 @@ returns-in-Leaf g c = rw c.in-Leaf.is c.put_delay.ensures
 
 pub returns-in-Pair : goal.returns-in-Pair
 unfolding arrival_words
-returns-in-Pair g c = rw c.in-Pair.is (puts_nothing _ _ _ _)
+returns-in-Pair g c = rw c.in-Pair.is (puts_nothing _ _)

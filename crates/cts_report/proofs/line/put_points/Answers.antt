@@ -5,7 +5,7 @@ use Rattle.cts_report.proofs.Numbered.{points_step}
 use Rattle.cts_report.proofs.line.put_points.Goals as goal
 
 pub loop-point-init : goal.loop-point-init
-loop-point-init g c = puts_nothing _ _ _ _
+loop-point-init g c = puts_nothing _ _
 
 pub bounds-points-point-index : goal.bounds-points-point-index
 bounds-points-point-index g c = omega arith
@@ -15,7 +15,7 @@ loop-point-smaller g c = omega arith
 
 pub loop-point-preserved : goal.loop-point-preserved
 loop-point-preserved g c =
-    points_step (λ text. Puts g.K.ByteSink.held g.K.ByteSink.faults c.args.sink.now c.args.out.now c.put_point.new.sink c.put_point.new.out text)
+    points_step (λ text. Puts g.K.ByteSink (c.args.sink.now, c.args.out.now) (c.put_point.new.sink, c.put_point.new.out) text)
     c.args.points.now c.loop-point.point-index _ c.loop-point-test.true (c.loop-point.invariant ▸ c.put_point.ensures)
 
 pub returns : goal.returns

@@ -7,5 +7,5 @@ use Rattle.cts_report.proofs.line.put_points.Given as goal
 
 abbrev pub invariant-loop-point : goal.invariant-loop-point
 invariant-loop-point g l =
-    Puts g.K.ByteSink.held g.K.ByteSink.faults l.fn.sink l.fn.out l.sink l.out
+    Puts g.K.ByteSink (l.fn.sink, l.fn.out) (l.sink, l.out)
     (flat_map point_words (map printed_point (take l.point-index l.points)))

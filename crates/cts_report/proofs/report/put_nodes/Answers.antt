@@ -14,11 +14,11 @@ no_figure = record { below = 0; offset = 0; residue = 0; delay = 0; stage = 0 }
 
 pub loop-number-init : goal.loop-number-init
 unfolding node_lines
-loop-number-init g c = puts_nothing _ _ _ _
+loop-number-init g c = puts_nothing _ _
 
 pub loop-number-preserved : goal.loop-number-preserved
 loop-number-preserved g c =
-    subst (λ text. Puts g.K.ByteSink.held g.K.ByteSink.faults c.args.sink.now c.args.out.now c.put_node.new.sink c.put_node.new.out text)
+    subst (λ text. Puts g.K.ByteSink (c.args.sink.now, c.args.out.now) (c.put_node.new.sink, c.put_node.new.out) text)
     (ap (λ node. concat (node_lines 0 (take c.loop-number.number (printed_nodes c.args.version c.args.nodes.now c.args.figures.now)))
     ++ node_line c.loop-number.number (printed_node c.args.version node (get_or c.args.figures.now c.loop-number.number no_figure)))
     c.index-nodes-number.is

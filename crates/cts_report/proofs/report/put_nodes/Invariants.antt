@@ -7,5 +7,5 @@ use Rattle.cts_report.proofs.report.put_nodes.Given as goal
 
 abbrev pub invariant-loop-number : goal.invariant-loop-number
 invariant-loop-number g l =
-    Puts g.K.ByteSink.held g.K.ByteSink.faults l.fn.sink l.fn.out l.sink l.out
+    Puts g.K.ByteSink (l.fn.sink, l.fn.out) (l.sink, l.out)
     (concat (node_lines 0 (take l.number (printed_nodes l.version l.nodes l.figures))))

@@ -2,7 +2,8 @@ use Rattle.std.proofs.Common.{◌≡◌, ◌*◌, ◌+◌, ◌/◌, ◌^◌, ◌
 use Rattle.std.proofs.lemmas.Nat.{div-mul-add}
 use Rattle.cts_num.specs.Decimal.{fraction_text}
 use Rattle.cts_num.proofs.Texts.{fraction_text-zero}
-use Rattle.cts_report_reader.proofs.Numerals.{point_and_digits, power_at}
+use Rattle.cts_num.proofs.Tables.{power_at}
+use Rattle.cts_report_reader.proofs.Numerals.{point_and_digits}
 use Rattle.cts_report_reader.proofs.digits.with_fraction.Goals as goal
 
 pub returns-then-places-eq0-clause-text : goal.returns-then-places-eq0-clause-text
