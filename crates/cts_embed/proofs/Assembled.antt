@@ -7,7 +7,7 @@ use Rattle.cts_postorder.specs.PostOrder.{IsPostOrder}
 use Rattle.cts_postorder.specs.Occurrence.{Occurrence, occurrences_of}
 use Rattle.cts_postorder.proofs.Growth.{map-label-trees_of}
 use Rattle.cts_postorder.proofs.Lists.{map-here-occurrences_of}
-use Rattle.cts_postorder.proofs.Decorated.{same_children}
+use Rattle.cts_postorder.proofs.Alike.{same_children}
 use Rattle.cts_tree.specs.declared.nodes.TreeNode.{TreeNode}
 use Rattle.cts_tree.specs.Nodes.{children_of, tree_children}
 use Rattle.cts_instance.specs.declared.parts.Parts.{Parts}

@@ -20,7 +20,7 @@ use Rattle.cts_embed.specs.Laws.{BalancedIsNotBeyond, LeastBeyondIsOne}
 use Rattle.cts_embed.proofs.Unique.{balance_one, balanced_not_beyond}
 
 -- no part of a tree that is balanced is beyond
-none_beyond : (params : Params) (sinks : List Sink) (t : BinaryTree TreeNode) (p : NodeBalance) → IsBalance params sinks t p
+pub none_beyond : (params : Params) (sinks : List Sink) (t : BinaryTree TreeNode) (p : NodeBalance) → IsBalance params sinks t p
     → All (λ u. ¬ IsBeyondBalance params sinks u) (subtrees t)
 unfolding IsBalance subtrees
 none_beyond params sinks (tip n) p is =

@@ -7,13 +7,13 @@ use Rattle.cts_instance.specs.declared.parts.Parts.{Parts}
 use Rattle.cts_topo.specs.declared.shape.ShapeNode.{ShapeNode}
 use Rattle.cts_topo.specs.Shape.{children}
 use Rattle.cts_tree.specs.declared.nodes.TreeNode.{TreeNode}
-use Rattle.cts_embed.specs.Leaves.{leaf_ids}
+use Rattle.cts_embed.specs.Leaves.{ids_of_leaves}
 use Rattle.cts_embed.specs.PlacedTree.{IsPlacedNode}
 use Rattle.cts_embed.proofs.Starts.{AreStarts}
 
 -- the ids of the leaves before it are left, the starts that it and others take wait, and the nodes from the number on are placed
 pub record IsDescent (parts : Parts) (nodes : List ShapeNode) (number : ℕ) (left : List ℕ) (starts : List Spot) (done : List TreeNode)
     : Type 0 where
-  pub ids : left ≡ leaf_ids parts.sinks (take number nodes)
+  pub ids : left ≡ ids_of_leaves parts.sinks (take number nodes)
   pub starts_are : AreStarts parts nodes number starts
   pub placed : AllZip (IsPlacedNode parts) (drop number (occurrences_of children nodes)) done

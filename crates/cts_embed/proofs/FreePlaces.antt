@@ -3,14 +3,13 @@ use Rattle.std.proofs.Common.{◌≡◌, ℤ, pos, ◌*ℤ◌, ◌≤ℤ◌, ◌
 use Rattle.std.proofs.lemmas.Int.{ints, by_lt_z}
 use Rattle.cts_geom.specs.declared.bounds.Die.{Die}
 use Rattle.cts_geom.specs.declared.points.Spot.{Spot}
-use Rattle.cts_geom.specs.Points.{IsSpotInRange, point_of, spot_at, distance_of}
+use Rattle.cts_geom.specs.Points.{point_of, spot_at, distance_of}
 use Rattle.cts_geom.proofs.PointLemmas.{spot_same}
 use Rattle.cts_block.specs.declared.blocks.Block.{Block}
-use Rattle.cts_block.specs.FreePoints.{IsBetween, IsInDie}
+use Rattle.cts_block.specs.FreePoints.{IsBetween, IsHalfInDie}
 use Rattle.cts_block.specs.NearestFree.{IsFree, IsLeastFree, IsNearestFree, IsNoLater}
 use Rattle.std.specs.Option.{is_some}
 use Rattle.cts_embed.specs.Laws.{PairPlacesAreFree}
-use Rattle.cts_instance.specs.Validity.{IsDie}
 
 not_below : (a b : ℤ) → ¬ (b <ℤ a) → a ≤ℤ b
 not_below a b none = by_lt_z b a (λ less. absurd (none less)) (λ more. more)
@@ -21,7 +20,7 @@ module _ (blocks : List Block) (die : Die) (buffered : Bool) (at p : Spot) (is :
   not_blocked none =
       none (is.moves (λ stays. none (subst (IsFree blocks die buffered) (sym (is.stays stays)) stays))).free
 
-free_in_die : (blocks : List Block) (die : Die) (buffered : Bool) (p : Spot) → IsFree blocks die buffered p → IsInDie die (point_of p)
+free_in_die : (blocks : List Block) (die : Die) (buffered : Bool) (p : Spot) → IsFree blocks die buffered p → IsHalfInDie die (point_of p)
 free_in_die blocks die true p free = free.in_die
 free_in_die blocks die false p free = free.in_die
 
@@ -32,7 +31,7 @@ between low high z some = record {
 }
 
 pub nearest_in_die : (blocks : List Block) (die : Die) (buffered : Bool) (at p : Spot) → IsNearestFree blocks die buffered at p
-    → IsInDie die (point_of p)
+    → IsHalfInDie die (point_of p)
 nearest_in_die blocks die buffered at p is =
     let some : ¬ ¬ IsFree blocks die buffered p = not_blocked blocks die buffered at p is in
     record {
@@ -49,18 +48,6 @@ nearest_is_free blocks die true at p is = record {
 nearest_is_free blocks die false at p is = record {
   in_die = nearest_in_die blocks die false at p is;
   clear = λ k d h stops inside. not_blocked blocks die false at p is (λ free. free.clear k d h stops inside);
-}
-
-pub in_die_in_range : (die : Die) (p : Spot) → IsDie die → IsInDie die (point_of p) → IsSpotInRange p
-in_die_in_range die p ok is = record {
-  u = record {
-    low = omega (arith, ints, ok.x_low, ok.y_low, is.x.at_least, is.y.at_least);
-    high = omega (arith, ints, ok.x_high, ok.y_high, is.x.at_most, is.y.at_most);
-  };
-  v = record {
-    low = omega (arith, ints, ok.x_low, ok.y_high, is.x.at_least, is.y.at_most);
-    high = omega (arith, ints, ok.x_high, ok.y_low, is.x.at_most, is.y.at_least);
-  };
 }
 
 -- the least free point is one

@@ -1,7 +1,8 @@
 -- The blocks and the die of a valid instance are in range.
 use Rattle.std.proofs.Common.{arith}
 use Rattle.std.proofs.lemmas.Int.{ints}
-use Rattle.cts_route.specs.Limits.{IsDieInRange, AreBlocksInRange}
+use Rattle.cts_block.specs.NearestFree.{IsDieInRange}
+use Rattle.cts_route.specs.Limits.{AreBlocksInRange}
 use Rattle.cts_instance.specs.declared.parts.Parts.{Parts}
 use Rattle.cts_instance.specs.Validity.{IsBlock, IsValid}
 

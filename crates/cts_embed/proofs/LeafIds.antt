@@ -8,7 +8,7 @@ use Rattle.cts_topo.specs.declared.shape.ShapeNode.{ShapeNode}
 use Rattle.cts_topo.specs.declared.shape.ShapeNode.TheVariants.{Leaf, Pair}
 use Rattle.cts_topo.specs.Shape.{leaf_sinks, IsShapeOver}
 use Rattle.cts_topo.proofs.Counts.{leaf_within, leaves_more}
-use Rattle.cts_embed.specs.Leaves.{IsIdOf, leaf_ids, own_ids}
+use Rattle.cts_embed.specs.Leaves.{IsIdOf, ids_of_leaves, own_ids}
 
 -- the id of a place in the list of sinks
 abbrev id_at : List Sink → ℕ → Option ℕ
@@ -46,7 +46,7 @@ own_same sinks (Leaf s) xs ys i j is named =
 own_same sinks (Pair l r) xs ys i j is named = (sym (append-nil xs) ∙ is ∙ append-nil ys, tt)
 
 module _ (sinks : List Sink) where
-  id_of_leaf : (s : ℕ) (d : Sink) → s < length sinks → leaf_ids sinks (Leaf s ∷ []) ≡ (get_or sinks s d).id ∷ []
+  id_of_leaf : (s : ℕ) (d : Sink) → s < length sinks → ids_of_leaves sinks (Leaf s ∷ []) ≡ (get_or sinks s d).id ∷ []
   id_of_leaf s d within =
       ap (λ (o : Option Sink). filter_map (option_map (λ (x : Sink). x.id)) (o ∷ [])) (slice_get-get_or sinks s d within)
 
@@ -54,7 +54,7 @@ module _ (sinks : List Sink) where
   record OwnId (n : ShapeNode) : Type 0 where
     id : ℕ
     named : IsIdOf sinks n id
-    own : leaf_ids sinks (n ∷ []) ≡ own_ids n id
+    own : ids_of_leaves sinks (n ∷ []) ≡ own_ids n id
 
   own_id : (n : ShapeNode) → ((s : ℕ) → n ≡ Leaf s → s < length sinks) → OwnId n
   unfolding IsIdOf own_ids
@@ -69,47 +69,47 @@ module _ (sinks : List Sink) where
 
   module _ (nodes : List ShapeNode) (k : ℕ) (e : ShapeNode) (h : k < length nodes) where
     -- the ids of a front, one node further
-    ids_more : leaf_ids sinks (take (k + 1) nodes) ≡ leaf_ids sinks (take k nodes) ++ leaf_ids sinks (get_or nodes k e ∷ [])
+    ids_more : ids_of_leaves sinks (take (k + 1) nodes) ≡ ids_of_leaves sinks (take k nodes) ++ ids_of_leaves sinks (get_or nodes k e ∷ [])
     ids_more =
         ap (filter_map (id_at sinks)) (leaves_more nodes k e h)
         ∙ filter_map-append (id_at sinks) (leaf_sinks (take k nodes)) (leaf_sinks (get_or nodes k e ∷ []))
 
-    module _ (ids : List ℕ) (are : ids ≡ leaf_ids sinks (take k nodes)) where
+    module _ (ids : List ℕ) (are : ids ≡ ids_of_leaves sinks (take k nodes)) where
       pub ids_at_leaf : (s : ℕ) (d : Sink) → get_or nodes k e ≡ Leaf s → s < length sinks
-          → ids ++ (get_or sinks s d).id ∷ [] ≡ leaf_ids sinks (take (k + 1) nodes)
+          → ids ++ (get_or sinks s d).id ∷ [] ≡ ids_of_leaves sinks (take (k + 1) nodes)
       ids_at_leaf s d here within =
           ap (λ xs. xs ++ (get_or sinks s d).id ∷ []) are
-          ∙ ap (λ xs. leaf_ids sinks (take k nodes) ++ xs) (sym (id_of_leaf s d within))
-          ∙ ap (λ n. leaf_ids sinks (take k nodes) ++ leaf_ids sinks (n ∷ [])) (sym here) ∙ sym ids_more
+          ∙ ap (λ xs. ids_of_leaves sinks (take k nodes) ++ xs) (sym (id_of_leaf s d within))
+          ∙ ap (λ n. ids_of_leaves sinks (take k nodes) ++ ids_of_leaves sinks (n ∷ [])) (sym here) ∙ sym ids_more
 
-      pub ids_at_pair : (l r : ℕ) → get_or nodes k e ≡ Pair l r → ids ≡ leaf_ids sinks (take (k + 1) nodes)
+      pub ids_at_pair : (l r : ℕ) → get_or nodes k e ≡ Pair l r → ids ≡ ids_of_leaves sinks (take (k + 1) nodes)
       ids_at_pair l r here =
-          are ∙ sym (append-nil (leaf_ids sinks (take k nodes)))
-          ∙ ap (λ n. leaf_ids sinks (take k nodes) ++ leaf_ids sinks (n ∷ [])) (sym here) ∙ sym ids_more
+          are ∙ sym (append-nil (ids_of_leaves sinks (take k nodes)))
+          ∙ ap (λ n. ids_of_leaves sinks (take k nodes) ++ ids_of_leaves sinks (n ∷ [])) (sym here) ∙ sym ids_more
 
 -- the ids of the leaves before a number, of which the node before it takes its own
 module _ (sinks : List Sink) (nodes : List ShapeNode) (over : IsShapeOver (length sinks) nodes) (number : ℕ) (some : 0 < number)
-    (within : number ≤ length nodes) (e : ShapeNode) (ids : List ℕ) (are : ids ≡ leaf_ids sinks (take number nodes)) where
+    (within : number ≤ length nodes) (e : ShapeNode) (ids : List ℕ) (are : ids ≡ ids_of_leaves sinks (take number nodes)) where
   abbrev pub here : ShapeNode
   here = get_or nodes (number - 1) e
 
   has : OwnId sinks here
   has = own_id sinks here (λ s is. leaf_within (length sinks) nodes over (number - 1) e s (omega arith) is)
 
-  ends : ids ≡ leaf_ids sinks (take (number - 1) nodes) ++ own_ids here has.id
+  ends : ids ≡ ids_of_leaves sinks (take (number - 1) nodes) ++ own_ids here has.id
   ends =
       let next : number - 1 + 1 ≡ number = omega arith in
-      are ∙ ap (λ n. leaf_ids sinks (take n nodes)) (sym next) ∙ ids_more sinks nodes (number - 1) e (omega arith)
-      ∙ ap (λ xs. leaf_ids sinks (take (number - 1) nodes) ++ xs) has.own
+      are ∙ ap (λ n. ids_of_leaves sinks (take n nodes)) (sym next) ∙ ids_more sinks nodes (number - 1) e (omega arith)
+      ∙ ap (λ xs. ids_of_leaves sinks (take (number - 1) nodes) ++ xs) has.own
 
   pub own_left : (left : List ℕ) × (id : ℕ) × (ids ≡ left ++ own_ids here id)
-  own_left = (leaf_ids sinks (take (number - 1) nodes), has.id, ends)
+  own_left = (ids_of_leaves sinks (take (number - 1) nodes), has.id, ends)
 
   module _ (rest : List ℕ) (id : ℕ) (taken : ids ≡ rest ++ own_ids here id) where
-    same : (rest ≡ leaf_ids sinks (take (number - 1) nodes)) × IsIdOf sinks here id
-    same = own_same sinks here rest (leaf_ids sinks (take (number - 1) nodes)) id has.id (sym taken ∙ ends) has.named
+    same : (rest ≡ ids_of_leaves sinks (take (number - 1) nodes)) × IsIdOf sinks here id
+    same = own_same sinks here rest (ids_of_leaves sinks (take (number - 1) nodes)) id has.id (sym taken ∙ ends) has.named
 
-    pub ids_left : rest ≡ leaf_ids sinks (take (number - 1) nodes)
+    pub ids_left : rest ≡ ids_of_leaves sinks (take (number - 1) nodes)
     ids_left = same.0
 
     pub id_taken : IsIdOf sinks here id

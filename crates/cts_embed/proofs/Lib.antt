@@ -22,4 +22,7 @@ pub mod PlacedFits
 pub mod OnePlace
 pub mod Reach
 pub mod Cuts
+pub mod Splits
+pub mod PlacesExist
+pub mod BalanceExists
 mod Example

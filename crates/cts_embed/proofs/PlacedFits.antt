@@ -8,7 +8,7 @@ use Rattle.cts_postorder.specs.BinaryTree.{BinaryTree, tip, fork, label}
 use Rattle.cts_postorder.specs.PostOrder.{IsPostOrder}
 use Rattle.cts_postorder.specs.Occurrence.{occurrences_of}
 use Rattle.cts_postorder.proofs.Lists.{length-occurrences_of}
-use Rattle.cts_postorder.proofs.Decorated.{same_children}
+use Rattle.cts_postorder.proofs.Alike.{same_children}
 use Rattle.cts_postorder.proofs.Zips.{all_zip-all}
 use Rattle.cts_instance.specs.declared.parts.Parts.{Parts}
 use Rattle.cts_instance.specs.Validity.{IsValid}
@@ -26,7 +26,7 @@ use Rattle.cts_embed.specs.Fitting.{Fits, NamesWithin}
 use Rattle.cts_embed.specs.Places.{kind_of}
 use Rattle.cts_embed.specs.PlacedTree.{IsPlacedNode, IsPlacedTree}
 use Rattle.cts_geom.specs.Points.{point_of}
-use Rattle.cts_block.specs.FreePoints.{IsInDie}
+use Rattle.cts_block.specs.FreePoints.{IsHalfInDie}
 use Rattle.cts_embed.specs.Laws.{PlacedTreesFit, PlacesLieInDie}
 use Rattle.cts_embed.proofs.Starts.{placed_in_die}
 use Rattle.cts_embed.proofs.NodeKinds.{LeafKind, leaf_kind, pair_kind, same_kids}
@@ -78,5 +78,5 @@ placed_trees_fit_lem parts shape placed is valid over = placed_fits parts shape 
 
 pub places_in_die : PlacesLieInDie
 places_in_die parts shape placed is valid =
-    all_zip-all (IsPlacedNode parts) (λ node. IsInDie parts.die (point_of node.place))
+    all_zip-all (IsPlacedNode parts) (λ node. IsHalfInDie parts.die (point_of node.place))
     (λ o m node. placed_in_die parts (label o.here) node.finished node.from m valid node.placed) (occurrences_of children shape) placed is

@@ -3,7 +3,7 @@ use Rattle.std.proofs.Common.{◌≡◌, ℕ, ◌≤◌, sym, subst, arith}
 use Rattle.cts_geom.specs.declared.points.Spot.{Spot}
 use Rattle.cts_geom.specs.declared.regions.Region.{Region}
 use Rattle.cts_geom.specs.Points.{distance_of}
-use Rattle.cts_geom.specs.Regions.{IsNearest, IsWithin}
+use Rattle.cts_geom.specs.Regions.{IsNearest, IsInReach}
 use Rattle.cts_merge.specs.declared.side.Finished.{Finished}
 use Rattle.cts_up.specs.Plan.{IsFinished}
 use Rattle.cts_up.proofs.Unique.{finished_one}
@@ -11,7 +11,7 @@ use Rattle.cts_embed.specs.Places.{IsFirstPlace}
 use Rattle.cts_embed.specs.Laws.{PartsAreWithinReach}
 
 -- the nearest point of a region is no further away than any of it
-reach : (region : Region) (len : ℕ) (place first : Spot) → IsWithin region len place → IsNearest region place first
+reach : (region : Region) (len : ℕ) (place first : Spot) → IsInReach region len place → IsNearest region place first
     → distance_of first place ≤ len
 reach region len place first near is = omega (arith, near.near, is.nearest near.from near.inside)
 

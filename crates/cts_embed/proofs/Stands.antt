@@ -30,7 +30,8 @@ use Rattle.cts_tree.specs.declared.nodes.NodeKind.TheVariants as kinds
 use Rattle.cts_embed.specs.Leaves.{IsIdOf, IsLeafOf}
 use Rattle.cts_embed.specs.Places.{IsNodePlace, IsPairPlace, kind_of}
 use Rattle.cts_embed.specs.Prepared.{IsFreeMapOf}
-use Rattle.cts_embed.proofs.FreePlaces.{in_die_in_range, nearest_in_die}
+use Rattle.cts_elmore.proofs.InDie.{in_die_in_range}
+use Rattle.cts_embed.proofs.FreePlaces.{nearest_in_die}
 
 -- a free point that a map finds
 pub free_in_range : (parts : Parts) (free : Floorplan) → IsFreeMapOf parts free → (buffered : Bool) (at place : Spot)
@@ -90,7 +91,7 @@ pub pair_place_is : (parts : Parts) (l r : ℕ) (n : ShapeNode) (f : Finished) (
 unfolding IsNodePlace
 pair_place_is parts l r n f from place is pair = subst (λ m. IsNodePlace parts m f from place) (sym is) pair
 
-sinks_in_range : (parts : Parts) → IsValid parts → AreSinksInRange parts.sinks
+pub sinks_in_range : (parts : Parts) → IsValid parts → AreSinksInRange parts.sinks
 sinks_in_range parts ok = record {
   few = ok.sink_count;
   each = λ k d h.

@@ -7,7 +7,7 @@ use Rattle.std.proofs.lemmas.List.{drop_more, drop_all}
 use Rattle.std.proofs.lemmas.Option.{get_or_from_slice_get, slice_get_within}
 use Rattle.cts_geom.specs.declared.points.Spot.{Spot}
 use Rattle.cts_geom.specs.Points.{IsSpotInRange, point_of, spot_at}
-use Rattle.cts_block.specs.FreePoints.{IsInDie}
+use Rattle.cts_block.specs.FreePoints.{IsHalfInDie}
 use Rattle.cts_units.specs.declared.params.Sink.{Sink}
 use Rattle.cts_postorder.specs.BinaryTree.{BinaryTree, tip, fork, label}
 use Rattle.cts_postorder.specs.PostOrder.{IsPostOrder, trees_of}
@@ -19,7 +19,7 @@ use Rattle.cts_postorder.proofs.Zips.{all_zip-at}
 use Rattle.cts_postorder.proofs.Lists.{IsPair, is_pair, Whole, whole_of, length-occurrences_of, trees_of-here}
 use Rattle.cts_postorder.proofs.Handed.{AreHanded, handed_at_start, some_handed, handed_here, handed_at_leaf, handed_at_pair}
 use Rattle.cts_instance.specs.declared.parts.Parts.{Parts}
-use Rattle.cts_instance.specs.Places.{IsInDie as IsWholeInDie}
+use Rattle.cts_block.specs.Places.{IsInDie}
 use Rattle.cts_instance.specs.Validity.{IsValid, IsSink}
 use Rattle.cts_topo.specs.declared.shape.ShapeNode.{ShapeNode}
 use Rattle.cts_topo.specs.declared.shape.ShapeNode.TheVariants.{Leaf, Pair}
@@ -29,10 +29,11 @@ use Rattle.cts_up.specs.Plan.{IsFinished, IsPlan}
 use Rattle.cts_tree.specs.declared.nodes.TreeNode.{TreeNode}
 use Rattle.cts_embed.specs.Places.{IsNodePlace, IsPlaceBelow, IsRouteStart, source_of}
 use Rattle.cts_embed.specs.PlacedTree.{IsCutFrom, IsCutNode, IsPlacedFrom, IsPlacedNode}
-use Rattle.cts_embed.proofs.FreePlaces.{nearest_in_die, in_die_in_range}
+use Rattle.cts_elmore.proofs.InDie.{in_die_in_range}
+use Rattle.cts_embed.proofs.FreePlaces.{nearest_in_die}
 
 -- a point of whole nm in the die
-spot_in_die : (parts : Parts) (x y : ℤ) → IsWholeInDie parts.die x y → IsInDie parts.die (point_of (spot_at x y))
+spot_in_die : (parts : Parts) (x y : ℤ) → IsInDie parts.die x y → IsHalfInDie parts.die (point_of (spot_at x y))
 spot_in_die parts x y is = record {
   x = record { at_least = omega (arith, ints, is.west); at_most = omega (arith, ints, is.east) };
   y = record { at_least = omega (arith, ints, is.south); at_most = omega (arith, ints, is.north) };
@@ -40,30 +41,30 @@ spot_in_die parts x y is = record {
 
 -- every place lies in the die
 pub place_in_die : (parts : Parts) (n : ShapeNode) (f : Finished) (from place : Spot) → IsValid parts → IsNodePlace parts n f from place
-    → IsInDie parts.die (point_of place)
+    → IsHalfInDie parts.die (point_of place)
 unfolding IsNodePlace
 place_in_die parts (Leaf s) f from place ok is = by_sink (slice_get parts.sinks s) refl is
   where
     by_sink : (o : Option Sink) → slice_get parts.sinks s ≡ o → MatchOption o ⊥ (λ x. place ≡ spot_at x.x x.y)
-        → IsInDie parts.die (point_of place)
+        → IsHalfInDie parts.die (point_of place)
     by_sink None e is = absurd is
     by_sink (Some sink) e is =
         let s_ok : IsSink parts.version parts.die sink =
         subst (IsSink parts.version parts.die) (get_or_from_slice_get parts.sinks s sink sink e)
         (ok.sinks s sink (slice_get_within parts.sinks s sink e)) in
-        subst (λ q. IsInDie parts.die (point_of q)) (sym is) (spot_in_die parts sink.x sink.y s_ok.in_die)
+        subst (λ q. IsHalfInDie parts.die (point_of q)) (sym is) (spot_in_die parts sink.x sink.y s_ok.in_die)
 place_in_die parts (Pair l r) f from place ok is = nearest_in_die parts.blocks parts.die _ is.first place is.moved
 
 pub start_in_die : (parts : Parts) (up : List (BinaryTree ShapeNode)) (from : Spot) → IsValid parts → IsRouteStart parts up from
-    → IsInDie parts.die (point_of from)
+    → IsHalfInDie parts.die (point_of from)
 unfolding IsRouteStart
 start_in_die parts [] from ok is =
-    subst (λ q. IsInDie parts.die (point_of q)) (sym is) (spot_in_die parts parts.source_x parts.source_y ok.source)
+    subst (λ q. IsHalfInDie parts.die (point_of q)) (sym is) (spot_in_die parts parts.source_x parts.source_y ok.source)
 start_in_die parts (pair ∷ up) from ok is =
     place_in_die parts (label pair) is.2.node is.0 from ok is.2.is_place
 
 pub placed_in_die : (parts : Parts) (n : ShapeNode) (f : Finished) (from : Spot) (node : TreeNode) → IsValid parts
-    → IsPlacedFrom parts n f from node → IsInDie parts.die (point_of node.place)
+    → IsPlacedFrom parts n f from node → IsHalfInDie parts.die (point_of node.place)
 placed_in_die parts n f from node ok is = place_in_die parts n f from node.place ok is.place
 
 -- where the route to the node of a number starts

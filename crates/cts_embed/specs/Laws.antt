@@ -1,13 +1,14 @@
 -- What holds of every placed tree and its balance.
-use Rattle.std.specs.Prelude.{◌≡◌, ℕ, ◌≤◌, List, length, map, All}
+use Rattle.std.specs.Prelude.{◌≡◌, ℕ, ◌≤◌, ◌⊎◌, List, length, map, All}
 use Rattle.std.specs.Option.{is_some}
 use Rattle.cts_geom.specs.declared.points.Spot.{Spot}
 use Rattle.cts_geom.specs.Points.{point_of, distance_of}
 use Rattle.cts_geom.specs.Regions.{ContainsSpot}
-use Rattle.cts_block.specs.FreePoints.{IsInDie}
+use Rattle.cts_block.specs.FreePoints.{IsHalfInDie}
 use Rattle.cts_block.specs.NearestFree.{IsFree}
 use Rattle.cts_units.specs.declared.params.Sink.{Sink}
 use Rattle.cts_units.specs.declared.params.Params.{Params}
+use Rattle.cts_units.specs.Limits.{IsWire}
 use Rattle.cts_postorder.specs.BinaryTree.{BinaryTree, fork}
 use Rattle.cts_postorder.specs.PostOrder.{IsPostOrder}
 use Rattle.cts_tree.specs.declared.nodes.TreeNode.{TreeNode}
@@ -15,9 +16,9 @@ use Rattle.cts_tree.specs.Nodes.{tree_children}
 use Rattle.cts_instance.specs.declared.parts.Parts.{Parts}
 use Rattle.cts_instance.specs.Validity.{IsValid}
 use Rattle.cts_topo.specs.declared.shape.ShapeNode.{ShapeNode}
-use Rattle.cts_topo.specs.Shape.{IsShapeOver}
+use Rattle.cts_topo.specs.Shape.{children, IsShapeOver}
 use Rattle.cts_merge.specs.declared.side.Finished.{Finished}
-use Rattle.cts_up.specs.Plan.{IsFinished}
+use Rattle.cts_up.specs.Plan.{IsFinished, IsPlan}
 use Rattle.cts_embed.specs.Places.{IsFirstPlace, IsPairPlace}
 use Rattle.cts_embed.specs.PlacedTree.{IsPlacedTree, IsGreatestCut}
 use Rattle.cts_embed.specs.Fitting.{Fits}
@@ -41,6 +42,13 @@ abbrev pub GreatestCutIsOne : Type 0
 GreatestCutIsOne =
     (parts : Parts) (shape : List ShapeNode) (j k : ℕ) → IsGreatestCut parts shape j → IsGreatestCut parts shape k → j ≡ k
 
+-- a plan of a valid instance has a placed tree, or else a node that is cut
+abbrev pub PlansArePlacedOrCut : Type 0
+PlansArePlacedOrCut =
+    (parts : Parts) (shape : List ShapeNode) (plan : List Finished) → IsValid parts → IsPostOrder (map children shape)
+    → IsPlan parts.params parts.sinks shape plan
+    → ((placed : List TreeNode) × IsPlacedTree parts shape placed) ⊎ ((k : ℕ) × IsGreatestCut parts shape k)
+
 -- a placed tree names what the instance has
 abbrev pub PlacedTreesFit : Type 0
 PlacedTreesFit =
@@ -51,7 +59,7 @@ PlacedTreesFit =
 abbrev pub PlacesLieInDie : Type 0
 PlacesLieInDie =
     (parts : Parts) (shape : List ShapeNode) (placed : List TreeNode) → IsPlacedTree parts shape placed → IsValid parts
-    → All (λ node. IsInDie parts.die (point_of node.place)) placed
+    → All (λ node. IsHalfInDie parts.die (point_of node.place)) placed
 
 -- the place of a pair is free for what the pair has
 abbrev pub PairPlacesAreFree : Type 0
@@ -91,3 +99,9 @@ abbrev pub LeastBeyondIsOne : Type 0
 LeastBeyondIsOne =
     (parts : Parts) (placed : List TreeNode) (j k : ℕ) → IsPostOrder (map tree_children placed)
     → IsLeastBeyond parts placed j → IsLeastBeyond parts placed k → j ≡ k
+
+-- a placed tree has a balanced tree, or else a node that is beyond
+abbrev pub PlacedTreesAreBalancedOrBeyond : Type 0
+PlacedTreesAreBalancedOrBeyond =
+    (parts : Parts) (placed : List TreeNode) → IsWire parts.params.wire → IsPostOrder (map tree_children placed) → Fits parts placed
+    → ((tree : List TreeNode) × IsBalancedTree parts placed tree) ⊎ ((k : ℕ) × IsLeastBeyond parts placed k)

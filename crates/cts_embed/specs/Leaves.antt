@@ -19,8 +19,8 @@ IsIdOf sinks (Leaf sink) id = MatchOption (slice_get sinks sink) ⊥ (λ s. s.id
 IsIdOf sinks (Pair left right) id = Unit {0}
 
 -- the ids of the sinks that the leaves name, from the left
-abbrev pub leaf_ids : List Sink → List ShapeNode → List ℕ
-leaf_ids sinks nodes = filter_map (λ sink. option_map (λ (s : Sink). s.id) (slice_get sinks sink)) (leaf_sinks nodes)
+abbrev pub ids_of_leaves : List Sink → List ShapeNode → List ℕ
+ids_of_leaves sinks nodes = filter_map (λ sink. option_map (λ (s : Sink). s.id) (slice_get sinks sink)) (leaf_sinks nodes)
 
 -- what one node has of such a list: a leaf this id, a pair none
 unfoldable pub own_ids : ShapeNode → ℕ → List ℕ

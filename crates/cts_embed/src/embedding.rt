@@ -11,7 +11,7 @@ ghost use Rattle.cts_embed.specs.Prepared.{IsGroundOf};
 
 use crate::end::EmbedEnd;
 use crate::ground::Ground;
-use crate::ids::{leaf_ids, take_id};
+use crate::ids::{ids_of_leaves, take_id};
 use crate::placing::{ground_of, place_node, source_place};
 use cts_instance::Instance;
 use cts_merge::Finished;
@@ -38,7 +38,7 @@ fn place_nodes(
     ensures fits { IfOk result (λ placed. Fits instance.now placed.items) }
     ensures ends { IfErr result (EmbedEnds instance.now nodes.now) }
 {
-    let mut ids = leaf_ids(alloc, instance.sinks(), nodes)?;
+    let mut ids = ids_of_leaves(alloc, instance.sinks(), nodes)?;
     let mut starts = Vec::new(alloc);
     starts.push(source_place(instance))?;
     // Once it is full its first node stands at the start of its block, so the `Vec` is that block: no node moves.

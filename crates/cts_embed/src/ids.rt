@@ -2,7 +2,7 @@
 
 ghost use Rattle.std.specs.Prelude.{◌≡◌, ℕ, List, ◌++◌, length, IfOk};
 ghost use Rattle.cts_topo.specs.Shape.{IsShapeOver};
-ghost use Rattle.cts_embed.specs.Leaves.{leaf_ids, own_ids};
+ghost use Rattle.cts_embed.specs.Leaves.{ids_of_leaves, own_ids};
 
 use cts_num::NoMemory;
 use cts_topo::ShapeNode;
@@ -11,13 +11,13 @@ use std::alloc::Global;
 
 /// The ids of the sinks in the order of the leaves that name them. They are looked up before the pass, since each
 /// look-up goes far in memory, and a node that waits for one takes far longer.
-pub(crate) fn leaf_ids(
+pub(crate) fn ids_of_leaves(
     alloc: Global,
     sinks: &[Sink],
     nodes: &[ShapeNode],
 ) -> Result<Vec<u32>, NoMemory>
     requires shape { IsShapeOver (length sinks.now) nodes.now }
-    ensures { IfOk result (λ ids. ids.items ≡ leaf_ids sinks.now nodes.now) }
+    ensures { IfOk result (λ ids. ids.items ≡ ids_of_leaves sinks.now nodes.now) }
 {
     let mut ids: Vec<u32> = Vec::with_capacity(alloc, sinks.len())?;
     for node in nodes {

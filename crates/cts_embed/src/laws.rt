@@ -4,6 +4,7 @@ ghost use Rattle.cts_embed.specs.Laws.{
   PlacedTreeIsOne,
   PlacedIsNotCut,
   GreatestCutIsOne,
+  PlansArePlacedOrCut,
   PlacedTreesFit,
   PlacesLieInDie,
   PairPlacesAreFree,
@@ -12,6 +13,7 @@ ghost use Rattle.cts_embed.specs.Laws.{
   BalancedTreeIsOne,
   BalancedIsNotBeyond,
   LeastBeyondIsOne,
+  PlacedTreesAreBalancedOrBeyond,
 };
 
 /// A shape has one placed tree at most.
@@ -27,6 +29,11 @@ pub fn placed_is_not_cut()
 /// One number at most is the greatest of a node that is cut.
 pub fn greatest_cut_is_one()
     ensures { GreatestCutIsOne }
+{}
+
+/// Every plan of a valid instance has a placed tree or a node that is cut.
+pub fn plans_are_placed_or_cut()
+    ensures { PlansArePlacedOrCut }
 {}
 
 /// A placed tree has no more nodes than a tree over 65,536 sinks, and names sinks and buffers of the
@@ -69,4 +76,9 @@ pub fn balanced_is_not_beyond()
 /// One number at most is the least of a node that is beyond in the balance.
 pub fn least_beyond_is_one()
     ensures { LeastBeyondIsOne }
+{}
+
+/// Every placed tree has a balanced tree or a node that is beyond in the balance.
+pub fn placed_trees_are_balanced_or_beyond()
+    ensures { PlacedTreesAreBalancedOrBeyond }
 {}

@@ -6,7 +6,8 @@
 //! [`balance`], or to [`balance_with`] where it has listed the pins of the leaves (`cts_elmore::pins`),
 //! and takes the tree, or the least node that is beyond; it cites `specs/Balance.antt`, which tells by a recursion on
 //! the tree what the balance makes of each node, and `specs/BalancedTree.antt`, which tells the nodes of the balanced
-//! tree in the same way. The laws of [`laws`] say that there is one answer to each, and where places lie.
+//! tree in the same way. The laws of [`laws`] say that there is exactly one answer to each, and where
+//! places lie.
 #![tactic(auto)]
 
 mod balancing;

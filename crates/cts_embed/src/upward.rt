@@ -1,8 +1,7 @@
 //! The steps of the balance upward: what it makes of a leaf, of a pair and of the root.
 
-ghost use Rattle.std.specs.Prelude.{◌≡◌, ◌^◌, ◌<◌, ◌≤◌, ◌++◌, ◌∷◌, ◌↔◌, [], IsTrue, length, vec_len, IfOk, IfErr, MatchOption};
+ghost use Rattle.std.specs.Prelude.{◌≡◌, ◌^◌, ◌<◌, ◌≤◌, ◌∷◌, ◌↔◌, IsTrue, length, IfOk, IfErr, MatchOption};
 ghost use Rattle.std.specs.Slice.Iter.{iter_rest};
-ghost use Rattle.cts_units.specs.Choice.{added_delay_of, seen_load_of};
 ghost use Rattle.cts_units.specs.Limits.{IsParams, max_length, max_load};
 ghost use Rattle.cts_merge.specs.LeastPair.{IsTooLong, Covers};
 ghost use Rattle.cts_elmore.specs.Loads.{pin_of};
@@ -14,7 +13,7 @@ use cts_elmore::Pin;
 use cts_geom::Region;
 use cts_instance::Instance;
 use cts_merge::{Beyond, Side, choose};
-use cts_units::{MAX_DELAY, MAX_LENGTH, MAX_LOAD, Params, Sink, buffer_delay, wire_delay};
+use cts_units::{MAX_DELAY, MAX_LENGTH, MAX_LOAD, Params, Sink, buffered, wire_delay};
 use std::slice;
 
 /// A node as `choose` takes it, which looks at no region.
@@ -63,25 +62,6 @@ fn delay_through(params: &Params, node: &NodeBalance, length: u64) -> u128
     ensures bound { result ≤ 2 ^ 111 }
 {
     node.greatest + wire_delay(params.wire, length, node.load)
-}
-
-/// The delay that a node's buffer adds over a load, and the load that is seen from above it.
-fn buffered(params: &Params, buffer: Option<u16>, load: u64) -> (u128, u64)
-    requires params { IsParams params.now }
-    requires load { load ≤ max_load }
-    requires buffer { MatchOption buffer (Unit {0}) (λ index. index < length params.now.library) }
-    ensures added { result.0 ≡ added_delay_of params.now.library buffer load }
-    ensures added_bound { result.0 ≤ 2 ^ 118 }
-    ensures seen { result.1 ≡ seen_load_of params.now.library buffer load }
-    ensures seen_bound { result.1 ≤ max_load }
-{
-    match buffer {
-        Some(index) => {
-            let chosen = params.library.items()[index as usize];
-            (buffer_delay(chosen, load), chosen.cin)
-        }
-        None => (0, load),
-    }
 }
 
 /// A pair with this buffer over two children and the routes to them.
@@ -141,17 +121,6 @@ pub(crate) fn leaf_balance(pin: Pin) -> NodeBalance
         left_wire: 0,
         right_wire: 0,
     }
-}
-
-/// The two latest of the balances that wait, the earlier one first. They leave the list.
-pub(crate) fn take_pair(waiting: &mut Vec<NodeBalance>) -> (NodeBalance, NodeBalance)
-    requires two { 2 ≤ vec_len waiting.old }
-    ensures { waiting.old.items ≡ waiting.new.items ++ result.0 ∷ result.1 ∷ [] }
-{
-    let (Some(second), Some(first)) = (waiting.pop(), waiting.pop()) else {
-        unreachable!()
-    };
-    (first, second)
 }
 
 /// Whether the limits that are asked of the root alone are met, with a wire of this length above it.

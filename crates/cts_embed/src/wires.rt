@@ -9,9 +9,10 @@ ghost use Rattle.cts_embed.specs.Ends.{BalanceEnds};
 ghost use Rattle.cts_embed.specs.Fitting.{Fits};
 
 use crate::end::BalanceEnd;
-use crate::upward::{is_root_within, leaf_balance, pair_balance, take_pair, take_pin};
+use crate::upward::{is_root_within, leaf_balance, pair_balance, take_pin};
 use cts_elmore::Pin;
 use cts_instance::Instance;
+use cts_postorder::take_pair;
 use cts_tree::{NodeKind, TreeNode};
 use std::alloc::Global;
 

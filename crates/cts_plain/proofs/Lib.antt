@@ -12,3 +12,4 @@ pub mod Settled
 pub mod FewCorners
 pub mod Placing
 pub mod Counted
+pub mod Exists

@@ -1,35 +1,19 @@
 -- Over one shape there is one synthesis.
-use Rattle.std.proofs.Common.{◌≡◌, ℕ, inl, inr, List, map, length, sym, ap, subst}
-use Rattle.cts_postorder.specs.BinaryTree.{label}
-use Rattle.cts_postorder.specs.PostOrder.{IsPostOrder}
-use Rattle.cts_postorder.specs.Occurrence.{Occurrence}
-use Rattle.cts_postorder.proofs.Decorated.{same_children}
+use Rattle.std.proofs.Common.{◌≡◌, ℕ, inl, inr, List, length, ap, subst}
 use Rattle.cts_tree.specs.declared.nodes.TreeNode.{TreeNode}
-use Rattle.cts_tree.specs.Nodes.{tree_children}
 use Rattle.cts_instance.specs.declared.parts.Parts.{Parts}
 use Rattle.cts_topo.specs.declared.shape.ShapeNode.{ShapeNode}
-use Rattle.cts_topo.specs.Shape.{children, IsShapeOver}
+use Rattle.cts_topo.specs.Shape.{IsShapeOver}
 use Rattle.cts_up.proofs.Unique.{plan_not_beyond, least_beyond_one}
-use Rattle.cts_embed.specs.PlacedTree.{IsPlacedNode, IsPlacedTree}
 use Rattle.cts_embed.specs.BalancedTree.{IsBalancedTree}
 use Rattle.cts_embed.specs.BalancedTree.{IsLeastBeyond as IsBeyondInBalance}
-use Rattle.cts_embed.proofs.NodeKinds.{same_kids}
 use Rattle.cts_embed.proofs.OnePlace.{placed_tree_one, placed_not_cut, greatest_cut_one}
+use Rattle.cts_embed.proofs.PlacedFits.{placed_post_order}
 use Rattle.cts_embed.proofs.Unique.{balanced_tree_one}
 use Rattle.cts_embed.proofs.Beyond.{balanced_tree_not_beyond}
 use Rattle.cts_embed.proofs.Beyond.{least_beyond_one as balance_beyond_one}
 use Rattle.cts_plain.specs.Synthesis.{Synthesis, made, beyond, cut, IsSynthesisOver, IsTreeOf, IsBeyondOf}
 use Rattle.cts_plain.specs.Laws.{SynthesisIsOne}
-
--- a placed tree is in post-order, as its shape is
-pub placed_post_order : (i : Parts) (shape : List ShapeNode) → IsShapeOver (length i.sinks) shape → (placed : List TreeNode)
-    → IsPlacedTree i shape placed → IsPostOrder (map tree_children placed)
-placed_post_order i shape over placed all =
-    subst IsPostOrder
-    (sym (same_children children tree_children (IsPlacedNode i)
-    (λ (o : Occurrence ShapeNode) m is. same_kids i.sinks (label o.here) is.finished.buffer m.kind is.placed.kind)
-    shape over.post_order placed all))
-    over.post_order
 
 module _ (i : Parts) (shape : List ShapeNode) (over : IsShapeOver (length i.sinks) shape) where
   trees_same : (a b : List TreeNode) → IsTreeOf i shape a → IsTreeOf i shape b → a ≡ b
@@ -40,13 +24,13 @@ module _ (i : Parts) (shape : List ShapeNode) (over : IsShapeOver (length i.sink
   tree_not_beyond : (a : List TreeNode) (k : ℕ) → IsTreeOf i shape a → ¬ IsBeyondOf i shape k
   tree_not_beyond a k p q =
       let same : p.placed ≡ q.placed = placed_tree_one i shape p.placed q.placed p.is_placed q.is_placed in
-      balanced_tree_not_beyond i q.placed a k (placed_post_order i shape over q.placed q.is_placed)
+      balanced_tree_not_beyond i q.placed a k (placed_post_order i shape q.placed q.is_placed over.post_order)
       (subst (λ x. IsBalancedTree i x a) same p.is_balanced) q.is_beyond
 
   beyond_same : (j k : ℕ) → IsBeyondOf i shape j → IsBeyondOf i shape k → j ≡ k
   beyond_same j k p q =
       let same : p.placed ≡ q.placed = placed_tree_one i shape p.placed q.placed p.is_placed q.is_placed in
-      balance_beyond_one i q.placed j k (placed_post_order i shape over q.placed q.is_placed)
+      balance_beyond_one i q.placed j k (placed_post_order i shape q.placed q.is_placed over.post_order)
       (subst (λ x. IsBeyondInBalance i x j) same p.is_beyond) q.is_beyond
 
   one : (a b : Synthesis) → IsSynthesisOver i shape a → IsSynthesisOver i shape b → a ≡ b

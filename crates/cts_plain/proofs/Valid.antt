@@ -1,14 +1,14 @@
 -- A valid instance has one synthesis, and a tree that it comes to is sound.
-use Rattle.std.proofs.Common.{◌≡◌, List, length, get_or, arith}
-use Rattle.std.proofs.lemmas.Int.{ints}
+use Rattle.std.proofs.Common.{◌≡◌, List, length, arith}
 use Rattle.cts_tree.specs.declared.nodes.TreeNode.{TreeNode}
 use Rattle.cts_instance.specs.declared.parts.Parts.{Parts}
-use Rattle.cts_instance.specs.Validity.{IsSink, IsValid}
+use Rattle.cts_instance.specs.Validity.{IsValid}
 use Rattle.cts_topo.specs.Shape.{IsShapeOver}
 use Rattle.cts_topo.specs.Sinks.{AreSinks}
 use Rattle.cts_topo.specs.Topology.{shape_of}
 use Rattle.cts_topo.proofs.Whole.{shapes_name_each_sink_lem}
 use Rattle.cts_elmore.specs.Sound.{IsSound}
+use Rattle.cts_embed.proofs.Stands.{sinks_in_range}
 use Rattle.cts_plain.specs.Synthesis.{Synthesis, made, IsSynthesis}
 use Rattle.cts_plain.proofs.Sound.{trees_sound}
 use Rattle.cts_plain.proofs.Unique.{synthesis_one}
@@ -17,14 +17,7 @@ sinks_are : (i : Parts) → IsValid i → AreSinks i.sinks
 sinks_are i valid = record {
   some = omega (arith, valid.some_sink);
   few = valid.sink_count;
-  placed = λ k d h.
-      let s : IsSink i.version i.die (get_or i.sinks k d) = valid.sinks k d h in
-      record {
-        x_low = omega (arith, ints, s.in_die.west, valid.die.x_low);
-        x_high = omega (arith, ints, s.in_die.east, valid.die.x_high);
-        y_low = omega (arith, ints, s.in_die.south, valid.die.y_low);
-        y_high = omega (arith, ints, s.in_die.north, valid.die.y_high);
-      };
+  placed = λ k d h. ((sinks_in_range i valid).each k d h).placed;
   distinct = valid.ids;
 }
 

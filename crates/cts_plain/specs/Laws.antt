@@ -6,15 +6,33 @@ use Rattle.cts_instance.specs.declared.parts.Parts.{Parts}
 use Rattle.cts_instance.specs.Validity.{IsValid}
 use Rattle.cts_topo.specs.declared.shape.ShapeNode.{ShapeNode}
 use Rattle.cts_topo.specs.Shape.{IsShapeOver}
-use Rattle.cts_elmore.specs.Sound.{IsSound}
+use Rattle.cts_up.specs.Plan.{IsLeastBeyond as IsBeyondInPlan}
+use Rattle.cts_elmore.specs.Sound.{IsSound, StandsInDie}
 use Rattle.cts_elmore.specs.Fits.{FitsInstance}
-use Rattle.cts_plain.specs.Synthesis.{Synthesis, cut, IsTreeOf, IsSynthesisOver, StandsInDie}
+use Rattle.cts_plain.specs.Synthesis.{Synthesis, cut, IsBeyondOf, IsTreeOf, IsSynthesis, IsSynthesisOver}
 
 -- over one shape there is one synthesis
 abbrev pub SynthesisIsOne : Type 0
 SynthesisIsOne =
     (i : Parts) (shape : List ShapeNode) (a b : Synthesis) → IsShapeOver (length i.sinks) shape
     → IsSynthesisOver i shape a → IsSynthesisOver i shape b → a ≡ b
+
+-- over each shape a valid instance has a synthesis
+abbrev pub SynthesisExists : Type 0
+SynthesisExists =
+    (i : Parts) (shape : List ShapeNode) → IsValid i → IsShapeOver (length i.sinks) shape
+    → (synthesis : Synthesis) × IsSynthesisOver i shape synthesis
+
+-- so a valid instance has exactly one synthesis: a tree, or the number of the one node at which there is none
+abbrev pub InstancesHaveOneSynthesis : Type 0
+InstancesHaveOneSynthesis =
+    (i : Parts) → IsValid i
+    → (synthesis : Synthesis) × IsSynthesis i synthesis × ((other : Synthesis) → IsSynthesis i other → other ≡ synthesis)
+
+-- where a node is beyond in the plan, none is in the balance
+abbrev pub BeyondHasOneReason : Type 0
+BeyondHasOneReason =
+    (i : Parts) (shape : List ShapeNode) (j k : ℕ) → IsBeyondInPlan i.params i.sinks shape j → IsBeyondOf i shape k → ⊥
 
 -- the tree of a shape is sound, stands in the die, and is made of the instance's sinks and buffers
 abbrev pub TreesAreSound : Type 0

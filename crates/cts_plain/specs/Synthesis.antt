@@ -1,9 +1,6 @@
 -- The synthesis of an instance, as a definition: a plan upward, places and routes downward, and the wires balanced upward
 -- again. Where one of these ends early there is no tree.
-use Rattle.std.specs.Prelude.{ℕ, ◌⊎◌, List, All}
-use Rattle.cts_geom.specs.declared.bounds.Die.{Die}
-use Rattle.cts_geom.specs.Points.{point_of}
-use Rattle.cts_block.specs.FreePoints.{IsInDie}
+use Rattle.std.specs.Prelude.{ℕ, ◌⊎◌, List}
 use Rattle.cts_tree.specs.declared.nodes.TreeNode.{TreeNode}
 use Rattle.cts_instance.specs.declared.parts.Parts.{Parts}
 use Rattle.cts_topo.specs.declared.shape.ShapeNode.{ShapeNode}
@@ -60,8 +57,3 @@ module _ (i : Parts) (shape : List ShapeNode) where
 -- the synthesis of an instance is that over the shape of its sinks
 abbrev pub IsSynthesis : Parts → Synthesis → Type 0
 IsSynthesis i synthesis = IsSynthesisOver i (shape_of i.sinks) synthesis
-
--- a node stands in the die, and so do the corners of its route
-pub record StandsInDie (die : Die) (node : TreeNode) : Type 0 where
-  pub place : IsInDie die (point_of node.place)
-  pub corners : All (IsInDie die) node.route.corners

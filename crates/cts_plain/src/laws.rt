@@ -1,10 +1,34 @@
 //! What holds of every synthesis, as laws: each is the contract of a function that does nothing.
 
-ghost use Rattle.cts_plain.specs.Laws.{NothingIsCutWithoutWalls, SynthesisIsOne, TreesAreSound, TreesHaveFewCorners};
+ghost use Rattle.cts_plain.specs.Laws.{
+  BeyondHasOneReason,
+  InstancesHaveOneSynthesis,
+  NothingIsCutWithoutWalls,
+  SynthesisExists,
+  SynthesisIsOne,
+  TreesAreSound,
+  TreesHaveFewCorners,
+};
 
 /// Over one shape there is one synthesis at most.
 pub fn synthesis_is_one()
     ensures { SynthesisIsOne }
+{}
+
+/// Over each shape of its sinks a valid instance has a synthesis.
+pub fn synthesis_exists()
+    ensures { SynthesisExists }
+{}
+
+/// A valid instance has exactly one synthesis: a tree, or the number of the one node that is beyond or
+/// cut.
+pub fn instances_have_one_synthesis()
+    ensures { InstancesHaveOneSynthesis }
+{}
+
+/// Where a node is beyond in the plan, no node is beyond in the balance.
+pub fn beyond_has_one_reason()
+    ensures { BeyondHasOneReason }
 {}
 
 /// The tree of a shape is sound, stands in the die, and is made of the instance's sinks and buffers.

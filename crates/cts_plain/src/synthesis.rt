@@ -7,9 +7,18 @@ ghost use Rattle.cts_topo.specs.Topology.{shape_of};
 ghost use Rattle.cts_up.specs.Plan.{IsPlan};
 ghost use Rattle.cts_embed.specs.Fitting.{Fits};
 ghost use Rattle.cts_elmore.specs.Figures.{AreFigures, AreFiguresInRange};
-ghost use Rattle.cts_elmore.specs.Sound.{IsSound};
-ghost use Rattle.cts_plain.specs.Ends.{CountsInPlaces, CountsMerges, Ends, EndsInBalance, EndsInPlaces, EndsWithPlan};
-ghost use Rattle.cts_plain.specs.Synthesis.{IsPlacedBy, IsSynthesis, IsSynthesisOver, StandsInDie, made};
+ghost use Rattle.cts_elmore.specs.Sound.{IsSound, StandsInDie};
+ghost use Rattle.cts_plain.specs.Ends.{
+  CountsInPlaces,
+  CountsMerges,
+  CountsMergesOver,
+  Ends,
+  EndsBy,
+  EndsInBalance,
+  EndsInPlaces,
+  EndsWithPlan,
+};
+ghost use Rattle.cts_plain.specs.Synthesis.{IsPlacedBy, IsSynthesis, IsSynthesisOver, made};
 
 use crate::end::NoTree;
 use cts_elmore::{Figures, measure_with, pins};
@@ -70,8 +79,27 @@ fn settle(alloc: Global, instance: &Instance, placed: Placed) -> Result<(Tree, F
     Ok((tree, figures))
 }
 
-/// The nodes of an instance's tree in their places, with the routes to them. The shape and the sites of its
-/// plan, which nobody reads after it, go.
+/// The nodes of the tree of a shape in their places, with the routes to them. The sites of its plan, which nobody
+/// reads after it, go.
+fn place_over<L: Ledger>(
+    alloc: Global,
+    instance: &Instance,
+    shape: &Shape,
+    steps: &mut Steps<L>,
+) -> Result<Placed, NoTree>
+    requires { IsShapeOver (length instance.now.sinks) shape.now }
+    ensures fits { IfOk result (Fits instance.now) }
+    ensures placed { IfOk result (IsPlacedBy instance.now shape.now) }
+    ensures ends { IfErr result (EndsInPlaces instance.now shape.now) }
+    ensures merges { OnOk result (steps.new + 1 ≡ steps.old + length instance.now.sinks) }
+    ensures merges_until { IfErr result (CountsInPlaces instance.now shape.now steps.old steps.new) }
+    ensures merges_at_most { steps.new + 1 ≤ steps.old + length instance.now.sinks }
+{
+    let sites = sites(alloc, instance.params(), instance.sinks(), shape, steps)?;
+    Ok(embed_sites(alloc, instance, shape, sites.as_slice())?)
+}
+
+/// The same over the shape of the instance's sinks, which goes too.
 fn place<L: Ledger>(
     alloc: Global,
     instance: &Instance,
@@ -82,13 +110,35 @@ fn place<L: Ledger>(
     ensures shape { OnOk result (IsShapeOver (length instance.now.sinks) (shape_of instance.now.sinks)) }
     ensures ends { IfErr result (EndsInPlaces instance.now (shape_of instance.now.sinks)) }
     ensures merges { OnOk result (steps.new + 1 ≡ steps.old + length instance.now.sinks) }
-    ensures merges_until { IfErr result (CountsInPlaces instance.now steps.old steps.new) }
+    ensures merges_until { IfErr result (CountsInPlaces instance.now (shape_of instance.now.sinks) steps.old steps.new) }
     ensures merges_at_most { steps.new + 1 ≤ steps.old + length instance.now.sinks }
 {
-    let sinks = instance.sinks();
-    let shape = topology(alloc, sinks)?;
-    let sites = sites(alloc, instance.params(), sinks, &shape, steps)?;
-    Ok(embed_sites(alloc, instance, &shape, sites.as_slice())?)
+    let shape = topology(alloc, instance.sinks())?;
+    place_over(alloc, instance, &shape, steps)
+}
+
+/// The synthesis of an instance over a shape that has each of its sinks: the tree with its figures, or why there is
+/// none. It ends as [`synthesise`] does, by the plan of this shape.
+pub fn synthesise_over<L: Ledger>(
+    alloc: Global,
+    instance: &Instance,
+    shape: &Shape,
+    steps: &mut Steps<L>,
+) -> Result<(Tree, Figures), NoTree>
+    requires { IsShapeOver (length instance.now.sinks) shape.now }
+    ensures tree { IfOk result (λ r. IsSynthesisOver instance.now shape.now (made r.0)) }
+    ensures figures { IfOk result (λ r. AreFigures instance.now r.0 r.1) }
+    ensures sound { IfOk result (λ r. IsSound instance.now r.0) }
+    ensures one_each { IfOk result (λ r. length r.1.nodes ≡ length r.0) }
+    ensures in_range { IfOk result (λ r. AreFiguresInRange r.1) }
+    ensures in_die { IfOk result (λ r. All (StandsInDie instance.now.die) r.0) }
+    ensures ends { IfErr result (EndsBy (IsSynthesisOver instance.now shape.now)) }
+    ensures merges { OnOk result (steps.new + 1 ≡ steps.old + length instance.now.sinks) }
+    ensures merges_until { IfErr result (CountsMergesOver instance.now shape.now steps.old steps.new) }
+    ensures merges_at_most { steps.new + 1 ≤ steps.old + length instance.now.sinks }
+{
+    let placed = place_over(alloc, instance, shape, steps)?;
+    settle(alloc, instance, placed)
 }
 
 /// The synthesis of an instance by one thread: its tree with the figures, or why it has none.

@@ -17,7 +17,7 @@ use Rattle.cts_route.proofs.Potential.{path_length-step}
 use Rattle.cts_route.proofs.Unique.{IsSimple, joined_simple, shortest-tail}
 
 -- ---- lists in which no element stands twice
-AreApart : {X : Type 0} → List X → Type 0
+unfoldable pub AreApart : {X : Type 0} → List X → Type 0
 AreApart [] = Unit {0}
 AreApart (x ∷ xs) = (Contains xs x → ⊥) × AreApart xs
 
@@ -40,7 +40,7 @@ around x (y ∷ ys) there =
     ]
 
 -- such a list has at most as many elements as a list that has them all
-no_more : {X : Type 0} (xs ys : List X) → AreApart xs → ((z : X) → Contains xs z → Contains ys z) → length xs ≤ length ys
+pub no_more : {X : Type 0} (xs ys : List X) → AreApart xs → ((z : X) → Contains xs z → Contains ys z) → length xs ≤ length ys
 unfolding AreApart
 no_more [] ys apart inside = omega arith
 no_more {X} (x ∷ xs) ys apart inside =
@@ -62,16 +62,17 @@ no_more {X} (x ∷ xs) ys apart inside =
 -- ---- the points of a shortest path
 module _ (Joined : Direction → Half → Half → Type 0) (simple : IsSimple Joined) (q : Half) where
   -- the rest of a path from one of its points on
-  record IsRest (p a : Half) (points : List Half) : Type 0 where
-    back : List Half
-    path : IsPath Joined p back q
-    no_longer : path_length (p ∷ back) ≤ path_length (a ∷ points)
+  pub record IsRest (p a : Half) (points : List Half) : Type 0 where
+    pub back : List Half
+    pub path : IsPath Joined p back q
+    pub no_longer : path_length (p ∷ back) ≤ path_length (a ∷ points)
+    pub apart : AreApart (a ∷ points) → AreApart (p ∷ back)
 
-  rest_from : (p a : Half) (points : List Half) → IsPath Joined a points q → Contains (a ∷ points) p → IsRest p a points
-  unfolding IsPath
+  pub rest_from : (p a : Half) (points : List Half) → IsPath Joined a points q → Contains (a ∷ points) p → IsRest p a points
+  unfolding IsPath AreApart
   rest_from p a [] path there =
       elim (Contains-cases a [] p there) [
-        | inl same ↦ subst (λ x. IsRest x a []) same (record { back = []; path = path; no_longer = omega arith })
+        | inl same ↦ subst (λ x. IsRest x a []) same (record { back = []; path = path; no_longer = omega arith; apart = λ apart. apart })
         | inr later ↦ absurd (nothing_there later)
       ]
     where
@@ -79,13 +80,14 @@ module _ (Joined : Direction → Half → Half → Type 0) (simple : IsSimple Jo
       nothing_there (k, lt, at) = absurd (omega arith)
   rest_from p a (n ∷ points) path there =
       elim (Contains-cases a (n ∷ points) p there) [
-        | inl same ↦ subst (λ x. IsRest x a (n ∷ points)) same (record { back = n ∷ points; path = path; no_longer = omega arith })
+        | inl same ↦ subst (λ x. IsRest x a (n ∷ points)) same (record { back = n ∷ points; path = path; no_longer = omega arith; apart = λ apart. apart })
         | inr later ↦
             let rest : IsRest p n points = rest_from p n points path.1 later in
             record {
               back = rest.back;
               path = rest.path;
               no_longer = let low = rest.no_longer in let e = path_length-step a n points in omega (arith, low, e);
+              apart = λ apart. rest.apart apart.1;
             }
       ]
 
@@ -114,7 +116,7 @@ module _ (Joined : Direction → Half → Half → Type 0) (simple : IsSimple Jo
 abbrev at : ℤ → ℤ → Half
 at x y = record { x = x; y = y }
 
-crossings : List ℤ → List ℤ → List Half
+pub crossings : List ℤ → List ℤ → List Half
 crossings [] ys = []
 crossings (x ∷ xs) ys = map (at x) ys ++ crossings xs ys
 
@@ -135,7 +137,7 @@ on_column x (z ∷ ys) y there =
       | inr later ↦ Contains-later (at x z) (map (at x) ys) (at x y) (on_column x ys y later)
     ]
 
-crossings-all : (xs ys : List ℤ) (p : Half) → Contains xs p.x → Contains ys p.y → Contains (crossings xs ys) p
+pub crossings-all : (xs ys : List ℤ) (p : Half) → Contains xs p.x → Contains ys p.y → Contains (crossings xs ys) p
 unfolding crossings
 crossings-all [] ys p (k, lt, is) y = absurd (omega arith)
 crossings-all (x ∷ xs) ys p there y =

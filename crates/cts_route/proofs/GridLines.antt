@@ -22,7 +22,9 @@ use Rattle.cts_route.specs.declared.view.Window.{Window}
 use Rattle.cts_route.specs.WindowOf.{IsWindowOf}
 use Rattle.cts_route.specs.Grid.{edges_of, fixed_xs, fixed_ys, lines_of}
 use Rattle.cts_route.specs.Grids.{IsNear, IsGrid, IsGridOf}
-use Rattle.cts_route.specs.Limits.{IsDieInRange, IsBlockInRange, AreBlocksInRange, stops_wires}
+use Rattle.cts_block.specs.FreePoints.{stops_wires}
+use Rattle.cts_block.specs.NearestFree.{IsDieInRange}
+use Rattle.cts_route.specs.Limits.{IsBlockInRange, AreBlocksInRange}
 use Rattle.cts_route.specs.LineLists.{line_at, AreLinesOf, AreLinesBetween, IsNumberOf}
 use Rattle.cts_route.specs.Search.{AreLabels}
 use Rattle.cts_route.specs.Windows.{point_at, Stands, AreShortLines}

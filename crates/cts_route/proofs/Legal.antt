@@ -10,7 +10,7 @@ use Rattle.cts_geom.specs.Points.{manhattan_of}
 use Rattle.cts_block.specs.declared.blocks.Block.{Block}
 use Rattle.cts_block.specs.declared.blocks.Kind.{Kind}
 use Rattle.cts_block.specs.declared.blocks.Kind.TheVariants as kind
-use Rattle.cts_block.specs.FreePoints.{IsInDie, IsFreeForWire}
+use Rattle.cts_block.specs.FreePoints.{IsHalfInDie, IsFreeForWire}
 use Rattle.cts_tree.specs.declared.route.Route.{Route}
 use Rattle.cts_tree.specs.Path.{points_along, path_length, HasAxisSteps, IsWithin, IsOnSegment, AllAlong, turns_of, Follows}
 use Rattle.cts_route.specs.declared.direction.Direction.{Direction}
@@ -210,7 +210,7 @@ among : (P : ℤ → Type 0) (lines : List ℤ) (z : ℤ) → All P lines → Co
 among P lines z all (k, within, is) = subst P is (all k z within)
 
 module _ (blocks : List Block) (die : Die) (from to : Half) (ordered_x : die.x1 ≤ℤ die.x2) (ordered_y : die.y1 ≤ℤ die.y2)
-    (all : All (HasCornersIn die) blocks) (from_in : IsInDie die from) (to_in : IsInDie die to) where
+    (all : All (HasCornersIn die) blocks) (from_in : IsHalfInDie die from) (to_in : IsHalfInDie die to) where
   lines_x : All (IsIn die.x1 die.x2) (lines_of blocks die from to).xs
   lines_x =
       let edges : List ℤ = flat_map (λ block. edges_of block.kind block.x1 block.x2) blocks in
@@ -233,7 +233,7 @@ module _ (blocks : List Block) (die : Die) (from to : Half) (ordered_x : die.x1 
       (All-cons (IsIn die.y1 die.y2) (pos 2 *ℤ die.y2) edges (record { at_least = omega (arith, ints); at_most = omega (arith, ints) })
       (ys_in die blocks all))))
 
-  point_in : (p : Half) → IsGridPoint (lines_of blocks die from to) p → IsInDie die p
+  point_in : (p : Half) → IsGridPoint (lines_of blocks die from to) p → IsHalfInDie die p
   point_in p grid =
       let x : IsIn die.x1 die.x2 p.x = among (IsIn die.x1 die.x2) (lines_of blocks die from to).xs p.x lines_x grid.x in
       let y : IsIn die.y1 die.y2 p.y = among (IsIn die.y1 die.y2) (lines_of blocks die from to).ys p.y lines_y grid.y in
@@ -248,8 +248,8 @@ module _ (blocks : List Block) (die : Die) (from to : Half) (ordered_x : die.x1 
     direction = d;
     ahead = j.ahead;
     free = λ r on.
-        let p_in : IsInDie die p = point_in p j.start in
-        let n_in : IsInDie die n = point_in n j.next in
+        let p_in : IsHalfInDie die p = point_in p j.start in
+        let n_in : IsHalfInDie die n = point_in n j.next in
         let x = between _ _ p.x n.x r.x p_in.x.at_least p_in.x.at_most n_in.x.at_least n_in.x.at_most on.x in
         let y = between _ _ p.y n.y r.y p_in.y.at_least p_in.y.at_most n_in.y.at_least n_in.y.at_most on.y in
         record {

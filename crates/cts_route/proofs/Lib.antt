@@ -25,3 +25,8 @@ pub mod WallLists
 pub mod Legal
 pub mod FewCorners
 pub mod Beside
+pub mod Choosing
+pub mod Neighbours
+pub mod ShortestPaths
+pub mod FirstSteps
+pub mod Exists

@@ -2,14 +2,14 @@
 use Rattle.std.specs.Prelude.{◌≡◌, ◌≢◌, ◌*◌, ◌≤◌, ◌↔◌, ◌⊎◌, ◌≤ℤ◌, List, [], ◌∷◌, length, All, count_by}
 use Rattle.cts_geom.specs.declared.bounds.Die.{Die}
 use Rattle.cts_geom.specs.declared.points.Half.{Half}
-use Rattle.cts_geom.specs.Points.{manhattan_of}
+use Rattle.cts_geom.specs.declared.points.Spot.{Spot}
+use Rattle.cts_geom.specs.Points.{manhattan_of, point_of}
 use Rattle.cts_block.specs.declared.blocks.Block.{Block}
 use Rattle.cts_block.specs.declared.blocks.Kind.TheVariants.{Buffer}
-use Rattle.cts_block.specs.FreePoints.{IsInDie, IsFreeForWire}
+use Rattle.cts_block.specs.FreePoints.{IsHalfInDie, IsFreeForWire, stops_wires}
 use Rattle.cts_tree.specs.declared.route.Route.{Route}
 use Rattle.cts_tree.specs.Path.{points_along, path_length, HasAxisSteps, AllAlong}
 use Rattle.cts_route.specs.Grid.{IsClear}
-use Rattle.cts_route.specs.Limits.{stops_wires}
 use Rattle.cts_route.specs.Routes.{IsRoute, IsCut}
 
 -- there is one route at most
@@ -23,6 +23,12 @@ abbrev pub RouteIsNotCut : Type 0
 RouteIsNotCut =
     (blocks : List Block) (die : Die) (from to : Half) (route : Route)
     → IsRoute blocks die from to route → IsCut blocks die from to → ⊥
+
+-- every two spots have a route or are cut
+abbrev pub RoutesExistOrAreCut : Type 0
+RoutesExistOrAreCut =
+    (blocks : List Block) (die : Die) (from to : Spot)
+    → ((route : Route) × IsRoute blocks die (point_of from) (point_of to) route) ⊎ IsCut blocks die (point_of from) (point_of to)
 
 -- where the way along x first and then along y turns
 abbrev pub bend_of : Half → Half → Half
@@ -70,7 +76,7 @@ pub record IsLegalWay (blocks : List Block) (die : Die) (from to : Half) (route 
 abbrev pub RoutesAreLegal : Type 0
 RoutesAreLegal =
     (blocks : List Block) (die : Die) (from to : Half) (route : Route) → die.x1 ≤ℤ die.x2 → die.y1 ≤ℤ die.y2
-    → All (HasCornersIn die) blocks → IsInDie die from → IsInDie die to → IsRoute blocks die from to route
+    → All (HasCornersIn die) blocks → IsHalfInDie die from → IsHalfInDie die to → IsRoute blocks die from to route
     → IsLegalWay blocks die from to route
 
 -- where at most 64 blocks stop wires a route has no more corners than its grid can have points

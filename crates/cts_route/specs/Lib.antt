@@ -10,3 +10,4 @@ pub mod Windows
 pub mod Search
 pub mod LineLists
 pub use Rattle.cts_tree.specs.Path
+pub use Rattle.cts_block.specs.NearestFree

@@ -63,7 +63,7 @@ pub fn walls_of(alloc: Global, blocks: &[Block]) -> Result<Vec<Wall>, AllocError
 fn reaches_between(wall: &Wall, span: (i64, i64)) -> bool
     ensures { IsTrue result ↔ Overlaps span.0 span.1 wall.now.x1 wall.now.x2 }
 {
-    span.0 < wall.x2 && wall.x1 < span.1
+    overlaps(span.0, span.1, wall.x1, wall.x2)
 }
 
 /// Puts those walls into `near` that reach into a span in x.

@@ -1,5 +1,6 @@
 //! Why there is no route.
 
+use cts_num::NoMemory;
 use std::alloc::{AllocError, AllocFailed};
 use thiserror::Error;
 
@@ -12,6 +13,17 @@ pub enum RouteEnd {
     /// Memory ran out.
     #[error("no memory")]
     NoMemory,
+}
+
+impl From<NoMemory> for RouteEnd {
+    ghost use Rattle.std.specs.Prelude.{◌≡◌};
+    ghost use Rattle.cts_route.specs.declared.end.RouteEnd.TheVariants.{NoMemory};
+
+    ghost from_gives = { λ _ end. end ≡ NoMemory };
+
+    fn from(_error: NoMemory) -> RouteEnd {
+        RouteEnd::NoMemory
+    }
 }
 
 impl From<AllocError> for RouteEnd {

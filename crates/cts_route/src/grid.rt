@@ -6,7 +6,8 @@ ghost use Rattle.cts_geom.specs.Points.{IsSpotInRange, point_of};
 ghost use Rattle.cts_block.specs.declared.blocks.Block.{Block};
 ghost use Rattle.cts_route.specs.Grids.{IsGrid, IsGridOf, IsRouteOn, IsCutOn};
 ghost use Rattle.cts_route.specs.Laws.{RunsAlongXFirst};
-ghost use Rattle.cts_route.specs.Limits.{IsDieInRange, AreBlocksInRange};
+ghost use Rattle.cts_block.specs.NearestFree.{IsDieInRange};
+ghost use Rattle.cts_route.specs.Limits.{AreBlocksInRange};
 ghost use Rattle.cts_route.specs.LineLists.{IsNumberOf};
 ghost use Rattle.cts_route.specs.Routes.{IsRoute, IsCut};
 ghost use Rattle.cts_route.specs.WindowOf.{IsFrameOf, IsWindowOf, IsView};
@@ -22,6 +23,7 @@ use crate::wall::Wall;
 use crate::window::graph_of;
 use cts_block::Block;
 use cts_geom::{Die, Half, Spot, distance, halves};
+use cts_num::NoMemory;
 use cts_tree::{Corners, Route};
 use std::alloc::{AllocError, Global};
 
@@ -87,7 +89,9 @@ fn along_x_first(from: Spot, to: Spot) -> Route
 impl Grid {
     /// Prepares the routes among these blocks. Takes at most 64 blocks of kind `All`, a die with x1 ≤ x2
     /// and y1 ≤ y2, and coordinates of at most 2^40 nm in size.
-    pub fn of(alloc: Global, blocks: &[Block], die: &Die) -> Result<Grid, AllocError>
+    ///
+    /// Answers `NoMemory` where an allocation fails.
+    pub fn of(alloc: Global, blocks: &[Block], die: &Die) -> Result<Grid, NoMemory>
         requires blocks { AreBlocksInRange blocks.now }
         requires die { IsDieInRange die.now }
         ensures grid { IfOk result IsGrid }

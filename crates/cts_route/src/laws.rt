@@ -3,6 +3,7 @@
 ghost use Rattle.cts_route.specs.Laws.{
   RouteIsOne,
   RouteIsNotCut,
+  RoutesExistOrAreCut,
   ClearWayIsRoute,
   RouteWithoutWalls,
   RoutesAreLegal,
@@ -17,6 +18,11 @@ pub fn route_is_one()
 /// Points that are cut have no route.
 pub fn route_is_not_cut()
     ensures { RouteIsNotCut }
+{}
+
+/// Every two spots have a route or are cut, whatever the die and the blocks.
+pub fn routes_exist_or_are_cut()
+    ensures { RoutesExistOrAreCut }
 {}
 
 /// Where the way along x first and then along y is clear, it is the route.

@@ -4,8 +4,8 @@
 //! routes. It asks [`Walls`] which segments are clear of blocks, whoever made them. It cites
 //! `specs/Routes.antt` for what a route is and when two points are cut, and `specs/Grid.antt` for the
 //! grid and for clear segments; both range over lists of points and know no table, heap or window.
-//! `laws` says that there is one route at most, none between points that are cut, and that the way
-//! along x first and then along y is the route where it is clear.
+//! `laws` says that any two spots have one route or are cut, never both, and that the way along x first
+//! and then along y is the route where it is clear.
 //!
 //! Below the calls stand the walls and the clear segments (`clear`), the lines (`lines`), the numbered
 //! points of a grid with the lengths of their steps (`window`, `graph`), the labels of a search

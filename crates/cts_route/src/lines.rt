@@ -1,9 +1,10 @@
 //! The lines of the grid along one axis, in ascending order, in half nm.
 
-ghost use Rattle.std.specs.Prelude.{◌≡◌, ◌+◌, ◌<◌, ◌≤◌, pos, ◌*ℤ◌, ◌≤ℤ◌, [], ◌∷◌, ◌++◌, length, All, Contains, OnOk, IfOk, IfSome, IfNone};
+ghost use Rattle.std.specs.Prelude.{◌≡◌, ◌+◌, ◌<◌, ◌≤◌, pos, ◌*ℤ◌, ◌≤ℤ◌, ℤ, List, [], ◌∷◌, ◌++◌, length, All, Contains, OnOk, IfOk, IfSome, IfNone};
 ghost use Rattle.cts_geom.specs.Coordinate.{IsCoordinate};
 ghost use Rattle.cts_route.specs.Grid.{edges_of, fixed_xs as spec_fixed_xs, fixed_ys as spec_fixed_ys};
-ghost use Rattle.cts_route.specs.Limits.{IsDieInRange, IsBlockInRange};
+ghost use Rattle.cts_block.specs.NearestFree.{IsDieInRange};
+ghost use Rattle.cts_route.specs.Limits.{IsBlockInRange};
 ghost use Rattle.cts_route.specs.LineLists.{IsAscending, IsRoom, IsInserted, Adds, AreLinesOf, AreLinesBetween};
 
 use cts_block::{Block, Kind};
@@ -102,6 +103,18 @@ pub fn fixed_ys(alloc: Global, blocks: &[Block], die: &Die) -> Result<Vec<i64>, 
     Ok(lines)
 }
 
+/// Adds a line that lies in a span, unless it is there.
+fn insert_between(lines: &mut Vec<i64>, line: i64, span: (i64, i64)) -> Result<(), AllocError>
+    requires { IsAscending lines.old.items }
+    ensures { (wanted : List ℤ) → AreLinesBetween wanted span.0 span.1 lines.old.items
+        → OnOk result (AreLinesBetween (wanted ++ line ∷ []) span.0 span.1 lines.new.items) }
+{
+    if line < span.0 || span.1 < line {
+        return Ok(());
+    }
+    insert_line(lines, line)
+}
+
 /// The lines of the grid of two ends that lie in a span, as the ends do.
 pub fn lines_between(
     alloc: Global,
@@ -117,9 +130,7 @@ pub fn lines_between(
     insert_line(&mut lines, ends.0)?;
     insert_line(&mut lines, ends.1)?;
     for line in fixed {
-        if span.0 <= *line && *line <= span.1 {
-            insert_line(&mut lines, *line)?;
-        }
+        insert_between(&mut lines, *line, span)?;
     }
     Ok(lines)
 }

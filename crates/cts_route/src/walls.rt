@@ -10,7 +10,8 @@ use crate::clear::{is_clear, walls_of};
 use crate::wall::Wall;
 use cts_block::Block;
 use cts_geom::Half;
-use std::alloc::{AllocError, Global};
+use cts_num::NoMemory;
+use std::alloc::Global;
 
 /// What keeps wires out of some blocks, prepared for many segments.
 #[derive(Drop)]
@@ -20,7 +21,9 @@ pub struct Walls {
 
 impl Walls {
     /// Prepares these blocks, whose coordinates are at most 2^40 nm in size.
-    pub fn of(alloc: Global, blocks: &[Block]) -> Result<Walls, AllocError>
+    ///
+    /// Answers `NoMemory` where an allocation fails.
+    pub fn of(alloc: Global, blocks: &[Block]) -> Result<Walls, NoMemory>
         requires { All IsBlockInRange blocks.now }
         ensures { IfOk result (KeepsOut blocks.now) }
     {

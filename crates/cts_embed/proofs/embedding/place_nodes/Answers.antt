@@ -11,7 +11,7 @@ use Rattle.cts_tree.specs.declared.nodes.TreeNode.{TreeNode}
 use Rattle.cts_embed.specs.declared.end.EmbedEnd.{EmbedEnd}
 use Rattle.cts_embed.specs.declared.end.EmbedEnd.TheVariants.{NoMemory}
 use Rattle.cts_embed.specs.Ends.{EmbedEnds}
-use Rattle.cts_embed.specs.Leaves.{leaf_ids}
+use Rattle.cts_embed.specs.Leaves.{ids_of_leaves}
 use Rattle.cts_embed.specs.PlacedTree.{IsPlacedFrom, IsPlacedNode}
 use Rattle.cts_embed.proofs.Starts.{starts_begin, some_start, from_in_range, placed_more, starts_at_leaf, starts_at_pair, all_placed, none_placed}
 use Rattle.cts_embed.proofs.SitesOfPlans.{sites_long, finished_at}
@@ -21,15 +21,15 @@ use Rattle.cts_embed.proofs.Cuts.{greatest_cut}
 use Rattle.cts_embed.proofs.PlacedFits.{placed_fits}
 use Rattle.cts_embed.proofs.embedding.place_nodes.Goals as goal
 
-pub leaf_ids-requires : goal.leaf_ids-requires
-leaf_ids-requires c = record {
+pub ids_of_leaves-requires : goal.ids_of_leaves-requires
+ids_of_leaves-requires c = record {
   shape = subst (λ (sinks : List Sink). IsShapeOver (length sinks) c.args.nodes.now) (sym c.sinks.ensures.part) c.requires.shape;
 }
 
 pub loop-number-init : goal.loop-number-init
 loop-number-init c = record {
-  ids = c.in_ok-ids.ensures ∙ ap (λ (sinks : List Sink). leaf_ids sinks c.args.nodes.now) c.sinks.ensures.part
-      ∙ ap (leaf_ids c.args.instance.now.sinks) (sym (take_all (length c.args.nodes.now) c.args.nodes.now (omega arith)));
+  ids = c.in_ok-ids.ensures ∙ ap (λ (sinks : List Sink). ids_of_leaves sinks c.args.nodes.now) c.sinks.ensures.part
+      ∙ ap (ids_of_leaves c.args.instance.now.sinks) (sym (take_all (length c.args.nodes.now) c.args.nodes.now (omega arith)));
   starts_are = starts_begin c.args.instance.now c.args.nodes.now c.requires.shape.post_order c.push.new.self.items c.source_place.result
       c.source_place.ensures.place (c.in_ok-push.ensures.items ∙ ap (λ starts. starts ++ c.source_place.result ∷ []) c.new-starts.ensures.items);
   placed = none_placed c.args.instance.now c.args.nodes.now c.requires.shape.post_order c.in_ok-placed.placed.items c.in_ok-placed.ensures.items;

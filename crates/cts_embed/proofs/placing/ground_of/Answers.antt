@@ -2,27 +2,15 @@ use Rattle.std.proofs.Common.{◌≡◌, List, sym, subst, ◌∙◌}
 use Rattle.std.specs.List.{All}
 use Rattle.cts_geom.specs.declared.bounds.Die.{Die}
 use Rattle.cts_block.specs.declared.blocks.Block.{Block}
-use Rattle.cts_block.specs.NearestFree.{LiesIn, IsDieInRange as IsMapDie}
+use Rattle.cts_block.specs.NearestFree.{LiesIn, IsDieInRange}
 use Rattle.cts_route.specs.Grids.{IsGridOf}
-use Rattle.cts_route.specs.Limits.{AreBlocksInRange, IsDieInRange}
+use Rattle.cts_route.specs.Limits.{AreBlocksInRange}
 use Rattle.cts_instance.specs.declared.parts.Parts.{Parts}
 use Rattle.cts_instance.specs.Validity.{IsBlock, IsValid}
 use Rattle.cts_embed.proofs.Grounds.{blocks_in_range, die_in_range}
 use Rattle.cts_embed.proofs.placing.ground_of.Goals as goal
 
--- what a map of the free points asks of the die and the blocks
-map_die : (parts : Parts) → IsValid parts → IsMapDie parts.die
-map_die parts ok =
-    let die : IsDieInRange parts.die = die_in_range parts ok in
-    record {
-      x1 = record { low = die.x1.low; high = die.x1.high };
-      y1 = record { low = die.y1.low; high = die.y1.high };
-      x2 = record { low = die.x2.low; high = die.x2.high };
-      y2 = record { low = die.y2.low; high = die.y2.high };
-      x_ordered = die.x_ordered;
-      y_ordered = die.y_ordered;
-    }
-
+-- what a map of the free points asks of the blocks
 map_blocks : (parts : Parts) → IsValid parts → (die : Die) → die ≡ parts.die → (blocks : List Block) → blocks ≡ parts.blocks → All (LiesIn die) blocks
 map_blocks parts ok die die_is blocks blocks_are =
     subst (λ (d : Die). All (LiesIn d) blocks) (sym die_is)
@@ -30,12 +18,12 @@ map_blocks parts ok die die_is blocks blocks_are =
     (λ k d h.
     let b : IsBlock parts.die _ = ok.blocks k d h in
     record {
-      from = record { left = b.from.west; right = b.from.east; bottom = b.from.south; top = b.from.north };
-      to = record { left = b.to.west; right = b.to.east; bottom = b.to.south; top = b.to.north };
+      from = b.from;
+      to = b.to;
     }))
 
 pub of-requires-clause-die : goal.of-requires-clause-die
-of-requires-clause-die c = subst IsMapDie (sym c.die-die.ensures.part) (map_die c.args.instance.now c.blocks-blocks.ensures.valid)
+of-requires-clause-die c = subst IsDieInRange (sym c.die-die.ensures.part) (die_in_range c.args.instance.now c.blocks-blocks.ensures.valid)
 
 pub of-requires-clause-blocks : goal.of-requires-clause-blocks
 of-requires-clause-blocks c =

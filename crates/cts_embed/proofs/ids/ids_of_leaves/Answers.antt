@@ -1,9 +1,9 @@
 use Rattle.std.proofs.Common.{◌≡◌, ◌+◌, length, take, List, ℕ, Vec, Global, sym, ap, subst, ◌∙◌}
 use Rattle.cts_topo.proofs.Counts.{leaf_within}
-use Rattle.cts_embed.specs.Leaves.{leaf_ids}
+use Rattle.cts_embed.specs.Leaves.{ids_of_leaves}
 use Rattle.cts_embed.proofs.LeafIds.{ids_at_leaf, ids_at_pair}
-use Rattle.cts_embed.proofs.ids.leaf_ids.Goals as goal
-use Rattle.cts_embed.proofs.ids.leaf_ids.Goals.{in-Leaf+in_ok-push-in-Leaf, in-Pair}
+use Rattle.cts_embed.proofs.ids.ids_of_leaves.Goals as goal
+use Rattle.cts_embed.proofs.ids.ids_of_leaves.Goals.{in-Leaf+in_ok-push-in-Leaf, in-Pair}
 
 pub bounds-sinks-sink : goal.bounds-sinks-sink
 bounds-sinks-sink c =
@@ -11,7 +11,7 @@ bounds-sinks-sink c =
 
 pub loop-node-preserved : goal.loop-node-preserved
 loop-node-preserved c =
-    let are = λ (ids : List ℕ). ids ≡ leaf_ids c.args.sinks.now (take (c.loop-node.node-index + 1) c.args.nodes.now) in
+    let are = λ (ids : List ℕ). ids ≡ ids_of_leaves c.args.sinks.now (take (c.loop-node.node-index + 1) c.args.nodes.now) in
     elim c.match-node.branch [
       | in-Leaf+in_ok-push-in-Leaf w ↦
           subst are (sym (ap (λ (v : Vec ℕ Global). v.items) w.ids-is ∙ w.in_ok-push-in-Leaf.ensures.items))
