@@ -5,7 +5,7 @@ use Rattle.std.proofs.lemmas.List.{get_or-take, get_or_default, length-take-le}
 use Rattle.std.proofs.lemmas.List.Folds.{list_any_none}
 use Rattle.cts_units.specs.declared.params.Sink.{Sink}
 use Rattle.cts_units.specs.Ids.{HasDistinctIds}
-use Rattle.cts_design.specs.Edits.{has_id}
+use Rattle.cts_edit.specs.Edits.{has_id}
 
 -- none of the sinks before one has its id
 pub new_so_far : (sinks : List Sink) (i : ℕ) (d : Sink) → HasDistinctIds (λ s. s.id) sinks → i < length sinks

@@ -1,9 +1,5 @@
-pub mod Places
 pub mod Slots
 pub mod Rosters
 pub mod Distinct
-pub mod Histories
-pub mod Validities
-pub mod Acceptances
+pub use Rattle.cts_edit.proofs.Validities
 pub mod Sent
-mod Example

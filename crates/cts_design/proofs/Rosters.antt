@@ -9,9 +9,9 @@ use Rattle.std.proofs.lemmas.List.{length-map}
 use Rattle.std.proofs.lemmas.List.Elements.{filter-append}
 use Rattle.std.proofs.lemmas.List.Filters.{length-filter_both}
 use Rattle.cts_units.specs.declared.params.Sink.{Sink}
-use Rattle.cts_design.specs.Edits.{has_id, without, changed}
+use Rattle.cts_edit.specs.Edits.{has_id, without, changed}
 use Rattle.cts_design.specs.Roster.{is_present, present, vacancy, StandsAt, IsRoster}
-use Rattle.cts_design.proofs.Places.{get_set_same, get_set_other, get_push, get_before_push, get_pushed}
+use Rattle.cts_edit.proofs.Places.{get_set_same, get_set_other, get_push, get_before_push, get_pushed}
 use Rattle.cts_design.proofs.Slots.{Lacks, IsAlone, has_none, has_one, without_none, changed_none, taken_out, one_less, changed_in}
 
 -- which key a number finds

@@ -3,8 +3,8 @@ use Rattle.std.proofs.Common.{◌≡◌, ℕ, ◌+◌, Bool, true, false, cond, 
 use Rattle.std.proofs.lemmas.Bool.{eq-eqb, ne_eqb, or_right, or_from}
 use Rattle.std.specs.List.{filter}
 use Rattle.cts_units.specs.declared.params.Sink.{Sink}
-use Rattle.cts_design.specs.Edits.{has_id, without, changed}
-use Rattle.cts_design.proofs.Places.{get_none}
+use Rattle.cts_edit.specs.Edits.{has_id, without, changed}
+use Rattle.cts_edit.proofs.Places.{get_none}
 
 module _ (there : Sink → Bool) where
   -- no sink has the id

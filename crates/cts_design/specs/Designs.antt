@@ -1,7 +1,7 @@
 -- What contracts see of a design.
 use Rattle.std.specs.Prelude.{List}
 use Rattle.cts_instance.specs.declared.parts.Parts.{Parts}
-use Rattle.cts_design.specs.declared.edit.Entry.{Entry}
+use Rattle.cts_edit.specs.declared.edit.Entry.{Entry}
 use Rattle.cts_design.specs.declared.design.Design.{Design}
 
 -- the accepted edits, in order

@@ -1,7 +1,7 @@
-pub mod Edits
+pub use Rattle.cts_edit.specs.Edits
 pub mod Roster
-pub mod Decide
-pub mod Sound
+pub use Rattle.cts_edit.specs.Decide
+pub use Rattle.cts_edit.specs.Sound
 pub mod Replies
 pub mod RuleLaws
 pub mod Designs

@@ -5,16 +5,16 @@ use Rattle.cts_instance.specs.declared.parts.Parts.{Parts}
 use Rattle.cts_turn.specs.declared.turn.Pass.{Pass}
 use Rattle.cts_turn.specs.declared.turn.Turn.{Turn}
 use Rattle.cts_turn.specs.Passes as turns
-use Rattle.cts_design.specs.declared.edit.Entry.{Entry}
-use Rattle.cts_design.specs.declared.call.EditReply.{EditReply}
-use Rattle.cts_design.specs.declared.call.EditReply.TheVariants.{Accepted, Refused, NoMemory}
+use Rattle.cts_edit.specs.declared.edit.Entry.{Entry}
+use Rattle.cts_edit.specs.declared.reply.EditReply.{EditReply}
+use Rattle.cts_edit.specs.declared.reply.EditReply.TheVariants.{Accepted, Refused, NoMemory}
 use Rattle.cts_design.specs.declared.call.DesignCall.{DesignCall}
 use Rattle.cts_design.specs.declared.call.DesignReply.{DesignReply}
 use Rattle.cts_design.specs.declared.design.Design.{Design}
 use Rattle.cts_design.specs.contracts.design.DesignObject.TheImpl.{ghosts}
 use Rattle.cts_design.specs.Designs.{base_of, told_by}
-use Rattle.cts_design.specs.Sound.{IsSound}
-use Rattle.cts_design.specs.Replies.{IsDecided, after_edit}
+use Rattle.cts_edit.specs.Sound.{IsSound}
+use Rattle.cts_edit.specs.Replies.{IsDecided, after_edit}
 
 -- the instance whose sinks are edited
 abbrev pub instance_of : Turn Design Entry DesignCall DesignReply → Parts

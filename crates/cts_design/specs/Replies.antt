@@ -1,29 +1,13 @@
 -- Which replies a history allows to a call, and the history after each of them.
-use Rattle.std.specs.Prelude.{◌≡◌, ◌+◌, List, [], ◌∷◌, ◌++◌, length, Some, None}
+use Rattle.std.specs.Prelude.{◌≡◌, List, length}
 use Rattle.cts_instance.specs.declared.parts.Parts.{Parts}
-use Rattle.cts_design.specs.declared.edit.Edit.{Edit}
-use Rattle.cts_design.specs.declared.edit.Entry.{Entry}
-use Rattle.cts_design.specs.declared.call.EditReply.{EditReply}
-use Rattle.cts_design.specs.declared.call.EditReply.TheVariants.{Accepted, Refused, NoMemory}
+use Rattle.cts_edit.specs.declared.edit.Entry.{Entry}
 use Rattle.cts_design.specs.declared.call.DesignCall.{DesignCall}
 use Rattle.cts_design.specs.declared.call.DesignCall.TheVariants.{Change, Snapshot}
 use Rattle.cts_design.specs.declared.call.DesignReply.{DesignReply}
 use Rattle.cts_design.specs.declared.call.DesignReply.TheVariants.{Changed, Listed, NoMemory as no_list}
-use Rattle.cts_design.specs.Edits.{IsEdit, after}
-use Rattle.cts_design.specs.Decide.{decide}
-
--- The reply to an edit: accepted with the next version, or refused with the first cause that holds and the version at
--- which it was decided. Only an edit that would be accepted may end for want of memory.
-abbrev pub IsDecided : Parts → List Entry → Edit → EditReply → Type 0
-IsDecided base history edit (Accepted version) = (decide base history edit ≡ None) × (version ≡ length history + 1)
-IsDecided base history edit (Refused cause version) = (decide base history edit ≡ Some cause) × (version ≡ length history)
-IsDecided base history edit NoMemory = decide base history edit ≡ None
-
--- an accepted edit is appended; any other reply leaves the history as it is
-abbrev pub after_edit : List Entry → Entry → EditReply → List Entry
-after_edit history entry (Accepted version) = history ++ entry ∷ []
-after_edit history entry (Refused cause version) = history
-after_edit history entry NoMemory = history
+use Rattle.cts_edit.specs.Edits.{IsEdit, after}
+use Rattle.cts_edit.specs.Replies.{IsDecided, after_edit}
 
 -- a snapshot may always be taken, an edit may be asked for within the limits
 abbrev pub Fits : DesignCall → Type 0

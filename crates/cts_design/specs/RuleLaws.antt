@@ -2,17 +2,18 @@
 use Rattle.std.specs.Prelude.{◌≡◌, ◌⊎◌, List, [], ◌∷◌, ◌++◌}
 use Rattle.std.proofs.Common.{refl, inl, inr}
 use Rattle.std.proofs.Props.{props}
-use Rattle.cts_design.specs.declared.edit.Edit.{Edit}
-use Rattle.cts_design.specs.declared.edit.Edit.TheVariants.{Add, Remove, Move, SetCap}
-use Rattle.cts_design.specs.declared.edit.Entry.{Entry}
-use Rattle.cts_design.specs.declared.call.EditReply.{EditReply}
-use Rattle.cts_design.specs.declared.call.EditReply.TheVariants.{Accepted, Refused, NoMemory}
+use Rattle.cts_edit.specs.declared.edit.Edit.{Edit}
+use Rattle.cts_edit.specs.declared.edit.Edit.TheVariants.{Add, Remove, Move, SetCap}
+use Rattle.cts_edit.specs.declared.edit.Entry.{Entry}
+use Rattle.cts_edit.specs.declared.reply.EditReply.{EditReply}
+use Rattle.cts_edit.specs.declared.reply.EditReply.TheVariants.{Accepted, Refused, NoMemory}
 use Rattle.cts_design.specs.declared.call.DesignCall.{DesignCall}
 use Rattle.cts_design.specs.declared.call.DesignCall.TheVariants.{Change, Snapshot}
 use Rattle.cts_design.specs.declared.call.DesignReply.{DesignReply}
 use Rattle.cts_design.specs.declared.call.DesignReply.TheVariants.{Changed, Listed, NoMemory as no_list}
-use Rattle.cts_design.specs.Edits.{IsEdit}
-use Rattle.cts_design.specs.Replies.{after_edit, history_after}
+use Rattle.cts_edit.specs.Edits.{IsEdit}
+use Rattle.cts_edit.specs.Replies.{after_edit}
+use Rattle.cts_design.specs.Replies.{history_after}
 
 -- that an edit is within the limits is a mere fact
 pub edit_prop : (edit : Edit) → IsProp (IsEdit edit)

@@ -1,6 +1,6 @@
 //! The calls of a design and its replies.
 
-use crate::edit::{EditCause, Entry};
+use cts_edit::{EditReply, Entry};
 use cts_units::Sink;
 
 /// What is asked of a design.
@@ -20,16 +20,5 @@ pub enum DesignReply {
     /// To a snapshot: how many edits were accepted so far, and the sinks after them.
     Listed { version: u32, sinks: Vec<Sink> },
     /// To a snapshot, where memory ran out.
-    NoMemory,
-}
-
-/// How an edit ends. A version is a number of accepted edits.
-#[derive(Clone, Copy, Debug, PartialEq, Eq)]
-pub enum EditReply {
-    /// It was made, with the version after it.
-    Accepted { version: u32 },
-    /// It was refused, with the version at which it was decided. Nothing is changed.
-    Refused { cause: EditCause, version: u32 },
-    /// Memory ran out. Nothing is changed.
     NoMemory,
 }

@@ -3,16 +3,15 @@
 ghost use Rattle.std.specs.Prelude.{◌≡◌, ◌≤◌, ◌++◌, ◌∷◌, [], false, length, IfOk, OnOk, OnErr};
 ghost use Rattle.std.proofs.Props.{props};
 ghost use Rattle.cts_instance.specs.Validity.{IsValid};
-ghost use Rattle.cts_design.specs.Edits.{IsEdit, applied, after};
-ghost use Rattle.cts_design.specs.Decide.{is_known, walls_of};
-ghost use Rattle.cts_design.specs.Sound.{IsSound};
+ghost use Rattle.cts_edit.specs.Edits.{IsEdit, has_id, applied, after};
+ghost use Rattle.cts_edit.specs.Decide.{id_of, is_known, walls_of};
+ghost use Rattle.cts_edit.specs.Sound.{IsSound};
 ghost use Rattle.cts_design.specs.RuleLaws.{edit_prop};
 
-use crate::call::{DesignCall, DesignReply, EditReply};
-use crate::edit::{Edit, EditCause, Entry};
-use crate::judge::{first_cause, walls_of};
+use crate::call::{DesignCall, DesignReply};
 use crate::roster::Roster;
 use cts_block::Block;
+use cts_edit::{Edit, EditCause, EditReply, Entry, Facts, cause_by, id_of, is_in_block, walls_of};
 use cts_geom::Die;
 use cts_instance::Instance;
 use cts_num::NoMemory;
@@ -40,7 +39,7 @@ pub struct Design {
 /// Makes an edit of an id that fits it. Want of memory changes nothing.
 fn apply(sinks: &mut Roster, edit: Edit) -> Result<(), NoMemory>
     requires within { IsEdit edit }
-    requires new { is_known sinks.old edit ≡ false }
+    requires new { is_known (has_id (id_of edit) sinks.old) edit ≡ false }
     ensures ok { OnOk result (sinks.new ≡ applied edit sinks.old) }
     ensures err { OnErr result (sinks.new ≡ sinks.old) }
 {
@@ -70,7 +69,7 @@ fn apply(sinks: &mut Roster, edit: Edit) -> Result<(), NoMemory>
 /// Makes an edit and appends it to the history. Want of memory changes nothing.
 fn append(history: &mut Vec<Entry>, sinks: &mut Roster, entry: Entry) -> Result<(), NoMemory>
     requires within { IsEdit entry.edit }
-    requires new { is_known sinks.old entry.edit ≡ false }
+    requires new { is_known (has_id (id_of entry.edit) sinks.old) entry.edit ≡ false }
     ensures history { OnOk result (history.new.items ≡ history.old.items ++ entry ∷ []) }
     ensures sinks { OnOk result (sinks.new ≡ applied entry.edit sinks.old) }
     ensures same_history { OnErr result (history.new.items ≡ history.old.items) }
@@ -89,11 +88,12 @@ fn append(history: &mut Vec<Entry>, sinks: &mut Roster, entry: Entry) -> Result<
 impl Design {
     ghost use Rattle.std.specs.Prelude.{◌≡◌, [], length, IfOk};
     ghost use Rattle.cts_instance.specs.Validity.{IsValid, with_sinks};
-    ghost use Rattle.cts_design.specs.Edits.{IsEdit, after};
-    ghost use Rattle.cts_design.specs.Decide.{decide};
+    ghost use Rattle.cts_edit.specs.Edits.{IsEdit, after};
+    ghost use Rattle.cts_edit.specs.Decide.{decide};
     ghost use Rattle.cts_design.specs.Designs.{base_of, told_by};
-    ghost use Rattle.cts_design.specs.Sound.{IsSound};
-    ghost use Rattle.cts_design.specs.Replies.{IsDecided, after_edit, Allows};
+    ghost use Rattle.cts_edit.specs.Sound.{IsSound};
+    ghost use Rattle.cts_edit.specs.Replies.{IsDecided, after_edit};
+    ghost use Rattle.cts_design.specs.Replies.{Allows};
 
     /// The design of an instance that has no edits yet.
     pub(crate) fn of(alloc: Global, instance: &Instance) -> Result<Design, NoMemory>
@@ -115,13 +115,13 @@ impl Design {
     fn cause_of(&self, edit: Edit) -> Option<EditCause>
         ensures { result ≡ decide (base_of self.now) (told_by self.now) edit }
     {
-        first_cause(
-            &self.die,
-            self.walls.as_slice(),
-            &self.sinks,
-            self.history.len(),
-            edit,
-        )
+        let facts = Facts {
+            there: self.sinks.has(id_of(edit)),
+            walled: is_in_block(self.walls.as_slice(), edit),
+            count: self.sinks.len(),
+            edits: self.history.len(),
+        };
+        cause_by(&self.die, facts, edit)
     }
 
     /// Judges an edit, and makes it where it is accepted.
@@ -171,7 +171,7 @@ impl Design {
 
 impl Object for Design {
     ghost use Rattle.cts_instance.specs.declared.parts.Parts.{Parts};
-    ghost use Rattle.cts_design.specs.Sound.{IsSound};
+    ghost use Rattle.cts_edit.specs.Sound.{IsSound};
     ghost use Rattle.cts_design.specs.Replies.{Allows, Fits, history_after};
     ghost use Rattle.cts_design.specs.RuleLaws.{appends};
 

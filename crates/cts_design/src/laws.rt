@@ -1,17 +1,6 @@
-//! What the words of the contracts mean, as laws: each is the contract of a function that does nothing.
+//! What threads may do with a design, as a law: the contract of a function that does nothing.
 
-ghost use Rattle.cts_design.specs.Laws.{AcceptedMayBeMade, DesignIsShared, SoundIsValid};
-
-/// An edit is accepted exactly where it may be made of the sinks after the history, and the history has
-/// room for it.
-pub fn accepted_may_be_made()
-    ensures { AcceptedMayBeMade }
-{}
-
-/// The sinks after a sound history are valid with the other parts of the instance.
-pub fn sound_is_valid()
-    ensures { SoundIsValid }
-{}
+ghost use Rattle.cts_design.specs.Laws.{DesignIsShared};
 
 /// Threads may share the turn of a design. A caller of `join` whose closures hold one calls this
 /// before.

@@ -2,22 +2,19 @@
 //!
 //! A [`Design`] has the sinks of an instance and the edits that were accepted so far, its history. It is
 //! the object of a turn: threads share it, each with a pass of its own. [`send_edit`] judges an edit and
-//! makes it where it is accepted; [`snapshot`] lists the sinks. `specs/Edits.antt` says what an edit
-//! makes of a list of sinks, `specs/Decide.antt` which cause refuses one. The layers above may use that
-//! each call meets a history that begins with all that its pass had seen, that an accepted edit is
-//! appended there once, and that the sinks of a snapshot are those after the history that the pass then
-//! has seen, which are valid with the other parts of the instance. [`laws`] has what these words mean.
+//! makes it where it is accepted, as `cts_edit` says; [`snapshot`] lists the sinks. The layers above may
+//! use that each call meets a history that begins with all that its pass had seen, that an accepted edit
+//! is appended there once, and that the sinks of a snapshot are those after the history that the pass
+//! then has seen, which are valid with the other parts of the instance.
 #![tactic(auto)]
 
 mod call;
 mod design;
-mod edit;
-mod judge;
 pub mod laws;
 mod roster;
 mod shared;
 
-pub use call::{DesignCall, DesignReply, EditReply};
+pub use call::{DesignCall, DesignReply};
+pub use cts_edit::{Edit, EditCause, EditReply, Entry};
 pub use design::Design;
-pub use edit::{Edit, EditCause, Entry};
 pub use shared::{send_edit, snapshot};

@@ -3,7 +3,7 @@
 ghost use Rattle.std.specs.Prelude.{◌≡◌, ◌<◌, ◌≤◌, false, ◌++◌, ◌∷◌, [], length, vec_len, slice_set, Some, IfOk, OnOk, OnErr};
 ghost use Rattle.std.specs.Ordering.{nat_cmp};
 ghost use Rattle.std.specs.BTreeMap.{get, IsUnchanged, Updates};
-ghost use Rattle.cts_design.specs.Edits.{moved_to, with_cap};
+ghost use Rattle.cts_edit.specs.Edits.{moved_to, with_cap};
 ghost use Rattle.cts_design.specs.Roster.{is_present, present, vacancy};
 
 use cts_num::NoMemory;
@@ -50,7 +50,7 @@ impl Model for Roster {
 impl Roster {
     ghost use Rattle.std.specs.Prelude.{◌≡◌, ◌≤◌, false, ◌++◌, ◌∷◌, [], All, length, IfOk, OnOk, OnErr};
     ghost use Rattle.cts_units.specs.Ids.{HasDistinctIds};
-    ghost use Rattle.cts_design.specs.Edits.{IsId, has_id, without, changed, moved_to, with_cap};
+    ghost use Rattle.cts_edit.specs.Edits.{IsId, has_id, without, changed, moved_to, with_cap};
 
     /// No sinks.
     pub fn new(alloc: Global) -> Roster

@@ -4,13 +4,13 @@ ghost use Rattle.std.specs.Prelude.{◌≡◌, ◌+◌, [], length, IfOk, IfSome
 ghost use mathlib.Core.List.{IsPrefix};
 ghost use Rattle.cts_instance.specs.Validity.{IsValid, with_sinks};
 ghost use Rattle.cts_turn.specs.Passes.{made_by, seen_by, share_of};
-ghost use Rattle.cts_design.specs.Edits.{IsEdit, after};
-ghost use Rattle.cts_design.specs.Sound.{IsSound};
+ghost use Rattle.cts_edit.specs.Edits.{IsEdit, after};
+ghost use Rattle.cts_edit.specs.Sound.{IsSound};
 ghost use Rattle.cts_design.specs.Passes.{IsPassOf, IsEdited, instance_of, made_in, opening_of, version_in};
 
-use crate::call::{DesignCall, DesignReply, EditReply};
+use crate::call::{DesignCall, DesignReply};
 use crate::design::Design;
-use crate::edit::Entry;
+use cts_edit::{EditReply, Entry};
 use cts_instance::Instance;
 use cts_num::NoMemory;
 use cts_turn::{Pass, Turn};

@@ -1,10 +1,12 @@
 pub mod Draws
 pub mod Limits
 pub mod StepLists
+pub mod ReplayLists
 pub mod Lists
 pub mod Valid
 mod Rows
 mod ScriptRows
+mod ReplayRows
 pub mod WrittenWords
 pub mod WrittenLines
 pub mod WrittenText

@@ -6,7 +6,7 @@ use Rattle.cts_num.specs.Number.{digit_number}
 use Rattle.cts_num.specs.Reading.{bad_place, fine_place, reading_of}
 use Rattle.cts_instance.specs.declared.fault.Fault.TheVariants.{Range}
 use Rattle.cts_instance.specs.declared.fault.Item.TheVariants as item
-use Rattle.cts_design.specs.declared.edit.Edit.TheVariants.{Add, Remove, Move, SetCap}
+use Rattle.cts_edit.specs.declared.edit.Edit.TheVariants.{Add, Remove, Move, SetCap}
 use Rattle.cts_read.specs.declared.stop.Cause.TheVariants.{NotAscii, Word, Count, Number, Missing, Fault}
 use Rattle.cts_read.specs.Lines.{is_skipped, words_of}
 use Rattle.cts_read.specs.Grammar.{content, fields_of, item_at, left_of, line_at, number_of}

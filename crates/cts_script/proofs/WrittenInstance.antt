@@ -13,7 +13,7 @@ use Rattle.cts_instance.specs.declared.parts.Parts.{Parts}
 use Rattle.cts_instance.specs.FirstFault as faults
 use Rattle.cts_instance.specs.declared.version.Version.{Version}
 use Rattle.cts_instance.specs.FirstFault.{block_count_fault, blocks_fault, buffer_count_fault, buffers_fault, die_fault, first_fault, first_of, limits_fault, sink_count_fault, sinks_fault, source_fault, wire_fault}
-use Rattle.cts_instance.specs.Places.{IsInDie}
+use Rattle.cts_block.specs.Places.{IsInDie}
 use Rattle.cts_instance.specs.Validity.{IsBlock, IsDie, IsSink, IsValid}
 use Rattle.cts_instance.proofs.ValidityLemmas.{no_fault_from_valid}
 use Rattle.cts_read.specs.Grammar.{at_line, content, left_of, refuse}

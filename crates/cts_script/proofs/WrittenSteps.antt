@@ -13,8 +13,8 @@ use Rattle.cts_num.proofs.Fronts.{digit_passes}
 use Rattle.cts_num.proofs.Spelling.{Spells, spells_whole}
 use Rattle.cts_num.proofs.Texts.{decimal_text-zero}
 use Rattle.cts_instance.specs.Laws.{IsOnChip}
-use Rattle.cts_design.specs.declared.edit.Edit.TheVariants.{Add, Remove, Move, SetCap}
-use Rattle.cts_design.specs.Edits.{IsCap, IsId}
+use Rattle.cts_edit.specs.declared.edit.Edit.TheVariants.{Add, Remove, Move, SetCap}
+use Rattle.cts_edit.specs.Edits.{IsCap, IsId}
 use Rattle.cts_read.specs.Lines.{is_skipped, words_of}
 use Rattle.cts_read.specs.Grammar.{refuse}
 use Rattle.cts_script.specs.declared.script.Act.{Act}

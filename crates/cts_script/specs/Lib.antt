@@ -2,5 +2,6 @@ pub mod Generator
 pub mod Text
 pub mod Steps
 pub mod Scripts
+pub mod Replays
 pub mod ScriptText
 pub mod Laws

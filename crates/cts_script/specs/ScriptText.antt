@@ -3,7 +3,7 @@
 use Rattle.std.specs.Prelude.{ℕ, ◌+◌, ◌≤◌, List, [], ◌∷◌, ◌++◌, map, codes}
 use Rattle.std.specs.List.{concat}
 use Rattle.cts_num.specs.Decimal.{decimal_text}
-use Rattle.cts_design.specs.declared.edit.Edit.TheVariants.{Add, Remove, Move, SetCap}
+use Rattle.cts_edit.specs.declared.edit.Edit.TheVariants.{Add, Remove, Move, SetCap}
 use Rattle.cts_script.specs.declared.script.Act.{Act}
 use Rattle.cts_script.specs.declared.script.Act.TheVariants.{Change, Draw}
 use Rattle.cts_script.specs.declared.step.Asked.{Asked}

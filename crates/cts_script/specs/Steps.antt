@@ -7,8 +7,8 @@ use Rattle.cts_instance.specs.declared.fault.Fault.{Fault as InstanceFault}
 use Rattle.cts_instance.specs.declared.fault.Fault.TheVariants.{Range, TooMany}
 use Rattle.cts_instance.specs.declared.fault.Item.TheVariants as item
 use Rattle.cts_instance.specs.FirstFault.{unless}
-use Rattle.cts_design.specs.declared.edit.Edit.TheVariants as edit
-use Rattle.cts_design.specs.Edits.{IsEdit}
+use Rattle.cts_edit.specs.declared.edit.Edit.TheVariants as edit
+use Rattle.cts_edit.specs.Edits.{IsEdit}
 use Rattle.cts_read.specs.declared.stop.Cause.{Cause}
 use Rattle.cts_read.specs.declared.stop.Cause.TheVariants.{NotAscii, Word, Count, Fault}
 use Rattle.cts_read.specs.Lines.{is_printable, words_of}

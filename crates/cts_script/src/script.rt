@@ -3,7 +3,7 @@
 ghost use Rattle.std.specs.Prelude.{◌≡◌};
 ghost use Rattle.cts_script.specs.Scripts.{AreWithin};
 
-use cts_design::Edit;
+use cts_edit::Edit;
 use std::marker::Model;
 
 /// What a step asks for.

@@ -6,10 +6,11 @@ ghost use Rattle.cts_read.specs.Lines.{words_of};
 ghost use Rattle.cts_script.specs.Steps.{IsAct, IsCallerCount, IsLine, act_of, add_of, callers_fault, callers_of, cap_of, is_digits, kind_at, kind_of, limited, line_of, move_of, numbers_after, remove_of, said_by, step_of};
 
 use crate::script::{Act, ScriptStep};
-use cts_design::Edit;
+use cts_edit::Edit;
 use cts_instance::{Fault, Item};
 use cts_read::fields::{fields, number, refuse};
 use cts_read::{Cause, count_words, is_printable, word_at};
+use cts_units::{MAX_CAPACITANCE, MAX_COORDINATE, MAX_ID};
 
 /// The greatest number of callers.
 const CALLERS: u64 = 16;
@@ -18,13 +19,10 @@ const CALLERS: u64 = 16;
 const STEPS: u32 = 65_536;
 
 /// The greatest id of a sink.
-const LAST_ID: u64 = 999_999_999;
+const LAST_ID: u64 = MAX_ID as u64;
 
 /// The greatest coordinate in nm.
-const FARTHEST: u64 = 100_000_000;
-
-/// The greatest capacitance of a sink in zF.
-const GREATEST_CAP: u64 = 1_000_000_000_000;
+const FARTHEST: u64 = MAX_COORDINATE as u64;
 
 /// A kind of step, by the word after the caller's number.
 #[derive(Clone, Copy)]
@@ -137,7 +135,7 @@ fn add_of(words: &[u8]) -> Result<Option<Act>, Cause>
     let (x, rest) = number(3, rest)?;
     let (y, rest) = number(3, rest)?;
     let (cap, _) = number(6, rest)?;
-    if id <= LAST_ID && x <= FARTHEST && y <= FARTHEST && cap <= GREATEST_CAP {
+    if id <= LAST_ID && x <= FARTHEST && y <= FARTHEST && cap <= MAX_CAPACITANCE {
         Ok(Some(Act::Change(Edit::Add {
             id: id as u32,
             x: x as i64,
@@ -191,7 +189,7 @@ fn cap_of(words: &[u8]) -> Result<Option<Act>, Cause>
 {
     let (id, rest) = number(0, words)?;
     let (cap, _) = number(6, rest)?;
-    if id <= LAST_ID && cap <= GREATEST_CAP {
+    if id <= LAST_ID && cap <= MAX_CAPACITANCE {
         Ok(Some(Act::Change(Edit::SetCap { id: id as u32, cap })))
     } else {
         Ok(None)
@@ -216,7 +214,12 @@ fn act_of(kind: StepKind, words: &[u8]) -> Result<Option<Act>, Cause>
 /// A step after so many others, where there is room for it, there is such a caller, and its numbers are
 /// within their limits.
 #[tactic(auto, unfolding(crate::specs::Steps::limited))]
-fn limited(callers: u32, before: u32, caller: u64, act: Option<Act>) -> Result<ScriptLine, Cause>
+pub fn limited(
+    callers: u32,
+    before: u32,
+    caller: u64,
+    act: Option<Act>,
+) -> Result<ScriptLine, Cause>
     requires { IfSome act IsAct }
     ensures read { result ≡ limited callers before caller act }
     ensures within { IfOk result (IsLine before) }
@@ -250,7 +253,7 @@ fn step_of(callers: u32, before: u32, line: &[u8], rest: &[u8]) -> Result<Script
 }
 
 /// Whether a word has digits alone.
-fn is_digits(word: &[u8]) -> bool
+pub fn is_digits(word: &[u8]) -> bool
     ensures { result ≡ is_digits word.now }
 {
     word.iter().all(|byte| byte.is_ascii_digit())

@@ -6,12 +6,11 @@ ghost use Rattle.cts_num.specs.Decimal.{decimal_text};
 ghost use Rattle.cts_script.specs.Text.{after_space, coordinate};
 
 use cts_io::{ByteSink, SinkBuffer};
-use cts_num::decimal;
 
 /// A word as it is.
 #[inline]
 pub fn put_word<K: ByteSink>(out: &mut SinkBuffer, sink: &mut K, word: &[u8])
-    ensures { Puts K.held K.faults sink.old out.old sink.new out.new (after_space word.now) }
+    ensures { Puts K.ByteSink (sink.old, out.old) (sink.new, out.new) (after_space word.now) }
 {
     out.put(sink, b" ");
     out.put(sink, word);
@@ -21,15 +20,15 @@ pub fn put_word<K: ByteSink>(out: &mut SinkBuffer, sink: &mut K, word: &[u8])
 #[inline]
 pub fn put_number<K: ByteSink>(out: &mut SinkBuffer, sink: &mut K, places: u32, value: u64)
     requires { places ≤ 16 }
-    ensures { Puts K.held K.faults sink.old out.old sink.new out.new (after_space (decimal_text places value)) }
+    ensures { Puts K.ByteSink (sink.old, out.old) (sink.new, out.new) (after_space (decimal_text places value)) }
 {
-    put_word(out, sink, decimal(u128::from(value), places).bytes());
+    out.put_labelled(sink, b" ", u128::from(value), places);
 }
 
 /// A coordinate in nm, which is not below 0.
 #[inline]
 pub fn put_coordinate<K: ByteSink>(out: &mut SinkBuffer, sink: &mut K, z: i64)
-    ensures { Puts K.held K.faults sink.old out.old sink.new out.new (after_space (coordinate z)) }
+    ensures { Puts K.ByteSink (sink.old, out.old) (sink.new, out.new) (after_space (coordinate z)) }
 {
     put_number(out, sink, 3, z.unsigned_abs());
 }

@@ -32,7 +32,7 @@ pub fn write_instance<K: ByteSink>(sink: &mut K, instance: &Instance) -> Result<
 
 /// The lines before the lists.
 fn put_head<K: ByteSink>(out: &mut SinkBuffer, sink: &mut K, instance: &Instance)
-    ensures { Puts K.held K.faults sink.old out.old sink.new out.new (concat (head_lines instance.now)) }
+    ensures { Puts K.ByteSink (sink.old, out.old) (sink.new, out.new) (concat (head_lines instance.now)) }
 {
     put_version(out, sink, instance.version());
     put_die(out, sink, instance.die());
@@ -54,7 +54,7 @@ fn put_head<K: ByteSink>(out: &mut SinkBuffer, sink: &mut K, instance: &Instance
 }
 
 fn put_version<K: ByteSink>(out: &mut SinkBuffer, sink: &mut K, version: Version)
-    ensures { Puts K.held K.faults sink.old out.old sink.new out.new (version_line version) }
+    ensures { Puts K.ByteSink (sink.old, out.old) (sink.new, out.new) (version_line version) }
 {
     out.put(sink, b"cts");
     put_version_word(out, sink, version);
@@ -62,7 +62,7 @@ fn put_version<K: ByteSink>(out: &mut SinkBuffer, sink: &mut K, version: Version
 }
 
 fn put_version_word<K: ByteSink>(out: &mut SinkBuffer, sink: &mut K, version: Version)
-    ensures { Puts K.held K.faults sink.old out.old sink.new out.new (after_space (version_word version)) }
+    ensures { Puts K.ByteSink (sink.old, out.old) (sink.new, out.new) (after_space (version_word version)) }
 {
     match version {
         Version::One => put_word(out, sink, b"1"),
@@ -71,7 +71,7 @@ fn put_version_word<K: ByteSink>(out: &mut SinkBuffer, sink: &mut K, version: Ve
 }
 
 fn put_die<K: ByteSink>(out: &mut SinkBuffer, sink: &mut K, die: Die)
-    ensures { Puts K.held K.faults sink.old out.old sink.new out.new (die_line die) }
+    ensures { Puts K.ByteSink (sink.old, out.old) (sink.new, out.new) (die_line die) }
 {
     out.put(sink, b"die");
     put_coordinate(out, sink, die.x1);
@@ -82,7 +82,7 @@ fn put_die<K: ByteSink>(out: &mut SinkBuffer, sink: &mut K, die: Die)
 }
 
 fn put_source<K: ByteSink>(out: &mut SinkBuffer, sink: &mut K, x: i64, y: i64, r: u64)
-    ensures { Puts K.held K.faults sink.old out.old sink.new out.new (source_line x y r) }
+    ensures { Puts K.ByteSink (sink.old, out.old) (sink.new, out.new) (source_line x y r) }
 {
     out.put(sink, b"source");
     put_coordinate(out, sink, x);
@@ -92,7 +92,7 @@ fn put_source<K: ByteSink>(out: &mut SinkBuffer, sink: &mut K, x: i64, y: i64, r
 }
 
 fn put_wire<K: ByteSink>(out: &mut SinkBuffer, sink: &mut K, wire: Wire)
-    ensures { Puts K.held K.faults sink.old out.old sink.new out.new (wire_line wire) }
+    ensures { Puts K.ByteSink (sink.old, out.old) (sink.new, out.new) (wire_line wire) }
 {
     out.put(sink, b"wire");
     put_number(out, sink, 3, wire.r);
@@ -101,7 +101,7 @@ fn put_wire<K: ByteSink>(out: &mut SinkBuffer, sink: &mut K, wire: Wire)
 }
 
 fn put_limits<K: ByteSink>(out: &mut SinkBuffer, sink: &mut K, insert_at: u64, load: u64, slew: u64)
-    ensures { Puts K.held K.faults sink.old out.old sink.new out.new (limits_line insert_at load slew) }
+    ensures { Puts K.ByteSink (sink.old, out.old) (sink.new, out.new) (limits_line insert_at load slew) }
 {
     out.put(sink, b"limits");
     put_number(out, sink, 6, insert_at);
@@ -112,7 +112,7 @@ fn put_limits<K: ByteSink>(out: &mut SinkBuffer, sink: &mut K, insert_at: u64, l
 
 /// The line that says how many lines of a list follow.
 fn put_count<K: ByteSink>(out: &mut SinkBuffer, sink: &mut K, key: &[u8], count: usize)
-    ensures { Puts K.held K.faults sink.old out.old sink.new out.new (count_line key.now count) }
+    ensures { Puts K.ByteSink (sink.old, out.old) (sink.new, out.new) (count_line key.now count) }
 {
     out.put(sink, key);
     put_number(out, sink, 0, count as u64);
@@ -120,7 +120,7 @@ fn put_count<K: ByteSink>(out: &mut SinkBuffer, sink: &mut K, key: &[u8], count:
 }
 
 fn put_buffers<K: ByteSink>(out: &mut SinkBuffer, sink: &mut K, buffers: &[Buffer])
-    ensures { Puts K.held K.faults sink.old out.old sink.new out.new
+    ensures { Puts K.ByteSink (sink.old, out.old) (sink.new, out.new)
         (concat (list_lines (codes "buffers") buffer_line buffers.now)) }
 {
     put_count(out, sink, b"buffers", buffers.len());
@@ -130,7 +130,7 @@ fn put_buffers<K: ByteSink>(out: &mut SinkBuffer, sink: &mut K, buffers: &[Buffe
 }
 
 fn put_buffer<K: ByteSink>(out: &mut SinkBuffer, sink: &mut K, buffer: &Buffer)
-    ensures { Puts K.held K.faults sink.old out.old sink.new out.new (buffer_line buffer.now) }
+    ensures { Puts K.ByteSink (sink.old, out.old) (sink.new, out.new) (buffer_line buffer.now) }
 {
     out.put(sink, b"buffer");
     put_number(out, sink, 6, buffer.cin);
@@ -140,7 +140,7 @@ fn put_buffer<K: ByteSink>(out: &mut SinkBuffer, sink: &mut K, buffer: &Buffer)
 }
 
 fn put_sinks<K: ByteSink>(out: &mut SinkBuffer, sink: &mut K, version: Version, sinks: &[Sink])
-    ensures { Puts K.held K.faults sink.old out.old sink.new out.new
+    ensures { Puts K.ByteSink (sink.old, out.old) (sink.new, out.new)
         (concat (list_lines (codes "sinks") (sink_line version) sinks.now)) }
 {
     put_count(out, sink, b"sinks", sinks.len());
@@ -150,7 +150,7 @@ fn put_sinks<K: ByteSink>(out: &mut SinkBuffer, sink: &mut K, version: Version, 
 }
 
 fn put_sink<K: ByteSink>(out: &mut SinkBuffer, sink: &mut K, version: Version, item: &Sink)
-    ensures { Puts K.held K.faults sink.old out.old sink.new out.new (sink_line version item.now) }
+    ensures { Puts K.ByteSink (sink.old, out.old) (sink.new, out.new) (sink_line version item.now) }
 {
     out.put(sink, b"sink");
     put_number(out, sink, 0, u64::from(item.id));
@@ -163,7 +163,7 @@ fn put_sink<K: ByteSink>(out: &mut SinkBuffer, sink: &mut K, version: Version, i
 
 /// The offset of a sink, which version 2 alone spells.
 fn put_offset<K: ByteSink>(out: &mut SinkBuffer, sink: &mut K, version: Version, offset: u64)
-    ensures { Puts K.held K.faults sink.old out.old sink.new out.new
+    ensures { Puts K.ByteSink (sink.old, out.old) (sink.new, out.new)
         (flat_map after_space (offset_words version offset)) }
 {
     match version {
@@ -173,7 +173,7 @@ fn put_offset<K: ByteSink>(out: &mut SinkBuffer, sink: &mut K, version: Version,
 }
 
 fn put_blocks<K: ByteSink>(out: &mut SinkBuffer, sink: &mut K, blocks: &[Block])
-    ensures { Puts K.held K.faults sink.old out.old sink.new out.new
+    ensures { Puts K.ByteSink (sink.old, out.old) (sink.new, out.new)
         (concat (list_lines (codes "blocks") block_line blocks.now)) }
 {
     put_count(out, sink, b"blocks", blocks.len());
@@ -183,7 +183,7 @@ fn put_blocks<K: ByteSink>(out: &mut SinkBuffer, sink: &mut K, blocks: &[Block])
 }
 
 fn put_block<K: ByteSink>(out: &mut SinkBuffer, sink: &mut K, block: &Block)
-    ensures { Puts K.held K.faults sink.old out.old sink.new out.new (block_line block.now) }
+    ensures { Puts K.ByteSink (sink.old, out.old) (sink.new, out.new) (block_line block.now) }
 {
     out.put(sink, b"block");
     put_kind(out, sink, block.kind);
@@ -195,7 +195,7 @@ fn put_block<K: ByteSink>(out: &mut SinkBuffer, sink: &mut K, block: &Block)
 }
 
 fn put_kind<K: ByteSink>(out: &mut SinkBuffer, sink: &mut K, kind: Kind)
-    ensures { Puts K.held K.faults sink.old out.old sink.new out.new (after_space (kind_word kind)) }
+    ensures { Puts K.ByteSink (sink.old, out.old) (sink.new, out.new) (after_space (kind_word kind)) }
 {
     match kind {
         Kind::Buffer => put_word(out, sink, b"buffer"),

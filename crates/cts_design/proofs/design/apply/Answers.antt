@@ -1,8 +1,8 @@
 use Rattle.std.proofs.Common.{◌≡◌, ℤ, ◌∙◌, ap, sym, subst, arith, to_z, of_z, w64}
 use Rattle.std.proofs.lemmas.Int.{ints, to_z-of_z}
 use Rattle.cts_instance.specs.Laws.{IsOnChip}
-use Rattle.cts_design.specs.declared.edit.Edit.TheVariants.{Move}
-use Rattle.cts_design.specs.Edits.{IsEdit, applied}
+use Rattle.cts_edit.specs.declared.edit.Edit.TheVariants.{Move}
+use Rattle.cts_edit.specs.Edits.{IsEdit, applied}
 use Rattle.cts_design.proofs.design.apply.Goals as goal
 
 whole : (z : ℤ) → IsOnChip z → to_z w64 (of_z w64 z) ≡ z

@@ -1,9 +1,9 @@
 use Rattle.std.proofs.Common.{◌∷◌, [], length, inl, inr, subst, sym, ap, ◌∙◌, arith, length-append}
 use Rattle.cts_turn.specs.Passes.{start_of}
 use Rattle.cts_instance.specs.Validity.{IsValid, with_sinks}
-use Rattle.cts_design.specs.Edits.{after}
+use Rattle.cts_edit.specs.Edits.{after}
 use Rattle.cts_design.specs.Passes.{instance_of}
-use Rattle.cts_design.proofs.Validities.{sound_valid}
+use Rattle.cts_edit.proofs.Validities.{sound_valid}
 use Rattle.cts_design.proofs.shared.snapshot.Goals as goal
 
 pub returns-in-Listed-clause-own : goal.returns-in-Listed-clause-own

@@ -7,6 +7,6 @@ use Rattle.cts_script.proofs.write.put_blocks.Goals as goal
 
 pub loop-block-preserved : goal.loop-block-preserved
 loop-block-preserved g c =
-    subst (λ text. Puts g.K.ByteSink.held g.K.ByteSink.faults c.args.sink.now c.args.out.now c.put_block.new.sink c.put_block.new.out text)
+    subst (λ text. Puts g.K.ByteSink (c.args.sink.now, c.args.out.now) (c.put_block.new.sink, c.put_block.new.out) text)
     (sym (lines_more block_line _ c.args.blocks.now c.loop-block.block-index _ c.loop-block-test.true))
     (c.loop-block.invariant ▸ c.put_block.ensures)

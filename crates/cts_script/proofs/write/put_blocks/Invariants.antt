@@ -6,5 +6,5 @@ use Rattle.cts_script.proofs.write.put_blocks.Given as goal
 
 abbrev pub invariant-loop-block : goal.invariant-loop-block
 invariant-loop-block g l =
-    Puts g.K.ByteSink.held g.K.ByteSink.faults l.fn.sink l.fn.out l.sink l.out
+    Puts g.K.ByteSink (l.fn.sink, l.fn.out) (l.sink, l.out)
     (concat (count_line (codes "blocks") (length l.blocks) ∷ map block_line (take l.block-index l.blocks)))

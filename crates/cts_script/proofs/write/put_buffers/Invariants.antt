@@ -6,5 +6,5 @@ use Rattle.cts_script.proofs.write.put_buffers.Given as goal
 
 abbrev pub invariant-loop-buffer : goal.invariant-loop-buffer
 invariant-loop-buffer g l =
-    Puts g.K.ByteSink.held g.K.ByteSink.faults l.fn.sink l.fn.out l.sink l.out
+    Puts g.K.ByteSink (l.fn.sink, l.fn.out) (l.sink, l.out)
     (concat (count_line (codes "buffers") (length l.buffers) ∷ map buffer_line (take l.buffer-index l.buffers)))

@@ -12,5 +12,5 @@ returns g c =
     let y1 : FitsSigned w64 c.args.die.y1 = search rules in
     let x2 : FitsSigned w64 c.args.die.x2 = search rules in
     let y2 : FitsSigned w64 c.args.die.y2 = search rules in
-    let line = c.put.ensures ▸ (c.put_coordinate.ensures ▸ (c.put_coordinate-2.ensures ▸ (c.put_coordinate-3.ensures ▸ (c.put_coordinate-4.ensures ▸ puts_nothing _ _ _ _)))) ▸ c.put-2.ensures in
+    let line = c.put.ensures ▸ (c.put_coordinate.ensures ▸ (c.put_coordinate-2.ensures ▸ (c.put_coordinate-3.ensures ▸ (c.put_coordinate-4.ensures ▸ puts_nothing _ _)))) ▸ c.put-2.ensures in
     simp to_z-of_z at line

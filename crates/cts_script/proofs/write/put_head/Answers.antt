@@ -11,7 +11,7 @@ returns g c =
     let x : FitsSigned w64 c.source_x.result = search rules in
     let y : FitsSigned w64 c.source_y.result = search rules in
     let lines =
-    c.put_version.ensures ▸ (c.put_die.ensures ▸ (c.put_source.ensures ▸ (c.put_wire.ensures ▸ (c.put_limits.ensures ▸ puts_nothing _ _ _ _)))) in
+    c.put_version.ensures ▸ (c.put_die.ensures ▸ (c.put_source.ensures ▸ (c.put_wire.ensures ▸ (c.put_limits.ensures ▸ puts_nothing _ _)))) in
     let passed = simp to_z-of_z at lines in
     simp (
       c.version.ensures.part,

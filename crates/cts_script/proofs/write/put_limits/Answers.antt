@@ -4,4 +4,4 @@ use Rattle.cts_script.proofs.write.put_limits.Goals as goal
 
 pub returns : goal.returns
 unfolding limits_line line_of
-returns g c = c.put.ensures ▸ (c.put_number.ensures ▸ (c.put_number-2.ensures ▸ (c.put_number-3.ensures ▸ puts_nothing _ _ _ _))) ▸ c.put-2.ensures
+returns g c = c.put.ensures ▸ (c.put_number.ensures ▸ (c.put_number-2.ensures ▸ (c.put_number-3.ensures ▸ puts_nothing _ _))) ▸ c.put-2.ensures

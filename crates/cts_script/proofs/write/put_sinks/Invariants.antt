@@ -6,5 +6,5 @@ use Rattle.cts_script.proofs.write.put_sinks.Given as goal
 
 abbrev pub invariant-loop-item : goal.invariant-loop-item
 invariant-loop-item g l =
-    Puts g.K.ByteSink.held g.K.ByteSink.faults l.fn.sink l.fn.out l.sink l.out
+    Puts g.K.ByteSink (l.fn.sink, l.fn.out) (l.sink, l.out)
     (concat (count_line (codes "sinks") (length l.sinks) ∷ map (sink_line l.version) (take l.item-index l.sinks)))

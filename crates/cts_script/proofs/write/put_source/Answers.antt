@@ -10,5 +10,5 @@ unfolding source_line line_of
 returns g c =
     let x : FitsSigned w64 c.args.x = search rules in
     let y : FitsSigned w64 c.args.y = search rules in
-    let line = c.put.ensures ▸ (c.put_coordinate.ensures ▸ (c.put_coordinate-2.ensures ▸ (c.put_number.ensures ▸ puts_nothing _ _ _ _))) ▸ c.put-2.ensures in
+    let line = c.put.ensures ▸ (c.put_coordinate.ensures ▸ (c.put_coordinate-2.ensures ▸ (c.put_number.ensures ▸ puts_nothing _ _))) ▸ c.put-2.ensures in
     simp to_z-of_z at line

@@ -10,7 +10,7 @@ pub returns : goal.returns
 unfolding instance_lines line_of
 returns g c =
     let sinks =
-    subst (λ version. Puts g.K.ByteSink.held g.K.ByteSink.faults c.put_buffers.new.sink c.put_buffers.new.out c.put_sinks.new.sink c.put_sinks.new.out
+    subst (λ version. Puts g.K.ByteSink (c.put_buffers.new.sink, c.put_buffers.new.out) (c.put_sinks.new.sink, c.put_sinks.new.out)
     (concat (list_lines (codes "sinks") (sink_line version) c.sinks.result.now))) c.version.ensures.part c.put_sinks.ensures in
     let text = c.put_head.ensures ▸ c.put_buffers.ensures ▸ sinks ▸ c.put_blocks.ensures ▸ c.put.ensures in
     rw (text_by_lists c.args.instance.now)

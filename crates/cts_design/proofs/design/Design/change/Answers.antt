@@ -1,13 +1,14 @@
 use Rattle.std.proofs.Common.{◌≡◌, None, sym, ap, ◌∙◌}
-use Rattle.cts_design.specs.Decide.{is_known, decide}
+use Rattle.cts_edit.specs.Edits.{has_id}
+use Rattle.cts_edit.specs.Decide.{id_of, is_known, decide}
 use Rattle.cts_design.specs.Designs.{base_of, told_by}
-use Rattle.cts_design.proofs.Histories.{accepted_passes, keeps_on}
+use Rattle.cts_edit.proofs.Histories.{accepted_passes, keeps_on}
 use Rattle.cts_design.proofs.design.Design.change.Goals as goal
 
 pub append-requires-clause-new : goal.append-requires-clause-new
 append-requires-clause-new c =
     let none : decide (base_of c.args.self.now) (told_by c.args.self.now) c.args.entry.edit ≡ None = sym c.in_default.ensures in
-    ap (λ s. is_known s c.args.entry.edit) c.args.self.now.kept
+    ap (λ s. is_known (has_id (id_of c.args.entry.edit) s) c.args.entry.edit) c.args.self.now.kept
     ∙ (accepted_passes (base_of c.args.self.now) (told_by c.args.self.now) c.args.entry.edit none).known
 
 pub invariant_of-self : goal.invariant_of-self

@@ -1,7 +1,7 @@
 use Rattle.std.proofs.Common.{subst, sym, ◌∙◌}
 use Rattle.cts_instance.specs.Validity.{IsValid, with_sinks}
 use Rattle.cts_design.specs.Designs.{base_of, told_by}
-use Rattle.cts_design.proofs.Validities.{sound_valid}
+use Rattle.cts_edit.proofs.Validities.{sound_valid}
 use Rattle.cts_design.proofs.design.Design.into_lists.Goals as goal
 
 pub returns-clause-valid : goal.returns-clause-valid

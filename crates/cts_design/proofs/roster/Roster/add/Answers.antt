@@ -1,5 +1,5 @@
 use Rattle.std.proofs.Common.{◌≡◌, ◌+◌, ◌++◌, ◌∷◌, [], false, sym, ap, ◌∙◌, subst, arith}
-use Rattle.cts_design.specs.Edits.{has_id}
+use Rattle.cts_edit.specs.Edits.{has_id}
 use Rattle.cts_design.specs.Roster.{IsRoster, present}
 use Rattle.cts_design.proofs.Rosters.{count_within, add_view, add_keeps}
 use Rattle.cts_design.proofs.roster.Roster.add.Goals as goal

@@ -1,5 +1,5 @@
 use Rattle.std.proofs.Common.{◌∙◌, ap}
-use Rattle.cts_design.specs.Edits.{has_id}
+use Rattle.cts_edit.specs.Edits.{has_id}
 use Rattle.cts_design.proofs.Rosters.{has_by}
 use Rattle.cts_design.proofs.roster.Roster.has.Goals as goal
 

@@ -1,7 +1,7 @@
 use Rattle.std.proofs.Common.{◌≡◌, Some, sym, ap, ◌∙◌, subst, refl, set, rules, arith}
 use Rattle.std.specs.Ordering.{nat_cmp}
 use Rattle.std.specs.BTreeMap.{get}
-use Rattle.cts_design.specs.Edits.{changed, moved_to}
+use Rattle.cts_edit.specs.Edits.{changed, moved_to}
 use Rattle.cts_design.specs.Roster.{IsRoster, present}
 use Rattle.cts_design.proofs.Rosters.{place_within, read_slot, write_view, write_keeps, changed_same}
 use Rattle.cts_design.proofs.roster.Roster.move_to.Goals as goal

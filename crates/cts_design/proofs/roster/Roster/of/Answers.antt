@@ -1,5 +1,5 @@
 use Rattle.std.proofs.Common.{◌∙◌, ap}
-use Rattle.cts_design.specs.Edits.{has_id}
+use Rattle.cts_edit.specs.Edits.{has_id}
 use Rattle.cts_design.proofs.Distinct.{new_so_far}
 use Rattle.cts_design.proofs.roster.Roster.of.Goals as goal
 

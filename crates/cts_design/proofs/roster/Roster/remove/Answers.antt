@@ -1,7 +1,7 @@
 use Rattle.std.proofs.Common.{◌≡◌, ◌-◌, Some, sym, ap, ◌∙◌, subst, arith}
 use Rattle.std.specs.Ordering.{nat_cmp}
 use Rattle.std.specs.BTreeMap.{get}
-use Rattle.cts_design.specs.Edits.{without}
+use Rattle.cts_edit.specs.Edits.{without}
 use Rattle.cts_design.specs.Roster.{present, IsRoster}
 use Rattle.cts_design.proofs.Rosters.{place_within, some_taken, take_view, take_keeps, without_same}
 use Rattle.cts_design.proofs.roster.Roster.remove.Goals as goal

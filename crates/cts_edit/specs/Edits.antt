@@ -3,9 +3,9 @@ use Rattle.std.specs.Prelude.{ℕ, ℤ, ◌^◌, ◌≤◌, Bool, not, nat_eq, i
 use Rattle.std.specs.List.{filter, list_any}
 use Rattle.cts_units.specs.declared.params.Sink.{Sink}
 use Rattle.cts_instance.specs.Laws.{IsOnChip}
-use Rattle.cts_design.specs.declared.edit.Edit.{Edit}
-use Rattle.cts_design.specs.declared.edit.Edit.TheVariants.{Add, Remove, Move, SetCap}
-use Rattle.cts_design.specs.declared.edit.Entry.{Entry}
+use Rattle.cts_edit.specs.declared.edit.Edit.{Edit}
+use Rattle.cts_edit.specs.declared.edit.Edit.TheVariants.{Add, Remove, Move, SetCap}
+use Rattle.cts_edit.specs.declared.edit.Entry.{Entry}
 
 -- some sink has the id
 abbrev pub has_id : ℕ → List Sink → Bool

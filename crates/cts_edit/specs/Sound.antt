@@ -1,10 +1,10 @@
 -- Histories that a design may tell.
 use Rattle.std.specs.Prelude.{◌≡◌, ℕ, List, take, slice_get, Some, None}
 use Rattle.cts_instance.specs.declared.parts.Parts.{Parts}
-use Rattle.cts_design.specs.declared.edit.Edit.{Edit}
-use Rattle.cts_design.specs.declared.edit.Entry.{Entry}
-use Rattle.cts_design.specs.Edits.{IsEdit}
-use Rattle.cts_design.specs.Decide.{decide}
+use Rattle.cts_edit.specs.declared.edit.Edit.{Edit}
+use Rattle.cts_edit.specs.declared.edit.Entry.{Entry}
+use Rattle.cts_edit.specs.Edits.{IsEdit}
+use Rattle.cts_edit.specs.Decide.{decide}
 
 -- the edit is within the limits, and accepted after the entries before it
 pub record IsAccepted (base : Parts) (before : List Entry) (edit : Edit) : Type 0 where

@@ -8,13 +8,13 @@ use Rattle.cts_block.specs.declared.blocks.Block.{Block}
 use Rattle.cts_instance.specs.declared.parts.Parts.{Parts}
 use Rattle.cts_instance.specs.Tests.{is_in_die}
 use Rattle.cts_instance.proofs.TestLemmas.{Decides-is_in_die}
-use Rattle.cts_design.specs.declared.edit.Edit.{Edit}
-use Rattle.cts_design.specs.declared.edit.Edit.TheVariants.{Add, Remove, Move, SetCap}
-use Rattle.cts_design.specs.Edits.{has_id, after}
-use Rattle.cts_design.specs.Decide.{walls_of, is_walled, first_cause}
-use Rattle.cts_design.specs.Laws.{IsThere, IsNew, MayStand, MayBeMade, AcceptedMayBeMade}
-use Rattle.cts_design.proofs.Histories.{Passes, passes}
-use Rattle.cts_design.proofs.Validities.{absent, in_die, open_place, walled_from}
+use Rattle.cts_edit.specs.declared.edit.Edit.{Edit}
+use Rattle.cts_edit.specs.declared.edit.Edit.TheVariants.{Add, Remove, Move, SetCap}
+use Rattle.cts_edit.specs.Edits.{has_id, after}
+use Rattle.cts_edit.specs.Decide.{walls_of, is_walled, cause_by, first_cause}
+use Rattle.cts_edit.specs.Laws.{IsThere, IsNew, MayStand, MayBeMade, AcceptedMayBeMade}
+use Rattle.cts_edit.proofs.Histories.{Passes, passes}
+use Rattle.cts_edit.proofs.Validities.{absent, in_die, open_place, walled_from}
 
 there_from : (id : ℕ) (sinks : List Sink) → not (has_id id sinks) ≡ false → IsThere id sinks
 there_from id sinks known =
@@ -46,7 +46,7 @@ clear_from base x y may = walled_from base.blocks x y may.clear
 
 none_from : (die : Die) (walls : List Block) (sinks : List Sink) (edits : ℕ) (edit : Edit) → Passes die walls sinks edits edit
     → first_cause die walls sinks edits edit ≡ None
-unfolding first_cause
+unfolding cause_by
 none_from die walls sinks edits edit p = rw (p.known, p.unknown, p.outside, p.in_block, p.full, p.last, lt-leb 65536 edits p.long) refl
 
 made_from : (base : Parts) (sinks : List Sink) (edits : ℕ) (edit : Edit) → Passes base.die (walls_of base.blocks) sinks edits edit → MayBeMade base sinks edit

@@ -15,19 +15,19 @@ use Rattle.cts_units.specs.Ids.{HasDistinctIds}
 use Rattle.cts_block.specs.declared.blocks.Block.{Block}
 use Rattle.cts_block.specs.declared.blocks.Kind.{Kind}
 use Rattle.cts_block.specs.declared.blocks.Kind.TheVariants.{Buffer as of_buffers, All as of_all}
-use Rattle.cts_block.specs.FreePoints.{StopsWires}
+use Rattle.cts_block.specs.FreePoints.{StopsWires, stops_wires}
 use Rattle.cts_instance.specs.declared.parts.Parts.{Parts}
-use Rattle.cts_instance.specs.Places.{IsInDie, IsInside}
-use Rattle.cts_instance.specs.Tests.{is_in_die, is_inside, is_kind_all}
+use Rattle.cts_block.specs.Places.{IsInDie, IsInside}
+use Rattle.cts_instance.specs.Tests.{is_in_die, is_inside}
 use Rattle.cts_instance.specs.Validity.{IsSink, IsValid, with_sinks}
 use Rattle.cts_instance.proofs.TestLemmas.{Decides-is_in_die, Decides-is_inside}
-use Rattle.cts_design.specs.declared.edit.Edit.{Edit}
-use Rattle.cts_design.specs.declared.edit.Edit.TheVariants.{Add, Remove, Move, SetCap}
-use Rattle.cts_design.specs.declared.edit.Entry.{Entry}
-use Rattle.cts_design.specs.Edits.{IsEdit, has_id, without, changed, moved_to, with_cap, applied, after}
-use Rattle.cts_design.specs.Decide.{walls_of, is_walled}
-use Rattle.cts_design.specs.Sound.{IsSound}
-use Rattle.cts_design.proofs.Histories.{Passes, accepted_passes, after_push}
+use Rattle.cts_edit.specs.declared.edit.Edit.{Edit}
+use Rattle.cts_edit.specs.declared.edit.Edit.TheVariants.{Add, Remove, Move, SetCap}
+use Rattle.cts_edit.specs.declared.edit.Entry.{Entry}
+use Rattle.cts_edit.specs.Edits.{IsEdit, has_id, without, changed, moved_to, with_cap, applied, after}
+use Rattle.cts_edit.specs.Decide.{walls_of, is_walled}
+use Rattle.cts_edit.specs.Sound.{IsSound}
+use Rattle.cts_edit.proofs.Histories.{Passes, accepted_passes, after_push}
 
 -- no block that stops wires has the place strictly inside
 pub record IsOpen (blocks : List Block) (x y : ℤ) : Type 0 where
@@ -77,7 +77,7 @@ fit_valid base before sinks v fit = record {
 pub in_die : (die : Die) (x y : ℤ) → not (is_in_die die x y) ≡ false → IsInDie die x y
 in_die die x y inside = (Decides-is_in_die die x y).0 (not-false (is_in_die die x y) inside)
 
-stops_all : (kind : Kind) → StopsWires kind → is_kind_all kind ≡ true
+stops_all : (kind : Kind) → StopsWires kind → stops_wires kind ≡ true
 stops_all of_buffers stops = absurd stops
 stops_all of_all stops = refl
 
@@ -96,11 +96,11 @@ pub open_place : (blocks : List Block) (x y : ℤ) → is_walled (walls_of block
 open_place blocks x y clear = record {
   open_at = λ k d inside stops within.
       both_ways _ clear
-      (filtered_any (λ block. is_kind_all block.kind) (λ block. is_inside block x y) blocks k d inside (stops_all _ stops)
+      (filtered_any (λ block. stops_wires block.kind) (λ block. is_inside block x y) blocks k d inside (stops_all _ stops)
       ((Decides-is_inside (get_or blocks k d) x y).1 within));
 }
 
-stops_from : (kind : Kind) → is_kind_all kind ≡ true → StopsWires kind
+stops_from : (kind : Kind) → stops_wires kind ≡ true → StopsWires kind
 stops_from of_buffers e = absurd (false≢true e)
 stops_from of_all e = tt
 
@@ -108,9 +108,9 @@ stops_from of_all e = tt
 pub walled_from : (blocks : List Block) (x y : ℤ) → All (λ block. StopsWires block.kind → ¬ IsInside block x y) blocks → is_walled (walls_of blocks) x y ≡ false
 walled_from [] x y clear = refl
 walled_from (b ∷ blocks) x y clear =
-    by_kind (is_kind_all b.kind) refl (walled_from blocks x y (All-tail (λ block. StopsWires block.kind → ¬ IsInside block x y) b blocks clear))
+    by_kind (stops_wires b.kind) refl (walled_from blocks x y (All-tail (λ block. StopsWires block.kind → ¬ IsInside block x y) b blocks clear))
   where
-    by_kind : (kept : Bool) → is_kind_all b.kind ≡ kept → is_walled (walls_of blocks) x y ≡ false
+    by_kind : (kept : Bool) → stops_wires b.kind ≡ kept → is_walled (walls_of blocks) x y ≡ false
         → list_any (λ block. is_inside block x y) (cond kept (b ∷ walls_of blocks) (walls_of blocks)) ≡ false
     by_kind true is rest =
         or_from (is_inside b x y) (is_walled (walls_of blocks) x y)

@@ -5,12 +5,12 @@ use Rattle.cts_units.specs.declared.params.Sink.{Sink}
 use Rattle.cts_block.specs.declared.blocks.Block.{Block}
 use Rattle.cts_block.specs.declared.blocks.Kind.TheVariants as kind
 use Rattle.cts_instance.specs.Tests.{is_between, is_strictly_between, is_in_die, is_inside}
-use Rattle.cts_design.specs.declared.edit.Edit.{Edit}
-use Rattle.cts_design.specs.declared.edit.Edit.TheVariants.{Add, Remove, Move, SetCap}
-use Rattle.cts_design.specs.declared.edit.Entry.{Entry}
-use Rattle.cts_design.specs.declared.edit.EditCause.TheVariants.{Known, Unknown, Outside, InBlock, Last, Long}
-use Rattle.cts_design.specs.Edits.{after}
-use Rattle.cts_design.specs.Decide.{walls_of, first_cause}
+use Rattle.cts_edit.specs.declared.edit.Edit.{Edit}
+use Rattle.cts_edit.specs.declared.edit.Edit.TheVariants.{Add, Remove, Move, SetCap}
+use Rattle.cts_edit.specs.declared.edit.Entry.{Entry}
+use Rattle.cts_edit.specs.declared.edit.EditCause.TheVariants.{Known, Unknown, Outside, InBlock, Last, Long}
+use Rattle.cts_edit.specs.Edits.{after}
+use Rattle.cts_edit.specs.Decide.{walls_of, cause_by, first_cause}
 
 abbrev entry : Edit → Entry
 entry edit = record { caller = 1; line = 13; edit = edit }
@@ -47,34 +47,34 @@ walls_are = refl
 
 -- one cause after the other
 known_first : first_cause die (wall ∷ []) two 0 (Add 1 (pos 21) (pos 10) 5) ≡ Some Known
-unfolding first_cause
+unfolding cause_by
 known_first = refl
 
 unknown_first : first_cause die (wall ∷ []) two 65536 (Move 3 (pos 10) (pos 10)) ≡ Some Unknown
-unfolding first_cause
+unfolding cause_by
 unknown_first = refl
 
 outside_first : first_cause die (wall ∷ []) two 65536 (Move 1 (pos 10) (pos 21)) ≡ Some Outside
-unfolding first_cause is_in_die is_between
+unfolding cause_by is_in_die is_between
 outside_first = refl
 
 in_block : first_cause die (wall ∷ []) two 65536 (Move 1 (pos 14) (pos 6)) ≡ Some InBlock
-unfolding first_cause is_in_die is_between is_inside is_strictly_between
+unfolding cause_by is_in_die is_between is_inside is_strictly_between
 in_block = refl
 
 on_the_edge : first_cause die (wall ∷ []) two 1 (Move 1 (pos 5) (pos 6)) ≡ None
-unfolding first_cause is_in_die is_between is_inside is_strictly_between
+unfolding cause_by is_in_die is_between is_inside is_strictly_between
 on_the_edge = refl
 
 last_stays : first_cause die (wall ∷ []) (first ∷ []) 65536 (Remove 1) ≡ Some Last
-unfolding first_cause
+unfolding cause_by
 last_stays = refl
 
 long_last : first_cause die (wall ∷ []) two 65536 (SetCap 1 7) ≡ Some Long
-unfolding first_cause
+unfolding cause_by
 long_last = refl
 
 -- one edit fewer, and it is accepted
 long_enough : first_cause die (wall ∷ []) two 65535 (SetCap 1 7) ≡ None
-unfolding first_cause
+unfolding cause_by
 long_enough = refl

@@ -7,22 +7,22 @@ use Rattle.cts_num.specs.declared.error.NoMemory.{NoMemory}
 use Rattle.cts_units.specs.declared.params.Sink.{Sink}
 use Rattle.cts_block.specs.declared.blocks.Block.{Block}
 use Rattle.cts_instance.specs.declared.parts.Parts.{Parts}
-use Rattle.cts_design.specs.declared.edit.Edit.{Edit}
-use Rattle.cts_design.specs.declared.edit.Entry.{Entry}
-use Rattle.cts_design.specs.declared.edit.EditCause.{EditCause}
-use Rattle.cts_design.specs.Edits.{applied, after}
-use Rattle.cts_design.specs.Decide.{is_known, is_unknown, is_outside, is_in_block, is_full, is_last, walls_of, first_cause, decide}
-use Rattle.cts_design.specs.Sound.{IsAccepted, IsSound}
-use Rattle.cts_design.proofs.Places.{get_push}
+use Rattle.cts_edit.specs.declared.edit.Edit.{Edit}
+use Rattle.cts_edit.specs.declared.edit.Entry.{Entry}
+use Rattle.cts_edit.specs.declared.edit.EditCause.{EditCause}
+use Rattle.cts_edit.specs.Edits.{has_id, applied, after}
+use Rattle.cts_edit.specs.Decide.{is_known, is_unknown, is_outside, is_in_block, is_full, is_last, id_of, walls_of, cause_by, first_cause, decide}
+use Rattle.cts_edit.specs.Sound.{IsAccepted, IsSound}
+use Rattle.cts_edit.proofs.Places.{get_push}
 
 -- no cause holds
 pub record Passes (die : Die) (walls : List Block) (sinks : List Sink) (edits : ℕ) (edit : Edit) : Type 0 where
-  pub known : is_known sinks edit ≡ false
-  pub unknown : is_unknown sinks edit ≡ false
+  pub known : is_known (has_id (id_of edit) sinks) edit ≡ false
+  pub unknown : is_unknown (has_id (id_of edit) sinks) edit ≡ false
   pub outside : is_outside die edit ≡ false
   pub in_block : is_in_block walls edit ≡ false
-  pub full : is_full sinks edit ≡ false
-  pub last : is_last sinks edit ≡ false
+  pub full : is_full (length sinks) edit ≡ false
+  pub last : is_last (length sinks) edit ≡ false
   pub long : edits < 65536
 
 peel : (b : Bool) (cause : EditCause) (later : Option EditCause) → cond b (Some cause) later ≡ None → (b ≡ false) × (later ≡ None)
@@ -31,7 +31,7 @@ peel false cause later e = (refl, e)
 
 pub passes : (die : Die) (walls : List Block) (sinks : List Sink) (edits : ℕ) (edit : Edit) → first_cause die walls sinks edits edit ≡ None
     → Passes die walls sinks edits edit
-unfolding first_cause
+unfolding cause_by
 passes die walls sinks edits edit none =
     let known = peel _ _ _ none in
     let unknown = peel _ _ _ (known.1) in
