@@ -1,0 +1,5 @@
+pub mod Around
+pub mod Backs
+pub mod Indexed
+pub mod Books
+mod Example

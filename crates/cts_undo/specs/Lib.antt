@@ -1,0 +1,4 @@
+pub mod Inverses
+pub mod SinkList
+pub mod Replay
+pub mod Book
