@@ -1,0 +1,15 @@
+pub mod Members
+pub mod Names
+pub mod One
+pub mod Covers
+pub mod Plans
+pub mod Nearest
+pub mod Bounds
+pub mod OtherBounds
+pub mod Trees
+pub mod Places
+pub mod Moves
+pub mod Steps
+pub mod Begun
+pub mod Written
+pub mod Passed

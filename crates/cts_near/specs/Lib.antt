@@ -1,0 +1,13 @@
+pub mod Parts
+pub mod Closest
+pub mod Near
+pub mod NearShape
+pub mod Search
+pub mod Forest
+pub mod Ends
+pub mod Laws
+pub use Rattle.cts_up.specs.Plan
+pub use Rattle.cts_topo.specs.Shape
+pub use Rattle.cts_units.specs.Ids
+pub use Rattle.cts_up.specs.Sinks
+pub use Rattle.cts_units.specs.Limits
