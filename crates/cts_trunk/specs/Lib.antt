@@ -1,0 +1,15 @@
+pub mod Way
+pub mod Places
+pub mod Extended
+pub mod Laws
+pub mod Road
+pub mod TrunkSums
+pub mod Met
+pub mod Assembled
+pub mod Laid
+pub mod Known
+pub mod Lines
+pub use Rattle.cts_elmore.specs.Figures
+pub use Rattle.cts_elmore.specs.Measurement
+pub use Rattle.cts_elmore.specs.Sound
+pub use Rattle.cts_elmore.specs.Fits
