@@ -8,9 +8,9 @@ use Rattle.cts_instance.specs.Validity.{IsValid}
 use Rattle.cts_elmore.specs.Sound.{IsSound}
 use Rattle.cts_elmore.proofs.Limited.{totals_within}
 use Rattle.cts_plain.proofs.Valid.{made_sound}
-use Rattle.cts_design.specs.declared.edit.Entry.{Entry}
-use Rattle.cts_design.specs.declared.call.EditReply.{EditReply}
-use Rattle.cts_design.specs.declared.call.EditReply.TheVariants.{Accepted, Refused, NoMemory}
+use Rattle.cts_edit.specs.declared.edit.Entry.{Entry}
+use Rattle.cts_edit.specs.declared.reply.EditReply.{EditReply}
+use Rattle.cts_edit.specs.declared.reply.EditReply.TheVariants.{Accepted, Refused, NoMemory}
 use Rattle.cts_design.specs.Edits.{IsEdit}
 use Rattle.cts_design.specs.Sound.{IsSound as IsHistory}
 use Rattle.cts_script.specs.declared.script.Act.{Act}

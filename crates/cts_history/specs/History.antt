@@ -5,12 +5,12 @@ use Rattle.std.specs.List.{flat_map}
 use Rattle.cts_num.specs.Decimal.{decimal_text}
 use Rattle.cts_plain.specs.declared.end.NoTree.{NoTree as Why}
 use Rattle.cts_plain.specs.declared.end.NoTree.TheVariants as why
-use Rattle.cts_design.specs.declared.edit.Edit.{Edit}
-use Rattle.cts_design.specs.declared.edit.EditCause.{EditCause}
-use Rattle.cts_design.specs.declared.edit.EditCause.TheVariants.{Known, Unknown, Outside, InBlock, Full, Last, Long}
-use Rattle.cts_design.specs.declared.edit.Entry.{Entry}
-use Rattle.cts_design.specs.declared.call.EditReply.{EditReply}
-use Rattle.cts_design.specs.declared.call.EditReply.TheVariants.{Accepted, Refused, NoMemory}
+use Rattle.cts_edit.specs.declared.edit.Edit.{Edit}
+use Rattle.cts_edit.specs.declared.edit.EditCause.{EditCause}
+use Rattle.cts_edit.specs.declared.edit.EditCause.TheVariants.{Known, Unknown, Outside, InBlock, Full, Last, Long}
+use Rattle.cts_edit.specs.declared.edit.Entry.{Entry}
+use Rattle.cts_edit.specs.declared.reply.EditReply.{EditReply}
+use Rattle.cts_edit.specs.declared.reply.EditReply.TheVariants.{Accepted, Refused, NoMemory}
 use Rattle.cts_design.specs.Edits.{IsEdit}
 use Rattle.cts_script.specs.declared.script.Act.TheVariants.{Change}
 use Rattle.cts_script.specs.ScriptText.{act_words}

@@ -37,8 +37,8 @@ pub fn write_history<K: ByteSink>(
 }
 
 /// The line that says how many entries there are.
-fn put_length_of<K: ByteSink>(out: &mut SinkBuffer, sink: &mut K, entries: usize)
-    ensures { Puts K.held K.faults sink.old out.old sink.new out.new (count_line (codes "history") entries) }
+pub fn put_length_of<K: ByteSink>(out: &mut SinkBuffer, sink: &mut K, entries: usize)
+    ensures { Puts K.ByteSink (sink.old, out.old) (sink.new, out.new) (count_line (codes "history") entries) }
 {
     out.put(sink, b"history");
     put_whole(out, sink, entries as u64);
@@ -46,8 +46,8 @@ fn put_length_of<K: ByteSink>(out: &mut SinkBuffer, sink: &mut K, entries: usize
 }
 
 /// The entries, by the versions that they made.
-fn put_entries<K: ByteSink>(out: &mut SinkBuffer, sink: &mut K, history: &[Entry])
-    ensures { Puts K.held K.faults sink.old out.old sink.new out.new (numbered entry_line 1 history.now) }
+pub fn put_entries<K: ByteSink>(out: &mut SinkBuffer, sink: &mut K, history: &[Entry])
+    ensures { Puts K.ByteSink (sink.old, out.old) (sink.new, out.new) (numbered entry_line 1 history.now) }
 {
     for index in 0..history.len() {
         put_entry(out, sink, index as u64 + 1, history[index]);
@@ -56,7 +56,7 @@ fn put_entries<K: ByteSink>(out: &mut SinkBuffer, sink: &mut K, history: &[Entry
 
 /// The entry that made this version.
 fn put_entry<K: ByteSink>(out: &mut SinkBuffer, sink: &mut K, version: u64, entry: Entry)
-    ensures { Puts K.held K.faults sink.old out.old sink.new out.new (entry_line version entry) }
+    ensures { Puts K.ByteSink (sink.old, out.old) (sink.new, out.new) (entry_line version entry) }
 {
     out.put(sink, b"entry");
     put_whole(out, sink, version);
@@ -70,7 +70,7 @@ fn put_entry<K: ByteSink>(out: &mut SinkBuffer, sink: &mut K, version: u64, entr
 
 /// An edit, in the words of a script.
 fn put_edit<K: ByteSink>(out: &mut SinkBuffer, sink: &mut K, edit: Edit)
-    ensures { Puts K.held K.faults sink.old out.old sink.new out.new (flat_map after_space (edit_words edit)) }
+    ensures { Puts K.ByteSink (sink.old, out.old) (sink.new, out.new) (flat_map after_space (edit_words edit)) }
 {
     match edit {
         Edit::Add { id, x, y, cap } => {
@@ -101,7 +101,7 @@ fn put_edit<K: ByteSink>(out: &mut SinkBuffer, sink: &mut K, edit: Edit)
 /// The callers from 1 on, each with its replies.
 fn put_callers<K: ByteSink>(out: &mut SinkBuffer, sink: &mut K, replies: &[Vec<Reply>])
     requires { All (λ one. All IsPrintableReply one) (lists_of replies.now) }
-    ensures { Puts K.held K.faults sink.old out.old sink.new out.new
+    ensures { Puts K.ByteSink (sink.old, out.old) (sink.new, out.new)
         (numbered caller_text 1 (lists_of replies.now)) }
 {
     for index in 0..replies.len() {
@@ -112,7 +112,7 @@ fn put_callers<K: ByteSink>(out: &mut SinkBuffer, sink: &mut K, replies: &[Vec<R
 /// The replies to the caller of this number, after the line with how many they are.
 fn put_caller<K: ByteSink>(out: &mut SinkBuffer, sink: &mut K, caller: u64, replies: &[Reply])
     requires { All IsPrintableReply replies.now }
-    ensures { Puts K.held K.faults sink.old out.old sink.new out.new (caller_text caller replies.now) }
+    ensures { Puts K.ByteSink (sink.old, out.old) (sink.new, out.new) (caller_text caller replies.now) }
 {
     out.put(sink, b"caller");
     put_whole(out, sink, caller);

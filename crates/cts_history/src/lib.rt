@@ -11,4 +11,6 @@ pub mod laws;
 mod reply;
 mod words;
 
-pub use history::write_history;
+pub use history::{put_entries, put_length_of, write_history};
+pub use reply::put_reply;
+pub use words::{put_count, put_whole, put_word};

@@ -15,16 +15,17 @@ use cts_plain::NoTree;
 /// The lines of all replies to a caller.
 pub fn put_replies<K: ByteSink>(out: &mut SinkBuffer, sink: &mut K, replies: &[Reply])
     requires { All IsPrintableReply replies.now }
-    ensures { Puts K.held K.faults sink.old out.old sink.new out.new (flat_map reply_line replies.now) }
+    ensures { Puts K.ByteSink (sink.old, out.old) (sink.new, out.new) (flat_map reply_line replies.now) }
 {
     for reply in replies {
         put_reply(out, sink, *reply);
     }
 }
 
-fn put_reply<K: ByteSink>(out: &mut SinkBuffer, sink: &mut K, reply: Reply)
+/// The line of the reply to a step.
+pub fn put_reply<K: ByteSink>(out: &mut SinkBuffer, sink: &mut K, reply: Reply)
     requires { IsPrintableReply reply }
-    ensures { Puts K.held K.faults sink.old out.old sink.new out.new (reply_line reply) }
+    ensures { Puts K.ByteSink (sink.old, out.old) (sink.new, out.new) (reply_line reply) }
 {
     out.put(sink, b"line");
     put_words(out, sink, reply);
@@ -34,7 +35,7 @@ fn put_reply<K: ByteSink>(out: &mut SinkBuffer, sink: &mut K, reply: Reply)
 /// The line of the script, and the reply to it.
 fn put_words<K: ByteSink>(out: &mut SinkBuffer, sink: &mut K, reply: Reply)
     requires { IsPrintableReply reply }
-    ensures { Puts K.held K.faults sink.old out.old sink.new out.new (flat_map after_space (reply_words reply)) }
+    ensures { Puts K.ByteSink (sink.old, out.old) (sink.new, out.new) (flat_map after_space (reply_words reply)) }
 {
     match reply {
         Reply::Edited { line, reply } => {
@@ -59,7 +60,7 @@ fn put_words<K: ByteSink>(out: &mut SinkBuffer, sink: &mut K, reply: Reply)
 
 /// The reply to a change, which is no want of memory.
 fn put_changed<K: ByteSink>(out: &mut SinkBuffer, sink: &mut K, reply: EditReply)
-    ensures { Puts K.held K.faults sink.old out.old sink.new out.new (flat_map after_space (changed_words reply)) }
+    ensures { Puts K.ByteSink (sink.old, out.old) (sink.new, out.new) (flat_map after_space (changed_words reply)) }
 {
     match reply {
         EditReply::Accepted { version } => {
@@ -78,7 +79,7 @@ fn put_changed<K: ByteSink>(out: &mut SinkBuffer, sink: &mut K, reply: EditReply
 
 #[tactic(auto, unfolding(crate::specs::History::cause_words))]
 fn put_cause<K: ByteSink>(out: &mut SinkBuffer, sink: &mut K, cause: EditCause)
-    ensures { Puts K.held K.faults sink.old out.old sink.new out.new (after_space (cause_words cause)) }
+    ensures { Puts K.ByteSink (sink.old, out.old) (sink.new, out.new) (after_space (cause_words cause)) }
 {
     match cause {
         EditCause::Known => put_word(out, sink, b"known"),
@@ -94,7 +95,7 @@ fn put_cause<K: ByteSink>(out: &mut SinkBuffer, sink: &mut K, cause: EditCause)
 /// The tree of a version, by its skew and its wire.
 fn put_tree<K: ByteSink>(out: &mut SinkBuffer, sink: &mut K, version: u32, skew: u128, wire: u64)
     requires { skew ≤ 10 ^ 37 }
-    ensures { Puts K.held K.faults sink.old out.old sink.new out.new
+    ensures { Puts K.ByteSink (sink.old, out.old) (sink.new, out.new)
         (flat_map after_space (tree_words version skew wire)) }
 {
     put_word(out, sink, b"tree");
@@ -107,7 +108,7 @@ fn put_tree<K: ByteSink>(out: &mut SinkBuffer, sink: &mut K, version: u32, skew:
 
 /// Why a version has no tree, which is no want of memory.
 fn put_no_tree<K: ByteSink>(out: &mut SinkBuffer, sink: &mut K, version: u32, why: NoTree)
-    ensures { Puts K.held K.faults sink.old out.old sink.new out.new
+    ensures { Puts K.ByteSink (sink.old, out.old) (sink.new, out.new)
         (flat_map after_space (no_tree_words version why)) }
 {
     match why {

@@ -12,7 +12,7 @@ use cts_num::decimal;
 /// A word as it is.
 #[inline]
 pub fn put_word<K: ByteSink>(out: &mut SinkBuffer, sink: &mut K, word: &[u8])
-    ensures { Puts K.held K.faults sink.old out.old sink.new out.new (after_space word.now) }
+    ensures { Puts K.ByteSink (sink.old, out.old) (sink.new, out.new) (after_space word.now) }
 {
     out.put(sink, b" ");
     out.put(sink, word);
@@ -23,42 +23,42 @@ pub fn put_word<K: ByteSink>(out: &mut SinkBuffer, sink: &mut K, word: &[u8])
 fn put_number<K: ByteSink>(out: &mut SinkBuffer, sink: &mut K, places: u32, value: u128)
     requires value { value < 10 ^ 38 }
     requires places { places ≤ 16 }
-    ensures { Puts K.held K.faults sink.old out.old sink.new out.new (after_space (decimal_text places value)) }
+    ensures { Puts K.ByteSink (sink.old, out.old) (sink.new, out.new) (after_space (decimal_text places value)) }
 {
     put_word(out, sink, decimal(value, places).bytes());
 }
 
 /// A whole number.
 pub fn put_whole<K: ByteSink>(out: &mut SinkBuffer, sink: &mut K, number: u64)
-    ensures { Puts K.held K.faults sink.old out.old sink.new out.new (after_space (whole number)) }
+    ensures { Puts K.ByteSink (sink.old, out.old) (sink.new, out.new) (after_space (whole number)) }
 {
     put_number(out, sink, 0, u128::from(number));
 }
 
 /// A whole number, as those of lines, callers, ids and versions are.
 pub fn put_count<K: ByteSink>(out: &mut SinkBuffer, sink: &mut K, number: u32)
-    ensures { Puts K.held K.faults sink.old out.old sink.new out.new (after_space (whole number)) }
+    ensures { Puts K.ByteSink (sink.old, out.old) (sink.new, out.new) (after_space (whole number)) }
 {
     put_number(out, sink, 0, u128::from(number));
 }
 
 /// A coordinate in nm, which is not below 0.
 pub fn put_coordinate<K: ByteSink>(out: &mut SinkBuffer, sink: &mut K, z: i64)
-    ensures { Puts K.held K.faults sink.old out.old sink.new out.new (after_space (coordinate z)) }
+    ensures { Puts K.ByteSink (sink.old, out.old) (sink.new, out.new) (after_space (coordinate z)) }
 {
     put_number(out, sink, 3, u128::from(z.unsigned_abs()));
 }
 
 /// A capacitance in zF.
 pub fn put_capacitance<K: ByteSink>(out: &mut SinkBuffer, sink: &mut K, cap: u64)
-    ensures { Puts K.held K.faults sink.old out.old sink.new out.new (after_space (decimal_text 6 cap)) }
+    ensures { Puts K.ByteSink (sink.old, out.old) (sink.new, out.new) (after_space (decimal_text 6 cap)) }
 {
     put_number(out, sink, 6, u128::from(cap));
 }
 
 /// A length in nm.
 pub fn put_length<K: ByteSink>(out: &mut SinkBuffer, sink: &mut K, nm: u64)
-    ensures { Puts K.held K.faults sink.old out.old sink.new out.new (after_space (length_in_um nm)) }
+    ensures { Puts K.ByteSink (sink.old, out.old) (sink.new, out.new) (after_space (length_in_um nm)) }
 {
     put_number(out, sink, 3, u128::from(nm));
 }
@@ -66,7 +66,7 @@ pub fn put_length<K: ByteSink>(out: &mut SinkBuffer, sink: &mut K, nm: u64)
 /// A doubled delay in 10^-27 s.
 pub fn put_delay<K: ByteSink>(out: &mut SinkBuffer, sink: &mut K, delay: u128)
     requires { delay ≤ 10 ^ 37 }
-    ensures { Puts K.held K.faults sink.old out.old sink.new out.new (after_space (time delay)) }
+    ensures { Puts K.ByteSink (sink.old, out.old) (sink.new, out.new) (after_space (time delay)) }
 {
     put_number(out, sink, 16, 5 * delay);
 }

@@ -8,7 +8,7 @@ use Rattle.cts_history.proofs.history.put_callers.Goals as goal
 
 pub loop-index-init : goal.loop-index-init
 unfolding numbered
-loop-index-init g c = puts_nothing _ _ _ _
+loop-index-init g c = puts_nothing _ _
 
 pub put_caller-requires : goal.put_caller-requires
 put_caller-requires g c =
@@ -21,7 +21,7 @@ put_caller-requires g c =
 
 pub loop-index-preserved : goal.loop-index-preserved
 loop-index-preserved g c =
-    subst (λ text. Puts g.K.ByteSink.held g.K.ByteSink.faults c.args.sink.now c.args.out.now c.put_caller.new.sink c.put_caller.new.out text)
+    subst (λ text. Puts g.K.ByteSink (c.args.sink.now, c.args.out.now) (c.put_caller.new.sink, c.put_caller.new.out) text)
     (ap (λ items. numbered caller_text 1 (take c.loop-index.index (lists_of c.args.replies.now)) ++ caller_text (c.loop-index.index + 1) items)
     (c.deref.ensures.value
     ∙ ap (λ one. one.items) c.index-replies-index.is

@@ -6,5 +6,5 @@ use Rattle.cts_history.proofs.history.put_callers.Given as goal
 
 abbrev pub invariant-loop-index : goal.invariant-loop-index
 invariant-loop-index g l =
-    Puts g.K.ByteSink.held g.K.ByteSink.faults l.fn.sink l.fn.out l.sink l.out
+    Puts g.K.ByteSink (l.fn.sink, l.fn.out) (l.sink, l.out)
     (numbered caller_text 1 (take l.index (lists_of l.replies)))

@@ -7,11 +7,11 @@ use Rattle.cts_history.proofs.history.put_entries.Goals as goal
 
 pub loop-index-init : goal.loop-index-init
 unfolding numbered
-loop-index-init g c = puts_nothing _ _ _ _
+loop-index-init g c = puts_nothing _ _
 
 pub loop-index-preserved : goal.loop-index-preserved
 loop-index-preserved g c =
-    subst (λ text. Puts g.K.ByteSink.held g.K.ByteSink.faults c.args.sink.now c.args.out.now c.put_entry.new.sink c.put_entry.new.out text)
+    subst (λ text. Puts g.K.ByteSink (c.args.sink.now, c.args.out.now) (c.put_entry.new.sink, c.put_entry.new.out) text)
     (sym (numbered_before_more entry_line c.args.history.now c.loop-index.index _ c.loop-index-test.true))
     (c.loop-index.invariant ▸ c.put_entry.ensures)
 

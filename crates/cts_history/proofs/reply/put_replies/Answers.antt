@@ -6,7 +6,7 @@ use Rattle.cts_history.proofs.Pieces.{texts_step}
 use Rattle.cts_history.proofs.reply.put_replies.Goals as goal
 
 pub loop-reply-init : goal.loop-reply-init
-loop-reply-init g c = puts_nothing _ _ _ _
+loop-reply-init g c = puts_nothing _ _
 
 pub bounds-replies-reply-index : goal.bounds-replies-reply-index
 bounds-replies-reply-index g c = omega arith
@@ -19,7 +19,7 @@ put_reply-requires g c = c.requires c.loop-reply.reply-index _ c.loop-reply-test
 
 pub loop-reply-preserved : goal.loop-reply-preserved
 loop-reply-preserved g c =
-    texts_step (λ text. Puts g.K.ByteSink.held g.K.ByteSink.faults c.args.sink.now c.args.out.now c.put_reply.new.sink c.put_reply.new.out text)
+    texts_step (λ text. Puts g.K.ByteSink (c.args.sink.now, c.args.out.now) (c.put_reply.new.sink, c.put_reply.new.out) text)
     reply_line c.args.replies.now c.loop-reply.reply-index _ c.loop-reply-test.true (c.loop-reply.invariant ▸ c.put_reply.ensures)
 
 pub returns : goal.returns
