@@ -8,11 +8,11 @@ use Rattle.std.proofs.lemmas.List.Kept.{AllPairs-cons}
 use Rattle.std.proofs.lemmas.Option.{get_or_from_slice_get, slice_get-get_or, slice_get_within}
 use Rattle.cts_instance.specs.declared.parts.Parts.{Parts}
 use Rattle.cts_plain.specs.declared.end.NoTree.{NoTree as Why}
-use Rattle.cts_design.specs.declared.edit.EditCause.{EditCause}
-use Rattle.cts_design.specs.declared.edit.Edit.TheVariants.{Remove}
-use Rattle.cts_design.specs.declared.edit.Entry.{Entry}
-use Rattle.cts_design.specs.declared.call.EditReply.{EditReply}
-use Rattle.cts_design.specs.declared.call.EditReply.TheVariants.{Accepted, Refused, NoMemory}
+use Rattle.cts_edit.specs.declared.edit.EditCause.{EditCause}
+use Rattle.cts_edit.specs.declared.edit.Edit.TheVariants.{Remove}
+use Rattle.cts_edit.specs.declared.edit.Entry.{Entry}
+use Rattle.cts_edit.specs.declared.reply.EditReply.{EditReply}
+use Rattle.cts_edit.specs.declared.reply.EditReply.TheVariants.{Accepted, Refused, NoMemory}
 use Rattle.cts_script.specs.declared.script.Act.{Act}
 use Rattle.cts_script.specs.declared.script.Act.TheVariants.{Change, Draw}
 use Rattle.cts_script.specs.declared.script.ScriptStep.{ScriptStep}

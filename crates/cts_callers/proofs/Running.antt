@@ -8,7 +8,7 @@ use Rattle.cts_plain.specs.declared.end.NoTree.{NoTree as Why}
 use Rattle.cts_memo.specs.declared.entry.MemoEntry.{MemoEntry}
 use Rattle.cts_memo.specs.Sound.{IsSound}
 use Rattle.cts_memo.specs.Tables.{told_by}
-use Rattle.cts_design.specs.declared.edit.Entry.{Entry}
+use Rattle.cts_edit.specs.declared.edit.Entry.{Entry}
 use Rattle.cts_design.specs.Edits.{after}
 use Rattle.cts_design.specs.Sound.{IsSound as IsHistory}
 use Rattle.cts_session.specs.declared.desk.Desk.{Desk}

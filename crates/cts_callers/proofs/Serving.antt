@@ -6,7 +6,7 @@ use Rattle.std.proofs.lemmas.Result.{IfOk-at_ok, IfOk-weaker}
 use Rattle.cts_num.specs.declared.error.NoMemory.{NoMemory}
 use Rattle.cts_turn.proofs.Prefixes.{prefix_self, prefix_trans}
 use Rattle.cts_instance.specs.declared.parts.Parts.{Parts}
-use Rattle.cts_design.specs.declared.edit.Entry.{Entry}
+use Rattle.cts_edit.specs.declared.edit.Entry.{Entry}
 use Rattle.cts_session.specs.declared.desk.Desk.{Desk}
 use Rattle.cts_session.specs.declared.desk.Hands.{Hands}
 use Rattle.cts_session.specs.Desks.{AreHandsOf, AreJoined, Known, base_of, known_by, greater_half, lesser_half}

@@ -3,8 +3,8 @@ use Rattle.std.specs.Prelude.{◌≡◌, ℕ, ◌+◌, nat_eq, List, [], ◌∷�
 use Rattle.std.specs.List.{filter}
 use mathlib.Core.List.{IsPrefix}
 use Rattle.cts_instance.specs.declared.parts.Parts.{Parts}
-use Rattle.cts_design.specs.declared.edit.Entry.{Entry}
-use Rattle.cts_design.specs.declared.call.EditReply.TheVariants.{Accepted, Refused, NoMemory}
+use Rattle.cts_edit.specs.declared.edit.Entry.{Entry}
+use Rattle.cts_edit.specs.declared.reply.EditReply.TheVariants.{Accepted, Refused, NoMemory}
 use Rattle.cts_script.specs.declared.script.Act.{Act}
 use Rattle.cts_script.specs.declared.script.Act.TheVariants.{Change, Draw}
 use Rattle.cts_script.specs.declared.script.ScriptStep.{ScriptStep}

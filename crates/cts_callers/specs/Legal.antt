@@ -2,7 +2,7 @@
 use Rattle.std.specs.Prelude.{◌≡◌, ◌≢◌, ℕ, ◌+◌, ◌<◌, ◌≤◌, List, [], ◌∷◌, ◌++◌, length, filter_map, Some, AllPairs}
 use Rattle.std.specs.List.{AllZip}
 use Rattle.cts_instance.specs.declared.parts.Parts.{Parts}
-use Rattle.cts_design.specs.declared.edit.Entry.{Entry}
+use Rattle.cts_edit.specs.declared.edit.Entry.{Entry}
 use Rattle.cts_script.specs.declared.script.ScriptStep.{ScriptStep}
 use Rattle.cts_callers.specs.declared.reply.Reply.{Reply}
 use Rattle.cts_callers.specs.Replies.{IsReply, accepted_version, version_of}

@@ -9,11 +9,11 @@ use Rattle.cts_plain.specs.declared.end.NoTree.{NoTree as Why}
 use Rattle.cts_plain.specs.declared.end.NoTree.TheVariants as why
 use Rattle.cts_plain.specs.Ends.{Ends}
 use Rattle.cts_plain.specs.Synthesis.{IsSynthesis, made}
-use Rattle.cts_design.specs.declared.edit.Edit.{Edit}
-use Rattle.cts_design.specs.declared.edit.EditCause.{EditCause}
-use Rattle.cts_design.specs.declared.edit.Entry.{Entry}
-use Rattle.cts_design.specs.declared.call.EditReply.{EditReply}
-use Rattle.cts_design.specs.declared.call.EditReply.TheVariants.{Accepted, Refused, NoMemory}
+use Rattle.cts_edit.specs.declared.edit.Edit.{Edit}
+use Rattle.cts_edit.specs.declared.edit.EditCause.{EditCause}
+use Rattle.cts_edit.specs.declared.edit.Entry.{Entry}
+use Rattle.cts_edit.specs.declared.reply.EditReply.{EditReply}
+use Rattle.cts_edit.specs.declared.reply.EditReply.TheVariants.{Accepted, Refused, NoMemory}
 use Rattle.cts_design.specs.Edits.{after}
 use Rattle.cts_design.specs.Decide.{decide}
 use Rattle.cts_script.specs.declared.script.Act.{Act}

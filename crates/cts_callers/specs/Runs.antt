@@ -8,7 +8,7 @@ use Rattle.cts_plain.specs.declared.end.NoTree.{NoTree}
 use Rattle.cts_plain.specs.declared.end.NoTree.TheVariants.{NoMemory}
 use Rattle.cts_plain.specs.Ends.{Ends}
 use Rattle.cts_memo.specs.Tables.{told_by}
-use Rattle.cts_design.specs.declared.edit.Entry.{Entry}
+use Rattle.cts_edit.specs.declared.edit.Entry.{Entry}
 use Rattle.cts_design.specs.Edits.{after}
 use Rattle.cts_design.specs.Sound.{IsSound as IsHistory}
 use Rattle.cts_session.specs.Desks.{IsTableOf, base_of, version_of}

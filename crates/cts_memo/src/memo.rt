@@ -13,7 +13,7 @@ use crate::table::Table;
 use cts_merge::Finished;
 use cts_num::NoMemory;
 use cts_turn::{Pass, StillOut, Turn};
-use cts_units::{Library, Params};
+use cts_units::Params;
 use std::alloc::Global;
 use std::sync::Wait;
 
@@ -38,17 +38,6 @@ pub struct MemoOut {
     pub out: u32,
 }
 
-/// The same parameters again.
-fn copy_of(alloc: Global, params: &Params) -> Result<Params, NoMemory>
-    ensures { IfOk result (λ copy. copy ≡ params.now) }
-{
-    Ok(Params {
-        wire: params.wire,
-        library: Library::of(params.library.items().to_vec(alloc)?),
-        insert_at: params.insert_at,
-    })
-}
-
 impl Memo {
     ghost use Rattle.std.specs.Prelude.{slice_get};
     ghost use Rattle.cts_memo.specs.declared.entry.Answer.{Answer};
@@ -69,7 +58,7 @@ impl Memo {
         ensures own { IfOk result (λ m. IsPassOf m.0 m.1) }
         ensures pass { IfOk result (λ m. (seen_by m.1 ≡ []) × (made_by m.1 ≡ 0) × (share_of m.1 ≡ 65536)) }
     {
-        let kept = copy_of(alloc, params)?;
+        let kept = params.try_clone(alloc)?;
         let (turn, pass) = Turn::start(alloc, Table::new(alloc, params, seed))?;
         Ok((Memo { turn, params: kept }, pass))
     }

@@ -9,15 +9,15 @@ use Rattle.cts_topo.specs.Topology.{shape_of}
 use Rattle.cts_tree.specs.declared.nodes.TreeNode.{TreeNode}
 use Rattle.cts_elmore.specs.declared.figures.Figures.{Figures}
 use Rattle.cts_elmore.specs.Figures.{AreFigures, AreFiguresInRange}
-use Rattle.cts_elmore.specs.Sound.{IsSound}
+use Rattle.cts_elmore.specs.Sound.{IsSound, StandsInDie}
 use Rattle.cts_plain.specs.declared.end.NoTree.{NoTree}
 use Rattle.cts_plain.specs.declared.end.NoTree.TheVariants.{Beyond, Cut, NoMemory}
 use Rattle.cts_plain.specs.Ends.{Ends, EndsWithPlan}
-use Rattle.cts_plain.specs.Synthesis.{IsSynthesis, IsSynthesisOver, StandsInDie, beyond, cut, made}
+use Rattle.cts_plain.specs.Synthesis.{IsSynthesis, IsSynthesisOver, beyond, cut, made}
 use Rattle.cts_memo.specs.declared.entry.MemoEntry.{MemoEntry}
 use Rattle.cts_memo.specs.Numbers.{AreKnown}
 use Rattle.cts_memo.specs.Sound.{max_entries}
-use Rattle.cts_design.specs.declared.edit.Entry.{Entry}
+use Rattle.cts_edit.specs.declared.edit.Entry.{Entry}
 use Rattle.cts_design.specs.Edits.{after}
 use Rattle.cts_session.specs.Desks.{version_of}
 use Rattle.cts_session.specs.Draws.{EndsDraw, IsDrawn, KnowsAtEnd, KnowsTree, KnowsUntil, end_at}

@@ -18,7 +18,7 @@ use Rattle.cts_memo.specs.contracts.entry.MemoReply as memo_reply
 use Rattle.cts_memo.specs.contracts.memo.Memo as memo
 use Rattle.cts_memo.specs.contracts.table.Table as table
 use Rattle.cts_memo.proofs.Sent.{table_send}
-use Rattle.cts_design.specs.contracts.edit.Entry as entry
+use Rattle.cts_edit.specs.contracts.edit.Entry as entry
 use Rattle.cts_design.specs.contracts.call.DesignCall as call
 use Rattle.cts_design.specs.contracts.call.DesignReply as reply
 use Rattle.cts_design.specs.contracts.design.Design as design

@@ -10,7 +10,7 @@ use Rattle.cts_memo.specs.declared.table.Table.{Table}
 use Rattle.cts_memo.specs.Passes as memos
 use Rattle.cts_memo.specs.Sound.{IsSound}
 use Rattle.cts_memo.specs.Tables as tables
-use Rattle.cts_design.specs.declared.edit.Entry.{Entry}
+use Rattle.cts_edit.specs.declared.edit.Entry.{Entry}
 use Rattle.cts_design.specs.Edits.{after}
 use Rattle.cts_design.specs.Passes as designs
 use Rattle.cts_session.specs.declared.desk.Desk.{Desk}

@@ -5,15 +5,15 @@ use Rattle.cts_instance.specs.Validity.{IsValid}
 use Rattle.cts_topo.specs.Topology.{shape_of}
 use Rattle.cts_up.specs.Plan.{IsLeastBeyond as IsBeyondInPlan}
 use Rattle.cts_elmore.specs.Figures.{AreFigures, AreFiguresInRange}
-use Rattle.cts_elmore.specs.Sound.{IsSound}
+use Rattle.cts_elmore.specs.Sound.{IsSound, StandsInDie}
 use Rattle.cts_plain.specs.declared.end.NoTree.{NoTree}
 use Rattle.cts_plain.specs.declared.end.NoTree.TheVariants.{Beyond, Cut}
 use Rattle.cts_plain.specs.declared.end.NoTree.TheVariants.{NoMemory as no_memory}
-use Rattle.cts_plain.specs.Synthesis.{IsSynthesis, StandsInDie, beyond, cut, made}
+use Rattle.cts_plain.specs.Synthesis.{IsSynthesis, beyond, cut, made}
 use Rattle.cts_memo.specs.declared.entry.MemoEntry.{MemoEntry}
 use Rattle.cts_memo.specs.Numbers.{AreKnown}
 use Rattle.cts_memo.specs.Sound.{max_entries}
-use Rattle.cts_design.specs.declared.edit.Entry.{Entry}
+use Rattle.cts_edit.specs.declared.edit.Entry.{Entry}
 use Rattle.cts_session.specs.declared.draw.Drawn.{Drawn}
 use Rattle.cts_session.specs.declared.draw.TreeEnd.{TreeEnd}
 use Rattle.cts_session.specs.declared.draw.TreeEnd.TheVariants.{None as no_tree, NoMemory}

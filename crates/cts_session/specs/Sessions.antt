@@ -2,8 +2,8 @@
 use Rattle.std.specs.Prelude.{ℕ, List}
 use Rattle.cts_instance.specs.declared.parts.Parts.{Parts}
 use Rattle.cts_memo.specs.declared.entry.MemoEntry.{MemoEntry}
-use Rattle.cts_design.specs.declared.edit.Edit.{Edit}
-use Rattle.cts_design.specs.declared.edit.Entry.{Entry}
+use Rattle.cts_edit.specs.declared.edit.Edit.{Edit}
+use Rattle.cts_edit.specs.declared.edit.Entry.{Entry}
 use Rattle.cts_session.specs.declared.desk.Desk.{Desk}
 use Rattle.cts_session.specs.declared.desk.Hands.{Hands}
 use Rattle.cts_session.specs.Desks.{base_of, known_by, version_of}

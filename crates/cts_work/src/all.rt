@@ -1,6 +1,6 @@
 //! The upward pass of many workers over the memo.
 
-ghost use Rattle.std.specs.Prelude.{◌≡◌, ◌+◌, ◌-◌, ◌*◌, ◌^◌, ◌<◌, ◌≤◌, ◌⊎◌, ℕ, All, Contains, length, IfOk, IfErr, OnOk};
+ghost use Rattle.std.specs.Prelude.{◌≡◌, ◌+◌, ◌-◌, ◌*◌, ◌^◌, ◌<◌, ◌≤◌, ◌⊎◌, ℕ, [], All, Contains, length, IfOk, IfErr, OnOk};
 ghost use mathlib.Core.List.{IsPrefix};
 ghost use Rattle.cts_topo.specs.Shape.{IsShapeOver};
 ghost use Rattle.cts_up.specs.Ends.{Ends};
@@ -13,7 +13,7 @@ ghost use Rattle.cts_memo.specs.Sound.{max_entries};
 ghost use Rattle.cts_work.specs.Built.{GoesOn, tree_at};
 ghost use Rattle.cts_work.specs.Done.{AreOnce, ArePieces, HavePieces, IsDone, IsSlot, numbers_of};
 ghost use Rattle.cts_work.specs.Pieces.{AreInOrder, pieces_of};
-ghost use Rattle.cts_work.specs.Work.{AreBuilt, EndsIn, IsReady};
+ghost use Rattle.cts_work.specs.Work.{AreBuilt, AreMade, EndsIn, IsPart, IsReady};
 
 use crate::gate::Gate;
 use crate::node::Built;
@@ -90,7 +90,75 @@ fn build_above<L: Ledger, R: Wait, G: Gate>(
     Ok(())
 }
 
-/// The nodes of the whole shape: those of its pieces, which are published, and the pairs above them.
+/// The nodes up to the root of a piece: the pairs before the piece, and then its own nodes, which are
+/// published.
+fn add_piece<L: Ledger, R: Wait, G: Gate>(
+    rt: &R,
+    gate: &G,
+    work: &Work<'_>,
+    pass: &mut MemoPass,
+    piece: Piece,
+    made: Result<Vec<Finished>, UpEnd>,
+    leftmost: &mut Vec<u32>,
+    built: &mut Vec<Built>,
+    steps: &mut Steps<L>,
+) -> Result<(), UpEnd>
+    requires own { IsPassOf work.now.memo.now pass.old }
+    requires ready { IsReady work.now }
+    requires part { IsPart work.now.nodes.now piece.first piece.root }
+    requires long { IfOk made (λ part. piece.first + length part.items ≡ piece.root + 1) }
+    requires made { IfOk made (λ part. AreMade work.now piece.first part.items) }
+    requires ended { IfErr made (EndsIn work.now piece.first piece.root) }
+    requires from { length built.old.items ≤ piece.first }
+    requires built { AreBuilt work.now (seen_by pass.old) 0 built.old.items }
+    ensures pass { GoesOn work.now.memo.now pass.old pass.new }
+    ensures long { IfOk result (λ _. length built.new.items ≡ piece.root + 1) }
+    ensures built { IfOk result (λ _. AreBuilt work.now (seen_by pass.new) 0 built.new.items) }
+    ensures ends { IfErr result (EndsIn work.now 0 (length work.now.nodes.now - 1)) }
+{
+    build_above(rt, gate, work, pass, piece.first, leftmost, built, steps)?;
+    match made {
+        Ok(part) => Ok(publish_part(rt, work, pass, &part, built)?),
+        Err(end) => Err(end),
+    }
+}
+
+/// The nodes up to the root of the last piece: those of the pieces, which are published, and the pairs
+/// between them.
+fn add_pieces<L: Ledger, R: Wait, G: Gate>(
+    rt: &R,
+    gate: &G,
+    work: &Work<'_>,
+    pass: &mut MemoPass,
+    pieces: &[Piece],
+    slots: &mut Vec<Option<Done>>,
+    leftmost: &mut Vec<u32>,
+    built: &mut Vec<Built>,
+    steps: &mut Steps<L>,
+) -> Result<(), UpEnd>
+    requires own { IsPassOf work.now.memo.now pass.old }
+    requires ready { IsReady work.now }
+    requires pieces { ArePieces work.now.nodes.now pieces.now }
+    requires order { AreInOrder work.now.nodes.now 0 pieces.now (length work.now.nodes.now) }
+    requires slots { HavePieces work.now pieces.now slots.old.items }
+    requires none { built.old.items ≡ [] }
+    ensures pass { GoesOn work.now.memo.now pass.old pass.new }
+    ensures within { IfOk result (λ _. length built.new.items ≤ length work.now.nodes.now) }
+    ensures built { IfOk result (λ _. AreBuilt work.now (seen_by pass.new) 0 built.new.items) }
+    ensures ends { IfErr result (EndsIn work.now 0 (length work.now.nodes.now - 1)) }
+{
+    for number in 0..pieces.len() {
+        let Some(Done { made, .. }) = slots[number].take() else {
+            unreachable!()
+        };
+        let piece = pieces[number];
+        add_piece(rt, gate, work, pass, piece, made, leftmost, built, steps)?;
+        leftmost.push(number as u32)?;
+    }
+    Ok(())
+}
+
+/// The nodes of the whole shape.
 fn complete<L: Ledger, R: Wait, G: Gate>(
     rt: &R,
     gate: &G,
@@ -113,35 +181,20 @@ fn complete<L: Ledger, R: Wait, G: Gate>(
 {
     let mut built = Vec::with_capacity(alloc, work.nodes.len())?;
     let mut leftmost = Vec::with_capacity(alloc, pieces.len())?;
-    for number in 0..pieces.len() {
-        let first = pieces[number].first;
-        match build_above(
-            rt,
-            gate,
-            work,
-            pass,
-            first,
-            &mut leftmost,
-            &mut built,
-            steps,
-        ) {
-            Ok(()) => {}
-            Err(end) => return Err(end),
-        }
-        let Some(Done { made, .. }) = slots[number].take() else {
-            unreachable!()
-        };
-        match made {
-            Ok(part) => publish_part(rt, work, pass, &part, &mut built)?,
-            Err(end) => return Err(end),
-        }
-        leftmost.push(number as u32)?;
-    }
+    add_pieces(
+        rt,
+        gate,
+        work,
+        pass,
+        pieces,
+        &mut slots,
+        &mut leftmost,
+        &mut built,
+        steps,
+    )?;
     let end = work.nodes.len() as u32;
-    match build_above(rt, gate, work, pass, end, &mut leftmost, &mut built, steps) {
-        Ok(()) => Ok(built),
-        Err(end) => Err(end),
-    }
+    build_above(rt, gate, work, pass, end, &mut leftmost, &mut built, steps)?;
+    Ok(built)
 }
 
 /// The plan of the shape, once its pieces are done. The merges of the pairs above them are counted.

@@ -3,7 +3,7 @@ use Rattle.cts_turn.specs.Passes.{seen_by}
 use Rattle.cts_work.specs.Built.{GoesOn}
 use Rattle.cts_work.specs.Pieces.{AreInOrder}
 use Rattle.cts_work.specs.Work.{AreBuilt}
-use Rattle.cts_work.proofs.all.complete.Given as goal
+use Rattle.cts_work.proofs.all.add_pieces.Given as goal
 
 abbrev pub invariant-loop-number : goal.invariant-loop-number
 invariant-loop-number g l =
