@@ -8,12 +8,20 @@ use std::io;
 use std::sync::Wait;
 use std::thread::Threads;
 
-/// Runs some words on a text, and gives the status and what was written.
-fn answer<R: AllocGlobal + Threads + Wait + Sync>(
+/// What a run comes to: its status, what was written, and the notes.
+#[derive(Drop)]
+pub(crate) struct Ran {
+    pub(crate) status: Status,
+    pub(crate) output: MemSink,
+    pub(crate) notes: MemSink,
+}
+
+/// Runs some words on a text.
+pub(crate) fn answer<R: AllocGlobal + Threads + Wait + Sync>(
     rt: &R,
     words: &str,
     text: &[u8],
-) -> io::Result<(Status, MemSink)> {
+) -> io::Result<Ran> {
     let alloc = rt.alloc();
     let words = case::words_of(alloc, words)?;
     let mut source = MemSource::new(text.to_vec(alloc)?, Vec::new(alloc), 1 << 20);
@@ -29,7 +37,12 @@ fn answer<R: AllocGlobal + Threads + Wait + Sync>(
         &mut notes,
         &gate,
     );
-    Ok((outcome.status, output))
+    let status = outcome.status;
+    Ok(Ran {
+        status,
+        output,
+        notes,
+    })
 }
 
 /// Prints how the first of the words ends, and for each of the others whether it ends so too, with the same bytes.
@@ -39,11 +52,11 @@ fn compare<R: AllocGlobal + Threads + Wait + Sync + Print>(
     others: [&str; 3],
     text: &[u8],
 ) -> io::Result<()> {
-    let (status, output) = answer(rt, first, text)?;
-    println!(rt; "{first}: {status:?}")?;
+    let ran = answer(rt, first, text)?;
+    println!(rt; "{first}: {:?}", ran.status)?;
     for words in others {
-        let (other, written) = answer(rt, words, text)?;
-        let same = other == status && written.bytes() == output.bytes();
+        let other = answer(rt, words, text)?;
+        let same = other.status == ran.status && other.output.bytes() == ran.output.bytes();
         println!(rt;
             "{words}: {}",
             if same { "the same" } else { "not the same" }
@@ -52,27 +65,28 @@ fn compare<R: AllocGlobal + Threads + Wait + Sync + Print>(
     Ok(())
 }
 
-/// Prints the verdict on the report of an instance.
-fn judge<R: AllocGlobal + Threads + Wait + Sync + Print>(
+/// Prints the verdict on the report that some words give of an instance.
+pub(crate) fn judge<R: AllocGlobal + Threads + Wait + Sync + Print>(
     rt: &R,
+    words: &str,
     instance: &[u8],
 ) -> io::Result<()> {
-    let (_, report) = answer(rt, "synth 1", instance)?;
+    let report = answer(rt, words, instance)?;
     let mut text = instance.to_vec(rt.alloc())?;
-    text.extend_from_slice(report.bytes())?;
-    let (status, verdict) = answer(rt, "check", &text)?;
-    println!(rt; "check: {status:?}")?;
-    show::text(rt, verdict.bytes())
+    text.extend_from_slice(report.output.bytes())?;
+    let verdict = answer(rt, "check", &text)?;
+    println!(rt; "check: {:?}", verdict.status)?;
+    show::text(rt, verdict.output.bytes())
 }
 
 /// Compares the report and the summary of a made instance of 64 sinks, and judges its report.
 pub(crate) fn check<R: AllocGlobal + Threads + Wait + Sync + Print>(rt: &R) -> io::Result<()> {
-    let (_, made) = answer(rt, "make 14 64", b"")?;
+    let made = answer(rt, "make 14 64", b"")?;
     compare(
         rt,
         "synth 1",
         ["synth 2", "synth 3", "synth 64"],
-        made.bytes(),
+        made.output.bytes(),
     )?;
     compare(
         rt,
@@ -80,5 +94,5 @@ pub(crate) fn check<R: AllocGlobal + Threads + Wait + Sync + Print>(rt: &R) -> i
         ["job 14 64 2", "job 14 64 3", "job 14 64 64"],
         b"",
     )?;
-    judge(rt, made.bytes())
+    judge(rt, "synth 1", made.output.bytes())
 }

@@ -14,7 +14,8 @@
 //! one with CR LF, is written out.
 //!
 //! Last it writes some long numbers, reads an instance with as many sinks and blocks as there may be, checks trees as
-//! deep as a list, and compares what one worker and many write.
+//! deep as a list, compares what one worker and many write, and hands the nearest-pair topology as many sinks as it takes
+//! and one more.
 #![tactic(auto)]
 
 mod alike;
@@ -22,6 +23,7 @@ mod case;
 mod decimals;
 mod deep;
 mod many;
+mod near;
 mod show;
 mod text;
 
@@ -38,5 +40,6 @@ fn main(rt: HostRuntime) -> io::Result<()> {
     decimals::write(&rt)?;
     many::read(&rt)?;
     deep::check(&rt)?;
-    alike::check(&rt)
+    alike::check(&rt)?;
+    near::check(&rt)
 }

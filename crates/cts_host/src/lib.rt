@@ -72,10 +72,14 @@ pub fn answer<
     K: ByteSink,
     N: ByteSink,
 >(rt: &R, source: &mut S, sink: &mut K, notes: &mut N) -> ExitCode
-    ensures { EndsAsRun S.left S.faults K.held K.faults N.held N.faults
-        source.old source.new sink.old sink.new notes.old notes.new (exit_status result)
-        ⊎ EndsWithoutWords N.held N.faults
-        source.old source.new sink.old sink.new notes.old notes.new (exit_status result) }
+    ensures { EndsAsRun
+        (record { tells = S.left; faults = S.faults; before = source.old; after = source.new })
+        (record { tells = K.held; faults = K.faults; before = sink.old; after = sink.new })
+        (record { tells = N.held; faults = N.faults; before = notes.old; after = notes.new }) (exit_status result)
+        ⊎ EndsWithoutWords
+        (record { tells = S.left; faults = S.faults; before = source.old; after = source.new })
+        (record { tells = K.held; faults = K.faults; before = sink.old; after = sink.new })
+        (record { tells = N.held; faults = N.faults; before = notes.old; after = notes.new }) (exit_status result) }
 {
     match words(rt) {
         Ok(words) => {

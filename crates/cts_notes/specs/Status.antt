@@ -13,3 +13,4 @@ code_of status.NoTree = 4
 code_of status.ReadFault = 5
 code_of status.WriteFault = 6
 code_of status.NoMemory = 7
+code_of status.NoTrunk = 8

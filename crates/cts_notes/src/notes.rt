@@ -12,7 +12,7 @@ use cts_read::Cause;
 /// Puts the note of an input whose line offends, with the line's first cause.
 #[tactic(auto, unfolding(crate::specs::Notes::refusal_note))]
 pub fn put_refusal<N: ByteSink>(out: &mut SinkBuffer, notes: &mut N, line: u32, cause: &Cause)
-    ensures { Puts N.held N.faults notes.old out.old notes.new out.new (refusal_note line cause.now) }
+    ensures { Puts N.ByteSink (notes.old, out.old) (notes.new, out.new) (refusal_note line cause.now) }
 {
     put_numbered(out, notes, b"refused: line ", line as u64);
     out.put(notes, b": ");
@@ -22,7 +22,7 @@ pub fn put_refusal<N: ByteSink>(out: &mut SinkBuffer, notes: &mut N, line: u32, 
 
 #[tactic(auto, unfolding(crate::specs::Notes::cause_words))]
 fn put_cause<N: ByteSink>(out: &mut SinkBuffer, notes: &mut N, cause: &Cause)
-    ensures { Puts N.held N.faults notes.old out.old notes.new out.new (cause_words cause.now) }
+    ensures { Puts N.ByteSink (notes.old, out.old) (notes.new, out.new) (cause_words cause.now) }
 {
     match cause {
         Cause::NotAscii => out.put(notes, b"not ascii"),
@@ -36,7 +36,7 @@ fn put_cause<N: ByteSink>(out: &mut SinkBuffer, notes: &mut N, cause: &Cause)
 
 #[tactic(auto, unfolding(crate::specs::Notes::number_words))]
 fn put_number_fault<N: ByteSink>(out: &mut SinkBuffer, notes: &mut N, fault: &DecimalFault)
-    ensures { Puts N.held N.faults notes.old out.old notes.new out.new (number_words fault.now) }
+    ensures { Puts N.ByteSink (notes.old, out.old) (notes.new, out.new) (number_words fault.now) }
 {
     match fault {
         DecimalFault::Empty => out.put(notes, b"number without digits"),
@@ -52,7 +52,7 @@ fn put_number_fault<N: ByteSink>(out: &mut SinkBuffer, notes: &mut N, fault: &De
 
 #[tactic(auto, unfolding(crate::specs::Notes::fault_words))]
 fn put_fault<N: ByteSink>(out: &mut SinkBuffer, notes: &mut N, fault: &Fault)
-    ensures { Puts N.held N.faults notes.old out.old notes.new out.new (fault_words fault.now) }
+    ensures { Puts N.ByteSink (notes.old, out.old) (notes.new, out.new) (fault_words fault.now) }
 {
     match fault {
         Fault::NoSink => out.put(notes, b"no sink"),
@@ -70,7 +70,7 @@ fn put_fault<N: ByteSink>(out: &mut SinkBuffer, notes: &mut N, fault: &Fault)
 /// Puts some words and a number after them.
 #[tactic(auto, unfolding(crate::specs::Notes::numbered))]
 pub fn put_numbered<N: ByteSink>(out: &mut SinkBuffer, notes: &mut N, before: &[u8], number: u64)
-    ensures { Puts N.held N.faults notes.old out.old notes.new out.new (numbered before.now number) }
+    ensures { Puts N.ByteSink (notes.old, out.old) (notes.new, out.new) (numbered before.now number) }
 {
     out.put(notes, before);
     out.put(notes, decimal(number as u128, 0).bytes());

@@ -19,6 +19,8 @@ pub enum Status {
     WriteFault,
     /// Memory ran out.
     NoMemory,
+    /// The tree has no trunk with the repeaters that are asked for; a line that says so was written whole.
+    NoTrunk,
 }
 
 impl Status {
@@ -38,6 +40,7 @@ impl Status {
             Status::ReadFault => 5,
             Status::WriteFault => 6,
             Status::NoMemory => 7,
+            Status::NoTrunk => 8,
         }
     }
 }

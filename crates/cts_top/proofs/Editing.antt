@@ -16,7 +16,7 @@ use Rattle.cts_plain.specs.declared.end.NoTree.{NoTree}
 use Rattle.cts_plain.specs.declared.end.NoTree.TheVariants as end
 use Rattle.cts_plain.specs.Ends.{Ends}
 use Rattle.cts_plain.specs.Synthesis.{IsSynthesis, made, beyond, cut}
-use Rattle.cts_design.specs.declared.edit.Entry.{Entry}
+use Rattle.cts_edit.specs.declared.edit.Entry.{Entry}
 use Rattle.cts_history.specs.History.{history_text}
 use Rattle.cts_report.specs.Report.{report_text}
 use Rattle.cts_script.specs.declared.script.ScriptStep.{ScriptStep}
@@ -55,17 +55,18 @@ told_memory (Ok kind) t e = cc
 told_memory (Err stop.NoMemory) t e = t
 told_memory (Err stop.Words) t e = cc
 told_memory (Err stop.TooLong) t e = cc
+told_memory (Err stop.Many) t e = cc
 told_memory (Err (stop.Refused line cause)) t e = cc
 told_memory (Err stop.ReadFault) t e = cc
 told_memory (Err stop.WriteFault) t e = cc
 
 -- the text for a synthesis that has come to its end
-some_text : (i : Parts) → IsValid i → (result : Made) → IsSynthesised i result → IfErr result (λ why. why ≢ end.NoMemory)
+pub some_text : (i : Parts) → IsValid i → (result : Made) → IsSynthesised i result → IfErr result (λ why. why ≢ end.NoMemory)
     → (kind : Answer) × (text : List ℕ) × TellsSynthesis report_text i kind text
 some_text i valid (Ok (tree, figures)) s told =
-    (answer.Text, report_text i.version tree figures, tree_told report_text i tree figures valid s.tree s.figures s.sound s.right)
-some_text i valid (Err (end.Beyond n)) s told = (answer.NoTree, no_tree_text (codes "beyond") n, beyond_told report_text i n valid s.ends)
-some_text i valid (Err (end.Cut n)) s told = (answer.NoTree, no_tree_text (codes "cut") n, cut_told report_text i n valid s.ends)
+    (answer.Text, report_text i.version tree figures, tree_told (IsSynthesis i) report_text i tree figures valid s.tree s.figures s.sound s.right)
+some_text i valid (Err (end.Beyond n)) s told = (answer.NoTree, no_tree_text (codes "beyond") n, beyond_told (IsSynthesis i) report_text i n valid s.ends)
+some_text i valid (Err (end.Cut n)) s told = (answer.NoTree, no_tree_text (codes "cut") n, cut_told (IsSynthesis i) report_text i n valid s.ends)
 some_text i valid (Err end.NoMemory) s told = absurd (told refl)
 
 -- that synthesis is told, whole or in part

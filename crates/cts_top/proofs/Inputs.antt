@@ -12,7 +12,7 @@ use Rattle.cts_script.specs.Scripts.{script_at}
 use Rattle.cts_notes.specs.Front.{input_limit}
 use Rattle.cts_top.specs.Input.{input_of, scripted_of}
 use Rattle.cts_top.specs.Outcome.{stop_of_text}
-use Rattle.cts_top.specs.Right.{ExplainsBy}
+use Rattle.cts_top.specs.Reading.{ExplainsBy}
 
 -- the lines after so many bytes, in the form of a slice
 pub left_at : (bytes : List ℕ) (used line : ℕ) → (left_of (place_at bytes used line)).lines ≡ content line (lines_of (take (length bytes - used) (drop used bytes)))

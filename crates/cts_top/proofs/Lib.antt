@@ -4,10 +4,15 @@ pub mod Synthesising
 pub mod Remembering
 pub mod Inputs
 pub mod Lists
-pub mod Printable
 pub mod Accepting
 pub mod Told
 pub mod Writing
+pub mod NearTold
 pub mod Serving
 pub mod Forms
 pub mod Editing
+pub mod TrunkWords
+pub mod TrunkKinds
+pub mod TautTrunk
+pub mod Trunks
+pub mod Replaying

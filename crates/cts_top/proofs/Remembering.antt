@@ -1,5 +1,5 @@
 -- The memo of a run, by the synthesis that was made over it.
-use Rattle.std.proofs.Common.{◌≡◌, ◌≤◌, ◌↔◌, ◌⊎◌, ℕ, inl, List, length, Option, None, Some, IfSome, IsSome, Result, Ok, Err, IfErr, OnOk, IsErrOf, refl, sym, subst, ap, ◌∙◌, arith}
+use Rattle.std.proofs.Common.{◌≡◌, ◌↔◌, ◌⊎◌, ℕ, inl, List, length, Option, None, Some, IfSome, IsSome, Result, Ok, Err, IfErr, OnOk, IsErrOf, refl, sym, subst, ap, ◌∙◌}
 use Rattle.cts_instance.specs.declared.parts.Parts.{Parts}
 use Rattle.cts_instance.specs.Validity.{IsValid}
 use Rattle.cts_io.specs.declared.write.WriteEnd.{WriteEnd}
@@ -26,12 +26,11 @@ use Rattle.cts_top.specs.declared.stop.Stop.{Stop}
 use Rattle.cts_top.specs.declared.stop.Stop.TheVariants as stop
 use Rattle.cts_notes.specs.declared.status.Status.{Status}
 use Rattle.cts_top.specs.declared.words.Form.{Form}
-use Rattle.cts_top.specs.declared.words.Form.TheVariants.{Synth, Check, Edit, Make, Job}
+use Rattle.cts_top.specs.declared.words.Form.TheVariants.{Synth, Edit, Job}
 use Rattle.cts_top.specs.Input.{Spells, SpellsScripts}
 use Rattle.cts_top.specs.Log.{Log, no_log}
-use Rattle.cts_top.specs.Memos.{HasLog, HasMemo, HoldsMemo, IsKept, IsMemoOf, TellsEnd, TellsOfTree}
+use Rattle.cts_top.specs.Memos.{HasLog, HoldsMemo, IsKept, IsMemoOf, TellsEnd, TellsOfTree}
 use Rattle.cts_top.specs.Outcome.{status_of}
-use Rattle.cts_top.specs.Words.{IsAlone}
 use Rattle.cts_top.specs.Written.{ended_of}
 use Rattle.cts_top.proofs.Endings.{Scripted, one_instance, one_scripted}
 use Rattle.cts_top.proofs.Serving.{on_left}
@@ -91,6 +90,7 @@ kept_told (Err end.NoMemory) s memo kept told = (λ m. absurd (kept m), λ t. ab
 pub stopped_untold : (end : Stop) → (IsErrOf {T = Answer} (Err end) stop.WriteFault → ⊥) → TellsOfTree (status_of (Err end)) → ⊥
 stopped_untold stop.Words n t = t
 stopped_untold stop.TooLong n t = t
+stopped_untold stop.Many n t = t
 stopped_untold (stop.Refused line cause) n t = t
 stopped_untold stop.ReadFault n t = t
 stopped_untold stop.WriteFault n t = n refl
@@ -126,16 +126,6 @@ pub has_log : (Asks : Form → Type 0) (form : Form) (s : Status) (log : Log) �
     → (¬ ((form ≡ Edit) × TellsOfTree s) → log ≡ no_log) → HasLog Asks s log
 has_log Asks form s log asks f = λ none. f (λ p. none (subst Asks p.0 asks, p.1))
 
--- a form of one thread keeps no memo
-pub alone_keeps_none : (form : Form) (X : Type 0) → IsAlone form → HasMemo form × X → ⊥
-alone_keeps_none (Synth workers) X one has = omega (arith, one, has.0)
-alone_keeps_none Check X one has = has.0
-alone_keeps_none Edit X one has = one
-alone_keeps_none (Make seed sinks) X one has = has.0
-alone_keeps_none (Job seed sinks workers) X one has = omega (arith, one, has.0)
-
-pub more_workers : (workers : ℕ) → 1 ≤ workers → (workers ≡ 1 → ⊥) → 2 ≤ workers
-more_workers workers some not = omega (arith, some, not)
-
+-- a form keeps its memo where it has one
 pub with_workers : (P Q H : Type 0) → P ↔ Q → H → P ↔ (H × Q)
 with_workers P Q H both h = (λ p. (h, both.0 p), λ q. both.1 q.1)

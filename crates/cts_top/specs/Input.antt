@@ -1,9 +1,10 @@
--- What an input spells: an instance and nothing after it, an instance and then a report, or an instance and then scripts.
-use Rattle.std.specs.Prelude.{◌≡◌, ℕ, ◌≤◌, List, length, Result, Ok}
+-- What an input spells: an instance and nothing after it, or an instance and then scripts.
+use Rattle.std.specs.Prelude.{◌≡◌, ℕ, ◌<◌, ◌≤◌, List, length, Result, Ok}
 use Rattle.cts_instance.specs.declared.parts.Parts.{Parts}
+use Rattle.cts_near.specs.Ends.{max_sinks}
 use Rattle.cts_read.specs.Grammar.{◌>>=◌, Refusal}
 use Rattle.cts_read.specs.Whole.{instance_of, rest_of}
-use Rattle.cts_notes.specs.Front.{SpellsFront, input_limit}
+use Rattle.cts_notes.specs.Front.{input_limit}
 use Rattle.cts_script.specs.declared.script.ScriptStep.{ScriptStep}
 use Rattle.cts_script.specs.Scripts.{script_at}
 
@@ -19,13 +20,14 @@ pub record Spells (bytes : List ℕ) (i : Parts) : Type 0 where
   pub within : length bytes ≤ input_limit
   pub read : input_of bytes ≡ Ok i
 
--- the input spells no instance
-abbrev pub IsRefused : List ℕ → Type 0
-IsRefused bytes = (i : Parts) → Spells bytes i → ⊥
+-- The input spells this instance, and it has few enough sinks for a nearest-pair topology.
+pub record SpellsFew (bytes : List ℕ) (i : Parts) : Type 0 where
+  pub spells : Spells bytes i
+  pub few : length i.sinks ≤ max_sinks
 
--- the input does not begin with an instance
-abbrev pub IsFrontRefused : List ℕ → Type 0
-IsFrontRefused bytes = (i : Parts) (rest : List ℕ) → SpellsFront bytes i rest → ⊥
+-- the input spells an instance, and that has too many sinks for it
+abbrev pub SpellsMany : List ℕ → Type 0
+SpellsMany bytes = (i : Parts) × Spells bytes i × (max_sinks < length i.sinks)
 
 -- the instance at the front of a text and the scripts of all callers, which are all that follows it; or the first line that
 -- offends and its first cause
@@ -39,7 +41,3 @@ scripted_of bytes = do
 pub record SpellsScripts (bytes : List ℕ) (i : Parts) (scripts : List (List ScriptStep)) : Type 0 where
   pub within : length bytes ≤ input_limit
   pub read : scripted_of bytes ≡ Ok (i, scripts)
-
--- the input spells no instance with scripts after it
-abbrev pub AreScriptsRefused : List ℕ → Type 0
-AreScriptsRefused bytes = (i : Parts) (scripts : List (List ScriptStep)) → SpellsScripts bytes i scripts → ⊥

@@ -1,16 +1,23 @@
 pub mod Input
 pub mod Log
 pub mod Memos
+pub mod Near
 pub mod Notes
 pub mod Outcome
+pub mod Reading
+pub mod Replay
 pub mod Right
 pub mod Runs
+pub mod Streams
 pub mod Synthesised
 pub mod Text
+pub mod Trunk
+pub mod TrunkWords
 pub mod Verdict
 pub mod Words
 pub mod Written
 pub use Rattle.cts_plain.specs.Synthesis
+pub use Rattle.cts_near_tree.specs.Synthesis as NearSynthesis
 pub use Rattle.cts_script.specs.Generator
 pub use Rattle.cts_script.specs.Text as InstanceText
 pub use Rattle.cts_check.specs.Verdict as CheckedVerdict
@@ -21,6 +28,12 @@ pub use Rattle.cts_script.specs.Scripts
 pub use Rattle.cts_callers.specs.Legal
 pub use Rattle.cts_callers.specs.Replies
 pub use Rattle.cts_history.specs.History
+pub use Rattle.cts_trunk.specs.Laid
+pub use Rattle.cts_trunk.specs.Lines as TrunkLines
+pub use Rattle.cts_undo.specs.Replay as Undoing
+pub use Rattle.cts_script.specs.Replays
+pub use Rattle.cts_replay.specs.Answers as ReplayAnswers
+pub use Rattle.cts_replay.specs.ReplayText
 pub use Rattle.cts_notes.specs.Front
 pub use Rattle.cts_notes.specs.Status
 pub use Rattle.cts_notes.specs.Notes as RefusalNotes

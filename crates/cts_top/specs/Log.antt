@@ -1,7 +1,7 @@
 -- What a run of callers tells of itself beside its text.
 use Rattle.std.specs.Prelude.{List, [], Vec}
 use Rattle.std.specs.Global.{Global}
-use Rattle.cts_design.specs.declared.edit.Entry.{Entry}
+use Rattle.cts_edit.specs.declared.edit.Entry.{Entry}
 use Rattle.cts_callers.specs.declared.reply.Reply.{Reply}
 use Rattle.cts_callers.specs.Turns.{lists_of}
 

@@ -17,10 +17,10 @@ use Rattle.cts_session.specs.Desks.{version_of}
 use Rattle.cts_notes.specs.declared.status.Status.{Status}
 use Rattle.cts_notes.specs.declared.status.Status.TheVariants as status
 use Rattle.cts_top.specs.declared.words.Form.{Form}
-use Rattle.cts_top.specs.declared.words.Form.TheVariants.{Synth, Check, Edit, Make, Job}
+use Rattle.cts_top.specs.declared.words.Form.TheVariants.{Synth, Check, Edit, Make, Job, Trunk, Near, Replay}
 use Rattle.cts_top.specs.Input.{Spells, SpellsScripts}
 use Rattle.cts_top.specs.Log.{Log, no_log}
-use Rattle.cts_top.specs.Right.{OfInput}
+use Rattle.cts_top.specs.Reading.{OfInput, reads}
 
 -- A table is that of a memo over which an instance was synthesised: its entries were made with the instance's parameters,
 -- and it is sound. Where the instance has a tree, the table has as many entries as it can have, or a number for every node of
@@ -41,6 +41,7 @@ TellsOfTree status.NoTree = Unit
 TellsOfTree status.ReadFault = ⊥
 TellsOfTree status.WriteFault = Unit
 TellsOfTree status.NoMemory = ⊥
+TellsOfTree status.NoTrunk = ⊥
 
 -- a table is kept exactly where memory did not run out
 abbrev pub IsKept : Result (List TreeNode × Figures) NoTree → Option Table → Type 0
@@ -61,8 +62,11 @@ abbrev pub HasMemo : Form → Type 0
 HasMemo (Synth workers) = 2 ≤ workers
 HasMemo Check = ⊥
 HasMemo Edit = Unit
+HasMemo Near = ⊥
+HasMemo Replay = ⊥
 HasMemo (Make seed sinks) = ⊥
 HasMemo (Job seed sinks workers) = 2 ≤ workers
+HasMemo (Trunk step buffer) = ⊥
 
 -- a run keeps its memo, where `Asks` says what its words ask for and this is its status
 abbrev pub KeepsMemo : (Form → Type 0) → Status → Type 0
@@ -73,14 +77,17 @@ KeepsMemo Asks s = (form : Form) × Asks form × HasMemo form × TellsOfTree s
 abbrev pub IsInstance : Log → Form → List ℕ → Parts → Type 0
 IsInstance log (Synth workers) bytes i = Spells bytes i
 IsInstance log Check bytes i = ⊥
+IsInstance log Near bytes i = ⊥
 IsInstance log Edit bytes i =
     (base : Parts) × (scripts : List (List ScriptStep)) × SpellsScripts bytes base scripts × (i ≡ version_of base log.history)
+IsInstance log Replay bytes i = ⊥
 IsInstance log (Make seed sinks) bytes i = ⊥
 IsInstance log (Job seed sinks workers) bytes i = i ≡ made_parts seed sinks
+IsInstance log (Trunk step buffer) bytes i = ⊥
 
 -- the memo of a run on a form is that of the instance, where the input tells it
 abbrev pub HoldsMemo : Log → Form → Option (List ℕ) → Option Table → Type 0
-HoldsMemo log form left memo = IfSome memo (λ table. OfInput form left (λ bytes. (i : Parts) → IsInstance log form bytes i → IsMemoOf i table))
+HoldsMemo log form left memo = IfSome memo (λ table. OfInput (reads form) left (λ bytes. (i : Parts) → IsInstance log form bytes i → IsMemoOf i table))
 
 -- A run has a log of callers only where its words ask for edits and its status tells of a tree; in every other run it is
 -- empty.

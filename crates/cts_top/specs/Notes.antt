@@ -6,11 +6,16 @@ use Rattle.cts_top.specs.declared.stop.Stop.{Stop}
 use Rattle.cts_top.specs.declared.stop.Stop.TheVariants as stop
 
 abbrev pub usage_note : List ℕ
-usage_note = codes "usage: cts synth W, check, edit, make SEED N, job SEED N W\n"
+usage_note = codes "usage: cts synth W, check, edit, make SEED N, job SEED N W, trunk STEP J, near, replay\n"
+
+-- an instance has too many sinks for a nearest-pair topology
+abbrev pub many_note : List ℕ
+many_note = codes "refused: more than 2048 sinks for near\n"
 
 unfoldable pub stop_note : Stop → List ℕ
 stop_note stop.Words = usage_note
 stop_note stop.TooLong = too_long_note
+stop_note stop.Many = many_note
 stop_note (stop.Refused line cause) = refusal_note line cause
 stop_note stop.ReadFault = codes "read fault\n"
 stop_note stop.WriteFault = codes "write fault\n"

@@ -8,15 +8,30 @@ use Rattle.cts_elmore.specs.Sound.{IsSound}
 use Rattle.cts_report.specs.Report.{IsPrintable, report_text}
 use Rattle.cts_check.specs.Verdict.{IsRight}
 use Rattle.cts_plain.specs.declared.end.NoTree.{NoTree}
-use Rattle.cts_plain.specs.Ends.{Ends}
-use Rattle.cts_plain.specs.Synthesis.{IsSynthesis, made}
+use Rattle.cts_plain.specs.Ends.{EndsBy}
+use Rattle.cts_plain.specs.Synthesis.{IsSynthesis, Synthesis, made}
+use Rattle.cts_near_tree.specs.Synthesis.{IsSynthesisNear}
 
--- A tree is the one of the instance's synthesis. It is sound, its figures are those of their definitions, and its report
--- can be printed and is right. Where there is none the synthesis comes to this end.
-pub record IsSynthesised (i : Parts) (result : Result (List TreeNode × Figures) NoTree) : Type 0 where
-  pub tree : IfOk result (λ r. IsSynthesis i (made r.0))
+-- the topology over which a tree is made: that after means and medians, or the nearest-pair one
+pub data Topology : Type 0 where
+  medians : Topology
+  nearest : Topology
+
+-- what the synthesis of an instance over it comes to
+abbrev pub ComesOver : Topology → Parts → Synthesis → Type 0
+ComesOver medians = IsSynthesis
+ComesOver nearest = IsSynthesisNear
+
+-- A synthesis of an instance, where `Comes` says what it comes to. A tree is what it comes to. It is sound, its figures are
+-- those of their definitions, and its report can be printed and is right. Where there is none it comes to this end.
+pub record IsSynthesisedBy (Comes : Synthesis → Type 0) (i : Parts) (result : Result (List TreeNode × Figures) NoTree) : Type 0 where
+  pub tree : IfOk result (λ r. Comes (made r.0))
   pub figures : IfOk result (λ r. AreFigures i r.0 r.1)
   pub sound : IfOk result (λ r. IsSound i r.0)
   pub printable : IfOk result (λ r. IsPrintable r.0 r.1)
   pub right : IfOk result (λ r. IsRight i (report_text i.version r.0 r.1))
-  pub ends : IfErr result (Ends i)
+  pub ends : IfErr result (EndsBy Comes)
+
+-- the synthesis of an instance
+abbrev pub IsSynthesised : Parts → Result (List TreeNode × Figures) NoTree → Type 0
+IsSynthesised i = IsSynthesisedBy (IsSynthesis i) i

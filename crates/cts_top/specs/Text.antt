@@ -58,13 +58,17 @@ answer_of (made tree) = answer.Text
 answer_of (beyond node) = answer.NoTree
 answer_of (cut node) = answer.NoTree
 
--- The text for the synthesis of a valid instance, and its kind.
-pub record TellsSynthesis (tell : TreeText) (i : Parts) (kind : Answer) (text : List ℕ) : Type 0 where
+-- The text for a synthesis of a valid instance, and its kind, where `Comes` says what that synthesis comes to.
+pub record TellsComing (Comes : Synthesis → Type 0) (tell : TreeText) (i : Parts) (kind : Answer) (text : List ℕ) : Type 0 where
   pub valid : IsValid i
   pub synthesis : Synthesis
-  pub is_synthesis : IsSynthesis i synthesis
+  pub comes : Comes synthesis
   pub kind_is : kind ≡ answer_of synthesis
   pub is_text : IsTextOf tell i synthesis text
+
+-- the text for the synthesis of a valid instance, and its kind
+abbrev pub TellsSynthesis : TreeText → Parts → Answer → List ℕ → Type 0
+TellsSynthesis tell i = TellsComing (IsSynthesis i) tell i
 
 -- The text for the edits of callers, and its kind: their history with the replies to each caller, and then the text for a
 -- synthesis of the version after it, in which there is no caller and no memo.

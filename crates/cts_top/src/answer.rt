@@ -1,16 +1,18 @@
 //! The synthesis of an instance, and the text for it.
 
-ghost use Rattle.std.specs.Prelude.{◌≡◌, ◌<◌, ◌≤◌, ◌↔◌, Err, IfSome, IsSome};
+ghost use Rattle.std.specs.Prelude.{◌≡◌, ◌<◌, ◌≤◌, ◌↔◌, Err, IfOk, IfSome, IsSome};
+ghost use Rattle.cts_elmore.specs.Measurement.{HasFigures};
 ghost use Rattle.cts_io.specs.Text.{Writes};
 ghost use Rattle.cts_report.specs.Report.{IsPrintable};
-ghost use Rattle.cts_plain.specs.Ends.{Ends};
+ghost use Rattle.cts_plain.specs.Ends.{EndsBy};
 ghost use Rattle.cts_top.specs.Memos.{IsMemoOf, TellsEnd, TellsOfTree};
 ghost use Rattle.cts_top.specs.Outcome.{status_of};
-ghost use Rattle.cts_top.specs.Synthesised.{IsSynthesised};
-ghost use Rattle.cts_top.specs.Text.{TellsSynthesis, TreeText, no_tree_text, told_by};
+ghost use Rattle.cts_top.specs.Synthesised.{ComesOver, IsSynthesised, IsSynthesisedBy, Topology};
+ghost use Rattle.cts_top.specs.Text.{TellsComing, TellsSynthesis, TreeText, no_tree_text, told_by};
 ghost use Rattle.cts_top.specs.Written.{Answers};
 
 use crate::stop::{Answer, Stop, ended};
+use crate::valid::instance_is_valid;
 use crate::workers::synthesise_by_workers;
 use cts_elmore::Figures;
 use cts_instance::Instance;
@@ -37,17 +39,18 @@ fn synthesise_counted<L: Ledger>(
     requires name { blank.name ≡ L.name }
     requires parts { blank.parts ≡ L.parts }
     requires some { 0 < L.parts }
-    ensures { IsSynthesised instance.now result }
+    ensures synthesised { IsSynthesised instance.now result }
+    ensures measured { IfOk result (λ r. HasFigures instance.now r.0 r.1) }
 {
-    // A read call says that the instance is valid, which the limits of what is printed rest on.
-    let _die = instance.die();
+    instance_is_valid(instance);
     let mut steps = Steps::<L>::open(blank);
     synthesise(alloc, instance, &mut steps)
 }
 
 /// The synthesis of an instance, whose merges nobody counts.
-fn synthesise_alone(alloc: Global, instance: &Instance) -> Result<(Tree, Figures), NoTree>
-    ensures { IsSynthesised instance.now result }
+pub fn synthesise_alone(alloc: Global, instance: &Instance) -> Result<(Tree, Figures), NoTree>
+    ensures synthesised { IsSynthesised instance.now result }
+    ensures measured { IfOk result (λ r. HasFigures instance.now r.0 r.1) }
 {
     synthesise_counted::<Brand>(alloc, Blank::new(1), instance)
 }
@@ -65,16 +68,16 @@ fn write_no_tree<K: ByteSink>(sink: &mut K, why: &[u8], node: u32) -> Result<(),
 }
 
 /// Writes that an instance has no tree, unless memory ran out.
-fn answer_no_tree<K: ByteSink>(
+pub fn answer_no_tree<K: ByteSink>(
     sink: &mut K,
     instance: &Instance,
     end: NoTree,
 ) -> Result<Answer, Stop>
-    requires { Ends instance.now end }
-    ensures answers { (tell : TreeText) → Answers (TellsSynthesis tell instance.now) K.held K.faults sink.old sink.new result }
+    ensures answers { (topology : Topology) (tell : TreeText) → EndsBy (ComesOver topology instance.now) end
+        → Answers (TellsComing (ComesOver topology instance.now) tell instance.now) K.held K.faults sink.old sink.new result }
     ensures told { TellsEnd (Err end) (status_of result) }
 {
-    let _die = instance.die();
+    instance_is_valid(instance);
     match end {
         NoTree::Beyond { node } => ended(write_no_tree(sink, b"beyond", node), Answer::NoTree),
         NoTree::Cut { node } => ended(write_no_tree(sink, b"cut", node), Answer::NoTree),
@@ -107,19 +110,20 @@ fn write_tree<K: ByteSink>(
     }
 }
 
-/// Writes the text for a synthesis of an instance: its tree, told so, or the line that says why it has
-/// none.
+/// Writes the text for a synthesis of an instance over any topology: its tree, told so, or the line that says why it
+/// has none.
 pub fn answer_synthesis<K: ByteSink>(
     sink: &mut K,
     telling: Telling,
     instance: &Instance,
     synthesis: Result<(Tree, Figures), NoTree>,
 ) -> Result<Answer, Stop>
-    requires { IsSynthesised instance.now synthesis }
-    ensures answers { Answers (TellsSynthesis (told_by telling) instance.now) K.held K.faults sink.old sink.new result }
+    requires { IfOk synthesis (λ r. IsPrintable r.0 r.1) }
+    ensures answers { (topology : Topology) → IsSynthesisedBy (ComesOver topology instance.now) instance.now synthesis
+        → Answers (TellsComing (ComesOver topology instance.now) (told_by telling) instance.now) K.held K.faults sink.old sink.new result }
     ensures told { TellsEnd synthesis (status_of result) }
 {
-    let _die = instance.die();
+    instance_is_valid(instance);
     match synthesis {
         Ok((tree, figures)) => {
             let written = write_tree(sink, telling, instance, &tree, &figures);

@@ -11,9 +11,9 @@ ghost use Rattle.cts_top.specs.Words.{IsForm, IsFormAlone};
 
 use crate::notes::write_note;
 use crate::outcome::{Kept, Outcome};
-use crate::serve::{serve, serve_by_threads};
+use crate::serve::{serve_alone, serve_by_threads};
 use crate::stop::{Answer, Stop, status_of};
-use crate::words::{Form, form_alone, form_of};
+use crate::words::{Form, form_of};
 use cts_io::{ByteSink, ByteSource};
 use cts_notes::Status;
 use cts_work::Gate;
@@ -29,10 +29,12 @@ fn answer_alone<R: Threads + Sync, S: ByteSource, K: ByteSink>(
     source: &mut S,
     sink: &mut K,
 ) -> Result<Answer, Stop>
-    ensures { AnswersWords S.left S.faults K.held K.faults (IsFormAlone words.now) no_log source.old source.new sink.old sink.new result }
+    ensures { AnswersWords (IsFormAlone words.now) no_log
+        (record { tells = S.left; faults = S.faults; before = source.old; after = source.new })
+        (record { tells = K.held; faults = K.faults; before = sink.old; after = sink.new }) result }
 {
-    match form_alone(words) {
-        Some(form) => serve(rt, alloc, form, source, sink),
+    match form_of(words) {
+        Some(form) => serve_alone(rt, alloc, form, source, sink),
         None => Err(Stop::Words),
     }
 }
@@ -46,8 +48,9 @@ fn answer<R: Threads + Wait + Sync, S: ByteSource, K: ByteSink, G: Gate>(
     sink: &mut K,
     gate: &G,
 ) -> (Result<Answer, Stop>, Kept)
-    ensures answers { AnswersWords S.left S.faults K.held K.faults (IsForm words.now) (log_of result.1.history result.1.replies)
-        source.old source.new sink.old sink.new result.0 }
+    ensures answers { AnswersWords (IsForm words.now) (log_of result.1.history result.1.replies)
+        (record { tells = S.left; faults = S.faults; before = source.old; after = source.new })
+        (record { tells = K.held; faults = K.faults; before = sink.old; after = sink.new }) result.0 }
     ensures kept { IsSome result.1.memo ↔ KeepsMemo (IsForm words.now) (status_of result.0) }
     ensures memo { (form : Form) → IsForm words.now form
         → HoldsMemo (log_of result.1.history result.1.replies) form (S.left source.old) result.1.memo }
@@ -60,24 +63,32 @@ fn answer<R: Threads + Wait + Sync, S: ByteSource, K: ByteSink, G: Gate>(
 }
 
 /// Runs the program on its words, its input and its output, and tells the notes why nothing came
-/// out whole where nothing did. The words are `synth W`, `check`, `edit`, `make SEED N` or `job SEED N W`,
-/// with W from 1 to 64.
+/// out whole where nothing did. The words are `synth W`, `check`, `edit`, `make SEED N`, `job SEED N W`, with W
+/// from 1 to 64, `trunk STEP J`, `near` or `replay`.
 ///
 /// - `Done`: the text was written, and nothing else. For `synth W` it is the report of the instance that
 ///   the input spells, the same for every number of workers; for `check` the line `yes`, since what
 ///   follows the instance in the input is the report of a sound tree; for `edit` the history of all
 ///   accepted edits, with the replies to each caller of the scripts that follow the instance in the input,
 ///   and then the report of the tree of the sinks after it, as a synthesis without callers makes it; for
+///   `replay` the changes that are done after the steps that follow the instance in the input, with the reply
+///   to each step, and then the report of the tree of the sinks after these changes; for
 ///   `make` the canonical text of the instance that is made from the seed; for `job` the summary of that
-///   instance's tree.
+///   instance's tree; for `trunk` the trunk of the tree of the instance that the input spells, with repeaters of
+///   the library's buffer J at the multiples of STEP, and then the report of that tree; for `near` the report of
+///   the instance's tree over its nearest-pair topology.
 /// - `No`: exactly where what follows the instance is not that; the line that says at which line it is no
 ///   text of a report, or which rule it breaks first at which node, was written, and nothing else.
-/// - `NoTree`: the instance, for `edit` with the sinks after the history, has no tree, since a node is
-///   beyond the limits or no route reaches it; the line that says so was written, for `edit` after the
-///   history, and nothing else.
+/// - `NoTree`: the instance, for `edit` and `replay` with the sinks after the history, has no tree, since a node, or
+///   for `near` a step, is beyond the limits or no route reaches a node; the line that says so was written, for
+///   `edit` and `replay` after the history, and nothing else.
+/// - `NoTrunk`: exactly where the tree has no such trunk, since the library has no buffer J, or more than
+///   65,536 repeaters would stand there, or a delay would be beyond the limits; the line that says which was
+///   written, and nothing else.
 /// - `Words`: exactly where the words are none of these forms; source and sink are as they were.
 /// - `Refused`: exactly where an input is read that spells no instance, or for `check` begins with none, or
-///   for `edit` spells none with scripts after it, or is longer than 64 MiB; the sink is as it was.
+///   for `edit` spells none with scripts after it, or for `replay` none with steps after it, or for `near` spells
+///   one of more than 2,048 sinks, or is longer than 64 MiB; the sink is as it was.
 /// - `ReadFault`, `WriteFault`: only where the count of faults of source or sink rose in this call.
 ///   After a write fault the sink holds its old bytes and a front of the text.
 /// - `NoMemory`: after the words and before the first write; the sink is as it was.
@@ -100,8 +111,10 @@ pub fn run<R: Threads + Wait + Sync, S: ByteSource, K: ByteSink, N: ByteSink, G:
     notes: &mut N,
     gate: &G,
 ) -> Outcome
-    ensures runs { Runs S.left S.faults K.held K.faults N.held N.faults (IsForm words.now) (log_of result.history result.replies)
-        source.old source.new sink.old sink.new notes.old notes.new result.status }
+    ensures runs { Runs (IsForm words.now) (log_of result.history result.replies)
+        (record { tells = S.left; faults = S.faults; before = source.old; after = source.new })
+        (record { tells = K.held; faults = K.faults; before = sink.old; after = sink.new })
+        (record { tells = N.held; faults = N.faults; before = notes.old; after = notes.new }) result.status }
 
     // The memo is there exactly where workers or callers had one and the status tells of a tree ..
     ensures memo_kept { IsSome result.memo ↔ KeepsMemo (IsForm words.now) result.status }
@@ -119,22 +132,29 @@ pub fn run<R: Threads + Wait + Sync, S: ByteSource, K: ByteSink, N: ByteSink, G:
 }
 
 /// Runs the program on its words, its input and its output, and tells the notes why nothing came
-/// out whole where nothing did. The words are `synth 1`, `check`, `make SEED N` or `job SEED N 1`. It takes
-/// one thread, but for sums of `check`, and returns.
+/// out whole where nothing did. The words are `synth 1`, `check`, `make SEED N`, `job SEED N 1`, `trunk STEP J`,
+/// `near` or `replay`. It takes one thread, but for sums of `check`, and returns.
 ///
 /// What it does is what [`run`] does on these words, and on others it ends with `Words`.
 ///
 /// - `Done`: the text was written, and nothing else. For `synth 1` it is the report of the instance that
 ///   the input spells; for `check` the line `yes`, since what follows the instance in the input is the
-///   report of a sound tree; for `make` the canonical text of the instance that is made from the seed; for
-///   `job` the summary of that instance's tree.
+///   report of a sound tree; for `replay` the changes that are done after the steps that follow the instance
+///   in the input, with the reply to each step, and then the report of the tree of the sinks after these
+///   changes; for `make` the canonical text of the instance that is made from the seed; for `job` the summary
+///   of that instance's tree; for `trunk` the trunk of the tree with repeaters, and then its report; for `near`
+///   the report of the instance's tree over its nearest-pair topology.
 /// - `No`: exactly where what follows the instance is not that; the line that says at which line it is no
 ///   text of a report, or which rule it breaks first at which node, was written, and nothing else.
-/// - `NoTree`: the instance has no tree, since a node is beyond the limits or no route reaches it; the
-///   line that says so was written, and nothing else.
+/// - `NoTree`: the instance, for `replay` with the sinks after these changes, has no tree, since a node, or for
+///   `near` a step, is beyond the limits or no route reaches a node; the line that says so was written, for
+///   `replay` after the changes and replies, and nothing else.
+/// - `NoTrunk`: exactly where the tree has no such trunk; the line that says why was written, and nothing
+///   else.
 /// - `Words`: exactly where the words are none of these forms; source and sink are as they were.
-/// - `Refused`: exactly where an input is read that spells no instance, or for `check` begins with none, or
-///   is longer than 64 MiB; the sink is as it was.
+/// - `Refused`: exactly where an input is read that spells no instance, or for `check` begins with none, or for `replay`
+///   spells none with steps after it, or for `near` spells one of more than 2,048 sinks, or is longer than 64 MiB; the
+///   sink is as it was.
 /// - `ReadFault`, `WriteFault`: only where the count of faults of source or sink rose in this call.
 ///   After a write fault the sink holds its old bytes and a front of the text.
 /// - `NoMemory`: after the words and before the first write; the sink is as it was.
@@ -149,8 +169,10 @@ pub fn run_alone<R: Threads + Sync, S: ByteSource, K: ByteSink, N: ByteSink>(
     sink: &mut K,
     notes: &mut N,
 ) -> Outcome
-    ensures runs { Runs S.left S.faults K.held K.faults N.held N.faults (IsFormAlone words.now) no_log
-        source.old source.new sink.old sink.new notes.old notes.new result.status }
+    ensures runs { Runs (IsFormAlone words.now) no_log
+        (record { tells = S.left; faults = S.faults; before = source.old; after = source.new })
+        (record { tells = K.held; faults = K.faults; before = sink.old; after = sink.new })
+        (record { tells = N.held; faults = N.faults; before = notes.old; after = notes.new }) result.status }
     ensures memo { result.memo ≡ None }
     ensures log { log_of result.history result.replies ≡ no_log }
 {

@@ -12,7 +12,8 @@ ghost use Rattle.cts_top.specs.Input.{SpellsScripts, scripted_of};
 ghost use Rattle.cts_top.specs.Log.{log_of, no_log};
 ghost use Rattle.cts_top.specs.Memos.{HoldsMemo, IsMemoOf, TellsOfTree};
 ghost use Rattle.cts_top.specs.Outcome.{Serves, status_of};
-ghost use Rattle.cts_top.specs.Right.{ExplainsBy, TellsCallers};
+ghost use Rattle.cts_top.specs.Reading.{ExplainsBy};
+ghost use Rattle.cts_top.specs.Right.{TellsCallers};
 ghost use Rattle.cts_top.specs.Synthesised.{IsSynthesised};
 ghost use Rattle.cts_top.specs.Text.{TellsEdits};
 ghost use Rattle.cts_top.specs.Written.{Answers};
@@ -21,6 +22,7 @@ use crate::answer::{Telling, answer_synthesis};
 use crate::input::{give_back, read_scripts};
 use crate::outcome::Kept;
 use crate::stop::{Answer, Stop};
+use crate::valid::instance_is_valid;
 use crate::words::Form;
 use cts_callers::{Reply, Run, run_callers};
 use cts_design::Entry;
@@ -61,6 +63,7 @@ fn read_source<S: ByteSource>(
     ensures callers { IfOk result (λ r. IsCallerCount (length r.1.items)) }
     ensures explained { IfErr result (λ stop. IfSome (S.left source.old) (ExplainsBy scripted_of stop)) }
     ensures words { IsErrOf result Stop.Words → ⊥ }
+    ensures many { IsErrOf result Stop.Many → ⊥ }
     ensures read_fault { IsErrOf result Stop.ReadFault → Rose (S.faults source.old) (S.faults source.new) }
     ensures write_fault { IsErrOf result Stop.WriteFault → ⊥ }
     ensures counted { S.faults source.old ≤ S.faults source.new }
@@ -68,7 +71,7 @@ fn read_source<S: ByteSource>(
     let bytes = read_all(alloc, source, INPUT_LIMIT)?;
     let read = read_scripts(alloc, &bytes);
     give_back(bytes);
-    read
+    Ok(read?)
 }
 
 /// The run of the callers of these scripts beside each other.
@@ -87,7 +90,7 @@ fn run_scripts<R: Threads + Wait + Sync, G: Gate>(
     ensures told { IfOk result (λ e. IfErr e.synthesis (λ why. why ≢ NoTree.NoMemory)) }
     ensures memo { IfOk result (λ e. IsMemoOf e.version e.table) }
 {
-    let _die = instance.die();
+    instance_is_valid(&instance);
     let Run {
         instance,
         history,
@@ -122,7 +125,7 @@ fn answer_edits<K: ByteSink>(
         K.held K.faults sink.old sink.new result }
     ensures told { TellsOfTree (status_of result) }
 {
-    let _die = version.die();
+    instance_is_valid(version);
     write_history(sink, history, replies)?;
     answer_synthesis(sink, Telling::Report, version, synthesis)
 }
@@ -177,8 +180,9 @@ pub fn serve_edit<R: Threads + Wait + Sync, S: ByteSource, K: ByteSink, G: Gate>
     source: &mut S,
     sink: &mut K,
 ) -> (Result<Answer, Stop>, Kept)
-    ensures serves { Serves S.left S.faults K.held K.faults (log_of result.1.history result.1.replies) Form.Edit
-        source.old source.new sink.old sink.new result.0 }
+    ensures serves { Serves (log_of result.1.history result.1.replies) Form.Edit
+        (record { tells = S.left; faults = S.faults; before = source.old; after = source.new })
+        (record { tells = K.held; faults = K.faults; before = sink.old; after = sink.new }) result.0 }
     ensures words { IsErrOf result.0 Stop.Words → ⊥ }
     ensures kept { IsSome result.1.memo ↔ TellsOfTree (status_of result.0) }
     ensures memo { HoldsMemo (log_of result.1.history result.1.replies) Form.Edit (S.left source.old) result.1.memo }

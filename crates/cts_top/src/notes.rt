@@ -18,7 +18,7 @@ pub fn write_note<N: ByteSink>(notes: &mut N, ending: &Result<Answer, Stop>) -> 
 
 #[tactic(auto, unfolding(crate::specs::Notes::note_of))]
 fn put_ending<N: ByteSink>(out: &mut SinkBuffer, notes: &mut N, ending: &Result<Answer, Stop>)
-    ensures { Puts N.held N.faults notes.old out.old notes.new out.new (note_of ending.now) }
+    ensures { Puts N.ByteSink (notes.old, out.old) (notes.new, out.new) (note_of ending.now) }
 {
     match ending {
         Ok(_) => out.put(notes, b""),
@@ -28,14 +28,15 @@ fn put_ending<N: ByteSink>(out: &mut SinkBuffer, notes: &mut N, ending: &Result<
 
 #[tactic(auto, unfolding(crate::specs::Notes::stop_note))]
 fn put_stop<N: ByteSink>(out: &mut SinkBuffer, notes: &mut N, stop: &Stop)
-    ensures { Puts N.held N.faults notes.old out.old notes.new out.new (stop_note stop.now) }
+    ensures { Puts N.ByteSink (notes.old, out.old) (notes.new, out.new) (stop_note stop.now) }
 {
     match stop {
         Stop::Words => out.put(
             notes,
-            b"usage: cts synth W, check, edit, make SEED N, job SEED N W\n",
+            b"usage: cts synth W, check, edit, make SEED N, job SEED N W, trunk STEP J, near, replay\n",
         ),
         Stop::TooLong => out.put(notes, b"refused: input longer than 67108864 bytes\n"),
+        Stop::Many => out.put(notes, b"refused: more than 2048 sinks for near\n"),
         Stop::Refused { line, cause } => put_refusal(out, notes, *line, cause),
         Stop::ReadFault => out.put(notes, b"read fault\n"),
         Stop::WriteFault => out.put(notes, b"write fault\n"),

@@ -1,6 +1,6 @@
 //! What each form does, by one thread, or by the workers or the callers that it asks for.
 
-ghost use Rattle.std.specs.Prelude.{◌≡◌, ◌≢◌, ◌≤◌, ◌<◌, ◌^◌, ◌↔◌, ℕ, [], length, drop, IfSome, IfOk, IfErr, OnOk, IsErrOf, IsSome};
+ghost use Rattle.std.specs.Prelude.{◌≡◌, ◌≤◌, ◌<◌, ◌^◌, ◌↔◌, ℕ, [], length, drop, IfSome, IfOk, IfErr, OnOk, IsErrOf, IsSome};
 ghost use Rattle.std.specs.Io.KnownBytes.{IsAtEnd};
 ghost use Rattle.cts_io.specs.Faults.{Rose};
 ghost use Rattle.cts_notes.specs.Front.{SpellsFront, front_of};
@@ -9,23 +9,29 @@ ghost use Rattle.cts_top.specs.Log.{log_of, no_log};
 ghost use Rattle.cts_script.specs.Generator.{made_parts};
 ghost use Rattle.cts_top.specs.Memos.{HasMemo, HoldsMemo, IsMemoOf, TellsOfTree};
 ghost use Rattle.cts_top.specs.Outcome.{Serves, status_of};
-ghost use Rattle.cts_top.specs.Right.{ExplainsBy, IsRight};
+ghost use Rattle.cts_near.specs.Ends.{max_sinks};
+ghost use Rattle.cts_top.specs.Reading.{ExplainsBy, ExplainsFew};
+ghost use Rattle.cts_top.specs.Right.{IsRight};
 ghost use Rattle.cts_top.specs.Text.{TellsSynthesis, summary_in};
 ghost use Rattle.cts_top.specs.Words.{IsAlone, IsWithinLimits};
 ghost use Rattle.cts_top.specs.Written.{Answers};
 
 use crate::answer::{Telling, answer_by_workers, answer_instance};
 use crate::edit::serve_edit;
-use crate::input::{give_back, read_front, read_input};
+use crate::input::{give_back, read_input};
+use crate::near::answer_near;
 use crate::outcome::Kept;
+use crate::replay::serve_replay;
 use crate::room::{REPORT_ROOM, TREE_ROOM, open_heap};
 use crate::stop::{Answer, Stop, ended};
+use crate::trunk::serve_trunk;
 use crate::verdict::answer_verdict;
-use crate::words::{Form, is_alone};
+use crate::words::Form;
 use cts_instance::Instance;
 use cts_io::{ByteSink, ByteSource, read_all};
 use cts_memo::Table;
-use cts_notes::INPUT_LIMIT;
+use cts_near::MAX_SINKS;
+use cts_notes::{INPUT_LIMIT, read_front};
 use cts_num::NoMemory;
 use cts_script::{make_instance, write_instance};
 use cts_work::Gate;
@@ -33,8 +39,8 @@ use std::alloc::Global;
 use std::sync::Wait;
 use std::thread::Threads;
 
-/// Does what a form asks for by one thread.
-pub fn serve<R: Threads + Sync, S: ByteSource, K: ByteSink>(
+/// Does what a form asks for, where it asks for one thread; else it ends with `Words`.
+pub fn serve_alone<R: Threads + Sync, S: ByteSource, K: ByteSink>(
     rt: &R,
     alloc: Global,
     form: Form,
@@ -42,17 +48,26 @@ pub fn serve<R: Threads + Sync, S: ByteSource, K: ByteSink>(
     sink: &mut K,
 ) -> Result<Answer, Stop>
     requires within { IsWithinLimits form }
-    requires alone { IsAlone form }
-    ensures serves { Serves S.left S.faults K.held K.faults no_log form source.old source.new sink.old sink.new result }
-    ensures words { IsErrOf result Stop.Words → ⊥ }
+    ensures serves { IsAlone form → Serves no_log form
+        (record { tells = S.left; faults = S.faults; before = source.old; after = source.new })
+        (record { tells = K.held; faults = K.faults; before = sink.old; after = sink.new }) result }
+    ensures words { IsErrOf result Stop.Words ↔ ¬ IsAlone form }
+    ensures unread { ¬ IsAlone form → source.new ≡ source.old }
+    ensures unwritten { ¬ IsAlone form → sink.new ≡ sink.old }
 {
     match form {
-        Form::Synth { .. } => serve_synth(alloc, source, sink),
+        Form::Synth { workers: 1 } => serve_synth(alloc, source, sink),
         Form::Check => serve_check(rt, alloc, source, sink),
-        // This one is not served alone.
-        Form::Edit => unreachable!(),
+        Form::Near => serve_near(alloc, source, sink),
+        Form::Replay => serve_replay(alloc, source, sink),
         Form::Make { seed, sinks } => serve_make(alloc, sink, seed, sinks),
-        Form::Job { seed, sinks, .. } => serve_job(alloc, sink, seed, sinks),
+        Form::Job {
+            seed,
+            sinks,
+            workers: 1,
+        } => serve_job(alloc, sink, seed, sinks),
+        Form::Trunk { step, buffer } => serve_trunk(alloc, source, sink, step, buffer),
+        Form::Synth { .. } | Form::Job { .. } | Form::Edit => Err(Stop::Words),
     }
 }
 
@@ -63,7 +78,9 @@ fn serve_synth<S: ByteSource, K: ByteSink>(
     sink: &mut K,
 ) -> Result<Answer, Stop>
     ensures serves { (workers : ℕ)
-        → Serves S.left S.faults K.held K.faults no_log (Form.Synth workers) source.old source.new sink.old sink.new result }
+        → Serves no_log (Form.Synth workers)
+        (record { tells = S.left; faults = S.faults; before = source.old; after = source.new })
+        (record { tells = K.held; faults = K.faults; before = sink.old; after = sink.new }) result }
     ensures words { IsErrOf result Stop.Words → ⊥ }
 {
     let instance = read_source(alloc, source)?;
@@ -71,11 +88,12 @@ fn serve_synth<S: ByteSource, K: ByteSink>(
 }
 
 /// The instance that an input spells, which is read to its end. Its bytes go before the synthesis begins.
-fn read_source<S: ByteSource>(alloc: Global, source: &mut S) -> Result<Instance, Stop>
+pub fn read_source<S: ByteSource>(alloc: Global, source: &mut S) -> Result<Instance, Stop>
     ensures end { OnOk result (IsAtEnd (S.left source.new)) }
     ensures spells { IfOk result (λ instance. IfSome (S.left source.old) (λ bytes. Spells bytes instance)) }
     ensures explained { IfErr result (λ stop. IfSome (S.left source.old) (ExplainsBy input_of stop)) }
     ensures words { IsErrOf result Stop.Words → ⊥ }
+    ensures many { IsErrOf result Stop.Many → ⊥ }
     ensures read_fault { IsErrOf result Stop.ReadFault → Rose (S.faults source.old) (S.faults source.new) }
     ensures write_fault { IsErrOf result Stop.WriteFault → ⊥ }
     ensures counted { S.faults source.old ≤ S.faults source.new }
@@ -84,7 +102,42 @@ fn read_source<S: ByteSource>(alloc: Global, source: &mut S) -> Result<Instance,
     let _first = open_heap(alloc, TREE_ROOM);
     let read = read_input(alloc, &bytes);
     give_back(bytes);
-    read
+    Ok(read?)
+}
+
+/// Reads an instance of few enough sinks, and writes the report of its tree over the nearest-pair topology, or that
+/// there is none.
+fn serve_near<S: ByteSource, K: ByteSink>(
+    alloc: Global,
+    source: &mut S,
+    sink: &mut K,
+) -> Result<Answer, Stop>
+    ensures serves { Serves no_log Form.Near
+        (record { tells = S.left; faults = S.faults; before = source.old; after = source.new })
+        (record { tells = K.held; faults = K.faults; before = sink.old; after = sink.new }) result }
+    ensures words { IsErrOf result Stop.Words → ⊥ }
+{
+    let instance = read_few(alloc, source)?;
+    answer_near(alloc, sink, &instance)
+}
+
+/// The instance that an input spells, which is read to its end, where it has few enough sinks for a nearest-pair
+/// topology: too many are the last cause for which it is refused.
+fn read_few<S: ByteSource>(alloc: Global, source: &mut S) -> Result<Instance, Stop>
+    ensures end { OnOk result (IsAtEnd (S.left source.new)) }
+    ensures spells { IfOk result (λ instance. IfSome (S.left source.old) (λ bytes. Spells bytes instance)) }
+    ensures few { IfOk result (λ instance. length instance.sinks ≤ max_sinks) }
+    ensures explained { IfErr result (λ stop. IfSome (S.left source.old) (ExplainsFew stop)) }
+    ensures words { IsErrOf result Stop.Words → ⊥ }
+    ensures read_fault { IsErrOf result Stop.ReadFault → Rose (S.faults source.old) (S.faults source.new) }
+    ensures write_fault { IsErrOf result Stop.WriteFault → ⊥ }
+    ensures counted { S.faults source.old ≤ S.faults source.new }
+{
+    let instance = read_source(alloc, source)?;
+    if instance.sinks().len() > MAX_SINKS {
+        return Err(Stop::Many);
+    }
+    Ok(instance)
 }
 
 /// Reads an instance and the report that follows it, and writes the verdict on the report.
@@ -94,7 +147,9 @@ fn serve_check<R: Threads + Sync, S: ByteSource, K: ByteSink>(
     source: &mut S,
     sink: &mut K,
 ) -> Result<Answer, Stop>
-    ensures serves { Serves S.left S.faults K.held K.faults no_log Form.Check source.old source.new sink.old sink.new result }
+    ensures serves { Serves no_log Form.Check
+        (record { tells = S.left; faults = S.faults; before = source.old; after = source.new })
+        (record { tells = K.held; faults = K.faults; before = sink.old; after = sink.new }) result }
     ensures words { IsErrOf result Stop.Words → ⊥ }
 {
     let _first = open_heap(alloc, REPORT_ROOM);
@@ -113,6 +168,7 @@ fn read_front_source<S: ByteSource>(
     ensures within { IfOk result (λ r. r.2 ≤ length r.1.items) }
     ensures explained { IfErr result (λ stop. IfSome (S.left source.old) (ExplainsBy front_of stop)) }
     ensures words { IsErrOf result Stop.Words → ⊥ }
+    ensures many { IsErrOf result Stop.Many → ⊥ }
     ensures read_fault { IsErrOf result Stop.ReadFault → Rose (S.faults source.old) (S.faults source.new) }
     ensures write_fault { IsErrOf result Stop.WriteFault → ⊥ }
     ensures counted { S.faults source.old ≤ S.faults source.new }
@@ -166,52 +222,40 @@ pub fn serve_by_threads<R: Threads + Wait + Sync, S: ByteSource, K: ByteSink, G:
     sink: &mut K,
 ) -> (Result<Answer, Stop>, Kept)
     requires within { IsWithinLimits form }
-    ensures serves { Serves S.left S.faults K.held K.faults (log_of result.1.history result.1.replies) form
-        source.old source.new sink.old sink.new result.0 }
+    ensures serves { Serves (log_of result.1.history result.1.replies) form
+        (record { tells = S.left; faults = S.faults; before = source.old; after = source.new })
+        (record { tells = K.held; faults = K.faults; before = sink.old; after = sink.new }) result.0 }
     ensures words { IsErrOf result.0 Stop.Words → ⊥ }
     ensures kept { IsSome result.1.memo ↔ (HasMemo form × TellsOfTree (status_of result.0)) }
     ensures memo { HoldsMemo (log_of result.1.history result.1.replies) form (S.left source.old) result.1.memo }
     ensures log { ¬ ((form ≡ Form.Edit) × TellsOfTree (status_of result.0)) → log_of result.1.history result.1.replies ≡ no_log }
 {
-    if is_alone(form) {
-        let answer = serve(rt, alloc, form, source, sink);
-        return (answer, Kept::without_log(alloc, None));
-    }
     match form {
-        Form::Edit => serve_edit(rt, alloc, gate, source, sink),
-        _ => {
-            let (answer, memo) = serve_by_workers(rt, alloc, gate, form, source, sink);
+        Form::Synth { workers } if workers > 1 => {
+            let (answer, memo) = synth_by_workers(rt, alloc, gate, source, sink, workers);
             (answer, Kept::without_log(alloc, memo))
         }
-    }
-}
-
-/// Does what a form asks for by more than one worker, and gives the table of the memo.
-fn serve_by_workers<R: Threads + Wait + Sync, S: ByteSource, K: ByteSink, G: Gate>(
-    rt: &R,
-    alloc: Global,
-    gate: &G,
-    form: Form,
-    source: &mut S,
-    sink: &mut K,
-) -> (Result<Answer, Stop>, Option<Table>)
-    requires within { IsWithinLimits form }
-    requires many { ¬ IsAlone form }
-    requires no_edit { form ≢ Form.Edit }
-    ensures serves { Serves S.left S.faults K.held K.faults no_log form source.old source.new sink.old sink.new result.0 }
-    ensures words { IsErrOf result.0 Stop.Words → ⊥ }
-    ensures kept { IsSome result.1 ↔ (HasMemo form × TellsOfTree (status_of result.0)) }
-    ensures memo { HoldsMemo no_log form (S.left source.old) result.1 }
-{
-    match form {
-        Form::Synth { workers } => synth_by_workers(rt, alloc, gate, source, sink, workers),
         Form::Job {
             seed,
             sinks,
             workers,
-        } => job_by_workers(rt, alloc, gate, sink, seed, sinks, workers),
-        // These have no workers.
-        Form::Check | Form::Edit | Form::Make { .. } => unreachable!(),
+        } if workers > 1 => {
+            let (answer, memo) = job_by_workers(rt, alloc, gate, sink, seed, sinks, workers);
+            (answer, Kept::without_log(alloc, memo))
+        }
+        Form::Edit => serve_edit(rt, alloc, gate, source, sink),
+        Form::Near => {
+            let answer = serve_near(alloc, source, sink);
+            (answer, Kept::without_log(alloc, None))
+        }
+        Form::Replay => {
+            let answer = serve_replay(alloc, source, sink);
+            (answer, Kept::without_log(alloc, None))
+        }
+        form => {
+            let answer = serve_alone(rt, alloc, form, source, sink);
+            (answer, Kept::without_log(alloc, None))
+        }
     }
 }
 
@@ -226,7 +270,9 @@ fn synth_by_workers<R: Threads + Wait + Sync, S: ByteSource, K: ByteSink, G: Gat
 ) -> (Result<Answer, Stop>, Option<Table>)
     requires some { 1 ≤ workers }
     requires few { workers ≤ 64 }
-    ensures serves { Serves S.left S.faults K.held K.faults no_log (Form.Synth workers) source.old source.new sink.old sink.new result.0 }
+    ensures serves { Serves no_log (Form.Synth workers)
+        (record { tells = S.left; faults = S.faults; before = source.old; after = source.new })
+        (record { tells = K.held; faults = K.faults; before = sink.old; after = sink.new }) result.0 }
     ensures words { IsErrOf result.0 Stop.Words → ⊥ }
     ensures kept { IsSome result.1 ↔ TellsOfTree (status_of result.0) }
     ensures memo { HoldsMemo no_log (Form.Synth workers) (S.left source.old) result.1 }

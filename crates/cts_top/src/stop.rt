@@ -20,6 +20,8 @@ pub enum Answer {
     No,
     /// That there is no tree.
     NoTree,
+    /// That the tree has no trunk with the repeaters that are asked for.
+    NoTrunk,
 }
 
 /// Why a run wrote nothing whole.
@@ -31,6 +33,9 @@ pub enum Stop {
     /// The input is longer than is accepted.
     #[error("the input is too long")]
     TooLong,
+    /// The instance has too many sinks for a nearest-pair topology.
+    #[error("more than 2048 sinks for near")]
+    Many,
     /// The input is no instance: its first line that offends, and the first cause of that line.
     #[error("line {line}: {cause}")]
     Refused { line: u32, cause: Cause },
@@ -102,8 +107,10 @@ pub fn status_of(ending: &Result<Answer, Stop>) -> Status
         Ok(Answer::Text) => Status::Done,
         Ok(Answer::No) => Status::No,
         Ok(Answer::NoTree) => Status::NoTree,
+        Ok(Answer::NoTrunk) => Status::NoTrunk,
         Err(Stop::Words) => Status::Words,
         Err(Stop::TooLong | Stop::Refused { .. }) => Status::Refused,
+        Err(Stop::Many) => Status::Refused,
         Err(Stop::ReadFault) => Status::ReadFault,
         Err(Stop::WriteFault) => Status::WriteFault,
         Err(Stop::NoMemory) => Status::NoMemory,

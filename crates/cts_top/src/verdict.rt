@@ -6,6 +6,7 @@ ghost use Rattle.cts_top.specs.Verdict.{TellsVerdict, answer_of_verdict, rule_wo
 ghost use Rattle.cts_top.specs.Written.{Answers};
 
 use crate::stop::{Answer, Stop, ended};
+use crate::valid::instance_is_valid;
 use cts_check::{Rule, Verdict, check_rest};
 use cts_instance::Instance;
 use cts_io::{ByteSink, SinkBuffer, WriteEnd};
@@ -16,7 +17,7 @@ use std::thread::Threads;
 /// The words for a rule.
 #[tactic(auto, unfolding(crate::specs::Verdict::rule_words))]
 fn put_rule<K: ByteSink>(out: &mut SinkBuffer, sink: &mut K, rule: Rule)
-    ensures { Puts K.held K.faults sink.old out.old sink.new out.new (rule_words rule) }
+    ensures { Puts K.ByteSink (sink.old, out.old) (sink.new, out.new) (rule_words rule) }
 {
     match rule {
         Rule::Sinks => out.put(sink, b"sinks"),
@@ -30,7 +31,7 @@ fn put_rule<K: ByteSink>(out: &mut SinkBuffer, sink: &mut K, rule: Rule)
 
 #[tactic(auto, unfolding(crate::specs::Verdict::verdict_text))]
 fn put_verdict<K: ByteSink>(out: &mut SinkBuffer, sink: &mut K, verdict: Verdict)
-    ensures { Puts K.held K.faults sink.old out.old sink.new out.new (verdict_text verdict) }
+    ensures { Puts K.ByteSink (sink.old, out.old) (sink.new, out.new) (verdict_text verdict) }
 {
     match verdict {
         Verdict::Yes => out.put(sink, b"yes\n"),
@@ -79,7 +80,7 @@ pub fn answer_verdict<R: Threads + Sync, K: ByteSink>(
     requires { from ≤ length input.items }
     ensures { Answers (TellsVerdict instance.now (drop from input.items)) K.held K.faults sink.old sink.new result }
 {
-    let _die = instance.die();
+    instance_is_valid(instance);
     let verdict = check_rest(rt, alloc, instance, input, from)?;
     ended(write_verdict(sink, verdict), kind_of(verdict))
 }

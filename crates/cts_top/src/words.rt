@@ -1,8 +1,9 @@
 //! The words that the program is called with.
 
-ghost use Rattle.std.specs.Prelude.{◌≡◌, ◌↔◌, ◌≤◌, ◌<◌, ◌^◌, ℕ, Some, IsTrue, codes, [], ◌∷◌};
-ghost use Rattle.cts_top.specs.Words.{AreMade, AsksFor, IsAlone, IsForm, IsFormAlone, IsNumber, IsWorkers};
+ghost use Rattle.std.specs.Prelude.{◌≡◌, ◌↔◌, ◌≤◌, ◌<◌, ◌^◌, ℕ, Some, codes, [], ◌∷◌};
+ghost use Rattle.cts_top.specs.Words.{AreMade, AsksFor, IsForm, IsNumber, IsWorkers};
 
+use crate::trunk_words::trunk;
 use cts_num::read_decimal;
 
 /// What the words ask for.
@@ -15,140 +16,115 @@ pub enum Form {
     /// The history that the callers of the scripts after the instance in the input make of its sinks, and
     /// the report of the tree after it.
     Edit,
+    /// The report of the tree over the nearest-pair topology of the instance that the input spells.
+    Near,
+    /// The changes of the instance's sinks that are done at the end of the steps after it in the input, where
+    /// changes are undone and redone, and the report of the tree after them.
+    Replay,
     /// The text of the instance that is made from a seed, with so many sinks.
     Make { seed: u32, sinks: u32 },
     /// The summary of the tree of that instance, made by so many workers.
     Job { seed: u32, sinks: u32, workers: u32 },
+    /// The trunk, with repeaters at the multiples of a step in nm, of the tree of the instance that the
+    /// input spells, and the report of that tree. The repeaters are the library's buffer of this index.
+    Trunk { step: u64, buffer: u16 },
 }
 
-/// What the words ask for: `synth W`, `check`, `edit`, `make SEED N` or `job SEED N W`.
+/// What the words ask for: `synth W`, `check`, `edit`, `make SEED N`, `job SEED N W`, `trunk STEP J`, `near` or `replay`.
 pub fn form_of(words: &[String]) -> Option<Form>
     ensures { (form : Form) → (result ≡ Some form) ↔ IsForm words.now form }
 {
     match words {
-        [name] => check_or_edit(name.as_bytes()),
-        [name, workers] => synth(name.as_bytes(), workers.as_bytes()),
-        [name, seed, sinks] => make(name.as_bytes(), seed.as_bytes(), sinks.as_bytes()),
-        [name, seed, sinks, workers] => job(
+        [name] => one_word(name.as_bytes()),
+        [name, first] => two_words(name.as_bytes(), first.as_bytes()),
+        [name, first, second] => {
+            three_words(name.as_bytes(), first.as_bytes(), second.as_bytes())
+        }
+        [name, first, second, third] => four_words(
             name.as_bytes(),
-            seed.as_bytes(),
-            sinks.as_bytes(),
-            workers.as_bytes(),
+            first.as_bytes(),
+            second.as_bytes(),
+            third.as_bytes(),
         ),
         _ => None,
     }
 }
 
-/// The same, where it is one of the forms without more than one worker or caller.
-pub fn form_alone(words: &[String]) -> Option<Form>
-    ensures { (form : Form) → (result ≡ Some form) ↔ IsFormAlone words.now form }
-{
-    match form_of(words) {
-        Some(form) => alone(form),
-        None => None,
-    }
-}
-
-fn alone(form: Form) -> Option<Form>
-    ensures { (other : Form) → (result ≡ Some other) ↔ ((other ≡ form) × IsAlone other) }
-{
-    if is_alone(form) { Some(form) } else { None }
-}
-
-/// Whether a form is served without more than one worker or caller.
-pub fn is_alone(form: Form) -> bool
-    ensures { IsTrue result ↔ IsAlone form }
-{
-    match form {
-        Form::Synth { workers } | Form::Job { workers, .. } => workers == 1,
-        Form::Check | Form::Make { .. } => true,
-        Form::Edit => false,
-    }
-}
-
-fn check_or_edit(name: &[u8]) -> Option<Form>
+/// The form of one word.
+fn one_word(name: &[u8]) -> Option<Form>
     ensures { (form : Form) → (result ≡ Some form) ↔ AsksFor (name.now ∷ []) form }
 {
-    if name == b"check".as_slice() {
-        Some(Form::Check)
-    } else if name == b"edit".as_slice() {
-        Some(Form::Edit)
-    } else {
-        None
+    match name {
+        b"check" => Some(Form::Check),
+        b"edit" => Some(Form::Edit),
+        b"near" => Some(Form::Near),
+        b"replay" => Some(Form::Replay),
+        _ => None,
     }
 }
 
-fn synth(name: &[u8], workers: &[u8]) -> Option<Form>
-    ensures { (form : Form) → (result ≡ Some form) ↔ AsksFor (name.now ∷ workers.now ∷ []) form }
+/// The form of a name and a word after it.
+fn two_words(name: &[u8], first: &[u8]) -> Option<Form>
+    ensures { (form : Form) → (result ≡ Some form) ↔ AsksFor (name.now ∷ first.now ∷ []) form }
 {
-    if name == b"synth".as_slice() {
-        synth_of(workers)
-    } else {
-        None
+    match name {
+        b"synth" => synth(first),
+        _ => None,
+    }
+}
+
+/// The form of a name and two words after it.
+fn three_words(name: &[u8], first: &[u8], second: &[u8]) -> Option<Form>
+    ensures { (form : Form) → (result ≡ Some form) ↔ AsksFor (name.now ∷ first.now ∷ second.now ∷ []) form }
+{
+    match name {
+        b"make" => make(first, second),
+        b"trunk" => trunk(first, second),
+        _ => None,
+    }
+}
+
+/// The form of a name and three words after it.
+fn four_words(name: &[u8], first: &[u8], second: &[u8], third: &[u8]) -> Option<Form>
+    ensures { (form : Form) → (result ≡ Some form)
+        ↔ AsksFor (name.now ∷ first.now ∷ second.now ∷ third.now ∷ []) form }
+{
+    match name {
+        b"job" => job(first, second, third),
+        _ => None,
     }
 }
 
 /// The synthesis by as many workers as a word says.
-fn synth_of(workers: &[u8]) -> Option<Form>
+fn synth(workers: &[u8]) -> Option<Form>
     ensures { (form : Form) → (result ≡ Some form) ↔ AsksFor (codes "synth" ∷ workers.now ∷ []) form }
 {
-    match workers_of(workers) {
-        Some(workers) => Some(Form::Synth { workers }),
-        None => None,
-    }
-}
-
-fn make(name: &[u8], seed: &[u8], sinks: &[u8]) -> Option<Form>
-    ensures { (form : Form) → (result ≡ Some form) ↔ AsksFor (name.now ∷ seed.now ∷ sinks.now ∷ []) form }
-{
-    if name == b"make".as_slice() {
-        make_of(seed, sinks)
-    } else {
-        None
-    }
+    let workers = workers_of(workers)?;
+    Some(Form::Synth { workers })
 }
 
 /// The instance of two words.
-fn make_of(seed: &[u8], sinks: &[u8]) -> Option<Form>
+fn make(seed: &[u8], sinks: &[u8]) -> Option<Form>
     ensures { (form : Form) → (result ≡ Some form) ↔ AsksFor (codes "make" ∷ seed.now ∷ sinks.now ∷ []) form }
 {
-    match made(seed, sinks) {
-        Some((seed, sinks)) => Some(Form::Make { seed, sinks }),
-        None => None,
-    }
-}
-
-fn job(name: &[u8], seed: &[u8], sinks: &[u8], workers: &[u8]) -> Option<Form>
-    ensures { (form : Form) → (result ≡ Some form)
-        ↔ AsksFor (name.now ∷ seed.now ∷ sinks.now ∷ workers.now ∷ []) form }
-{
-    if name == b"job".as_slice() {
-        job_of(seed, sinks, workers)
-    } else {
-        None
-    }
+    let (seed, sinks) = made(seed, sinks)?;
+    Some(Form::Make { seed, sinks })
 }
 
 /// The job of three words.
-fn job_of(seed: &[u8], sinks: &[u8], workers: &[u8]) -> Option<Form>
+fn job(seed: &[u8], sinks: &[u8], workers: &[u8]) -> Option<Form>
     ensures { (form : Form) → (result ≡ Some form)
         ↔ AsksFor (codes "job" ∷ seed.now ∷ sinks.now ∷ workers.now ∷ []) form }
 {
-    match workers_of(workers) {
-        Some(workers) => match made(seed, sinks) {
-            Some((seed, sinks)) => Some(Form::Job {
-                seed,
-                sinks,
-                workers,
-            }),
-            None => None,
-        },
-        None => None,
-    }
+    let ((seed, sinks), workers) = made(seed, sinks).zip(workers_of(workers))?;
+    Some(Form::Job {
+        seed,
+        sinks,
+        workers,
+    })
 }
 
 /// A seed and a number of sinks, each within its limits.
-#[tactic(auto, using(crate::proofs::Forms::made_zip))]
 fn made(seed: &[u8], sinks: &[u8]) -> Option<(u32, u32)>
     ensures { (s n : ℕ) → (result ≡ Some (s, n)) ↔ AreMade seed.now sinks.now s n }
 {

@@ -11,6 +11,7 @@ ghost use Rattle.cts_memo.specs.Tables.{base_of, told_by};
 ghost use Rattle.cts_top.specs.Memos.{IsKept, IsMemoOf};
 ghost use Rattle.cts_top.specs.Synthesised.{IsSynthesised};
 
+use crate::valid::instance_is_valid;
 use cts_elmore::Figures;
 use cts_instance::Instance;
 use cts_memo::{Memo, Table};
@@ -83,8 +84,7 @@ fn finish_plan(
     ensures synthesised { IsSynthesised instance.now result }
     ensures no_memory { IsErrOf plan UpEnd.NoMemory → IsErrOf result NoTree.NoMemory }
 {
-    // A read call says that the instance is valid, which the limits of what is printed rest on.
-    let _die = instance.die();
+    instance_is_valid(instance);
     let plan = plan?;
     finish(alloc, instance, shape, &plan)
 }
@@ -117,7 +117,7 @@ fn synthesise_over<R: Threads + Wait + Sync, G: Gate>(
     ensures kept { IsKept result.0 result.1 }
     ensures memo { IfSome result.1 (IsMemoOf instance.now) }
 {
-    let _die = instance.die();
+    instance_is_valid(instance);
     match plan_by_workers(rt, alloc, gate, instance, shape, workers) {
         Ok((plan, table)) => {
             let synthesis = finish_plan(alloc, instance, shape, plan);

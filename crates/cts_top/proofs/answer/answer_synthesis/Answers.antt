@@ -1,15 +1,19 @@
+use Rattle.cts_top.specs.Synthesised.{ComesOver, IsSynthesisedBy}
+use Rattle.std.proofs.Common.{subst}
 use Rattle.cts_top.specs.Text.{told_by}
 use Rattle.cts_top.proofs.Synthesising.{tree_of}
 use Rattle.cts_top.proofs.Writing.{answers_by}
 use Rattle.cts_top.proofs.answer.answer_synthesis.Goals as goal
 
 pub returns-in-Ok-clause-answers : goal.returns-in-Ok-clause-answers
-returns-in-Ok-clause-answers g c =
+returns-in-Ok-clause-answers g c = λ topology is.
     rw c.ended.ensures
     (answers_by _ _ _ _ _ _ _ c.write_tree-written.result
-    (tree_of (told_by c.args.telling) c.args.instance.now c.args.synthesis c.in-Ok.tree c.in-Ok.figures c.die-die.ensures.valid c.in-Ok.is
-    c.requires)
+    (tree_of (ComesOver topology c.args.instance.now) (told_by c.args.telling) c.args.instance.now c.args.synthesis c.in-Ok.tree c.in-Ok.figures c.instance_is_valid.ensures c.in-Ok.is
+    is)
     c.write_tree-written.ensures)
 
 pub returns-in-Err-clause-answers : goal.returns-in-Err-clause-answers
-returns-in-Err-clause-answers g c = c.answer_no_tree.ensures.answers (told_by c.args.telling)
+returns-in-Err-clause-answers g c = λ topology is.
+    c.answer_no_tree.ensures.answers topology (told_by c.args.telling)
+    (subst (IsSynthesisedBy (ComesOver topology c.args.instance.now) c.args.instance.now) c.in-Err.is is).ends

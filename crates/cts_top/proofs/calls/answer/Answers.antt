@@ -1,4 +1,4 @@
-use Rattle.std.proofs.Common.{◌≡◌, ◌↔◌, Some, subst}
+use Rattle.std.proofs.Common.{◌≡◌, ◌↔◌, Some, None, refl, subst}
 use Rattle.cts_top.specs.declared.words.Form.{Form}
 use Rattle.cts_top.specs.Words.{IsForm}
 use Rattle.cts_top.proofs.Forms.{asked_within}
@@ -11,14 +11,14 @@ serve_by_threads-requires-clause-within g c = λ κs ls. asked_within _ c.in-Som
 
 pub returns-in-Some-clause-answers : goal.returns-in-Some-clause-answers
 returns-in-Some-clause-answers g c =
-    answers_form _ _ _ _ (IsForm c.args.words.now) _ _ _ _ _ c.in-Some.form c.serve_by_threads.result.0
+    answers_form (IsForm c.args.words.now) _ _ _ c.in-Some.form c.serve_by_threads.result.0
     (subst (λ r. (form : Form) → (r ≡ Some form) ↔ IsForm c.args.words.now form) c.in-Some.is c.form_of.ensures)
     c.serve_by_threads.ensures.serves c.serve_by_threads.ensures.words
 
 pub returns-in-None-clause-answers : goal.returns-in-None-clause-answers
 returns-in-None-clause-answers g c =
-    answers_none _ _ _ _ (IsForm c.args.words.now) _ _ _
-    (subst (λ r. (form : Form) → (r ≡ Some form) ↔ IsForm c.args.words.now form) c.in-None.is c.form_of.ensures)
+    answers_none (IsForm c.args.words.now) _ _ _ _ refl refl refl
+    (λ form asks. let e : None ≡ Some form = subst (λ r. r ≡ Some form) c.in-None.is ((c.form_of.ensures form).1 asks) in cc)
 
 pub returns-in-Some-clause-log : goal.returns-in-Some-clause-log
 returns-in-Some-clause-log g c =

@@ -5,7 +5,7 @@ use Rattle.cts_top.proofs.calls.run.Goals as goal
 pub returns-clause-runs : goal.returns-clause-runs
 returns-clause-runs g c =
     rw (c.outcome.ensures.status, c.outcome.ensures.history, c.outcome.ensures.replies, c.status_of.ensures)
-    (runs _ _ _ _ (IsForm c.args.words.now) _ _ _ _ _ _ _ _ _ c.answer-ending.result.0 c.write_note.result
+    (runs (IsForm c.args.words.now) _ _ _ _ c.answer-ending.result.0 c.write_note.result
     c.answer-ending.ensures.answers c.write_note.ensures)
 
 pub returns-clause-memo_kept : goal.returns-clause-memo_kept

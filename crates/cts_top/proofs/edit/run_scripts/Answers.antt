@@ -31,7 +31,7 @@ returns-clause-told g c = c.in_ok-instance.ensures.is_synthesis.told
 
 pub returns-clause-printable : goal.returns-clause-printable
 returns-clause-printable g c =
-    runs_can_be_printed_lem c.args.instance c.args.scripts.now c.in_ok-instance.field-0 c.die-die.ensures.valid c.in_ok-instance.ensures
+    runs_can_be_printed_lem c.args.instance c.args.scripts.now c.in_ok-instance.field-0 c.instance_is_valid.ensures c.in_ok-instance.ensures
 
 pub returns-clause-synthesised : goal.returns-clause-synthesised
 returns-clause-synthesised g c =

@@ -9,7 +9,7 @@ use Rattle.cts_top.proofs.edit.serve_edit.Goals as goal
 pub returns-in-Ok-clause-serves : goal.returns-in-Ok-clause-serves
 returns-in-Ok-clause-serves g c =
     let log = log_of c.answer_callers.result.1.history c.answer_callers.result.1.replies in
-    serves_edit _ _ _ _ log _ _ _ _ c.answer_callers.result.0 c.in-Ok.instance c.in-Ok.scripts.items c.in-Ok.ensures.end
+    serves_edit _ _ c.answer_callers.result.0 log c.in-Ok.instance c.in-Ok.scripts.items c.in-Ok.ensures.end
     c.in-Ok.ensures.spells c.in-Ok.ensures.counted
     (subst (λ scripts. Answers (TellsCallers c.in-Ok.instance scripts log) g.K.ByteSink.held g.K.ByteSink.faults c.args.sink.now c.answer_callers.new.sink c.answer_callers.result.0)
     c.deref.ensures.value c.answer_callers.ensures.answers)

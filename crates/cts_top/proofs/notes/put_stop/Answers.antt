@@ -9,6 +9,10 @@ pub returns-in-TooLong : goal.returns-in-TooLong
 unfolding stop_note
 returns-in-TooLong g c = rw c.in-TooLong.is c.put-in-TooLong.ensures
 
+pub returns-in-Many : goal.returns-in-Many
+unfolding stop_note
+returns-in-Many g c = rw c.in-Many.is c.put-in-Many.ensures
+
 pub returns-in-Refused : goal.returns-in-Refused
 unfolding stop_note
 returns-in-Refused g c = rw c.in-Refused.is c.put_refusal.ensures

@@ -1,17 +1,19 @@
-use Rattle.std.proofs.Common.{◌≤◌, arith}
+use Rattle.std.proofs.Common.{refl}
 use Rattle.std.proofs.lemmas.Result.{err_from_is_err_and}
 use Rattle.cts_instance.specs.declared.parts.Parts.{Parts}
 use Rattle.cts_top.specs.declared.stop.Stop.TheVariants as stop
-use Rattle.cts_top.proofs.Serving.{answers_no_words, not_stopped, serves_synth, stops_synth}
+use Rattle.cts_top.specs.declared.words.Form.TheVariants.{Synth}
+use Rattle.cts_top.specs.Log.{no_log}
+use Rattle.cts_top.proofs.Serving.{answers_no_words, not_stopped, serves_synth, stops}
 use Rattle.cts_top.proofs.serve.serve_synth.Goals as goal
 
 pub returns-in_err-instance-clause-serves : goal.returns-in_err-instance-clause-serves
 returns-in_err-instance-clause-serves g c = λ workers.
     let p = err_from_is_err_and c.from_residual.result c.from_residual.ensures.1 in
-    let same : g.K.ByteSink.faults c.args.sink.now ≤ g.K.ByteSink.faults c.args.sink.now = omega arith in
     rw (p.1, p.2)
-    (stops_synth _ _ _ _ _ _ _ c.in_err-instance.field-0.0 workers c.in_err-instance.ensures.explained c.in_err-instance.ensures.read_fault
-    c.in_err-instance.ensures.write_fault c.in_err-instance.ensures.counted same)
+    (stops no_log (Synth workers) _ _ Parts c.in_err-instance.field-0.0 tt tt c.in_err-instance.ensures.explained
+    (λ e. absurd (c.in_err-instance.ensures.many e))
+    c.in_err-instance.ensures.read_fault c.in_err-instance.ensures.write_fault c.in_err-instance.ensures.counted refl)
 
 pub returns-in_err-instance-clause-words : goal.returns-in_err-instance-clause-words
 returns-in_err-instance-clause-words g c =
@@ -20,7 +22,7 @@ returns-in_err-instance-clause-words g c =
 
 pub returns-clause-serves : goal.returns-clause-serves
 returns-clause-serves g c = λ workers.
-    serves_synth _ _ _ _ _ _ _ _ c.answer_instance.result workers _ c.in_ok-instance.ensures.end c.in_ok-instance.ensures.spells
+    serves_synth _ _ c.answer_instance.result workers _ c.in_ok-instance.ensures.end c.in_ok-instance.ensures.spells
     c.in_ok-instance.ensures.counted c.answer_instance.ensures
 
 pub returns-clause-words : goal.returns-clause-words

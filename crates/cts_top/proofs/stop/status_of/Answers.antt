@@ -9,3 +9,6 @@ returns-in-Ok-No c = let told = rw c.in-Ok-No.is at c.in-Ok-No.field-0-is in rw 
 
 pub returns-in-Ok-NoTree : goal.returns-in-Ok-NoTree
 returns-in-Ok-NoTree c = let told = rw c.in-Ok-NoTree.is at c.in-Ok-NoTree.field-0-is in rw (c.in-Ok-NoTree.is, told) refl
+
+pub returns-in-Ok-NoTrunk : goal.returns-in-Ok-NoTrunk
+returns-in-Ok-NoTrunk c = let told = rw c.in-Ok-NoTrunk.is at c.in-Ok-NoTrunk.field-0-is in rw (c.in-Ok-NoTrunk.is, told) refl

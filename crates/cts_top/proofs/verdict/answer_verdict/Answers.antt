@@ -9,7 +9,7 @@ returns g c =
     (answers_by (TellsVerdict c.args.instance.now (drop c.args.from c.args.input.items)) _ _ _ _ c.kind_of.result
     (verdict_text c.in_ok-verdict.verdict) c.write_verdict.result
     (record {
-      valid = c.die-die.ensures.valid;
+      valid = c.instance_is_valid.ensures;
       verdict = c.in_ok-verdict.verdict;
       is_verdict = c.in_ok-verdict.ensures;
       kind_is = c.kind_of.ensures;

@@ -24,3 +24,6 @@ returns-in-WriteFault c = rw c.in-WriteFault.is refl
 
 pub returns-in-NoMemory : goal.returns-in-NoMemory
 returns-in-NoMemory c = rw c.in-NoMemory.is refl
+
+pub returns-in-NoTrunk : goal.returns-in-NoTrunk
+returns-in-NoTrunk c = rw c.in-NoTrunk.is refl
