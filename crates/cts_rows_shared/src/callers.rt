@@ -6,6 +6,7 @@ ghost use Rattle.cts_session.specs.Desks.{AreDivisible, AreHandsOf};
 
 use crate::compare::same;
 use crate::drawing::{draw, split};
+use crate::gates::Meeting;
 use cts_callers::{Reply, Run, run_callers};
 use cts_design::{EditCause, EditReply};
 use cts_elmore::Figures;
@@ -22,30 +23,6 @@ use std::sync::Wait;
 use std::sync::atomic::{AtomicU64, Ordering};
 use std::test::Fail;
 use std::thread::{Threads, join, yield_now};
-
-/// How often a gate looks before it lets a caller go.
-const LIMIT: u32 = 100_000_000;
-
-/// A gate that lets the callers 1 and 2 go once both have entered.
-#[derive(Drop)]
-struct Meeting {
-    entered: AtomicU64,
-    late: AtomicU64,
-}
-
-impl Gate for Meeting {
-    fn piece(&self, _number: u32) {
-        self.entered.fetch_add(1, Ordering::SeqCst);
-        for _ in 0..LIMIT {
-            if self.entered.load(Ordering::SeqCst) == 2 {
-                return;
-            }
-        }
-        self.late.fetch_add(1, Ordering::SeqCst);
-    }
-
-    fn between(&self, _number: u32) {}
-}
 
 /// The text, where every reader takes as many bytes.
 fn short(text: &[u8]) -> &[u8]
@@ -94,10 +71,7 @@ fn told<R: Threads + Wait + Sync, G: Gate>(
 
 #[test]
 fn one_of_two_callers_adds_the_sink_that_both_add(rt: HostRuntime) -> Result<(), Fail> {
-    let gate = Meeting {
-        entered: AtomicU64::new(0),
-        late: AtomicU64::new(0),
-    };
+    let gate = Meeting::of(1, 2);
     let text = b"callers 2\n1 add 9 10 0 5\n2 add 9 10 0 5\nend\n";
     let (told, replies) = told(&rt, rt.alloc(), &gate, text)?;
     let accepted = Some(EditReply::Accepted { version: 1 });
@@ -109,7 +83,20 @@ fn one_of_two_callers_adds_the_sink_that_both_add(rt: HostRuntime) -> Result<(),
     assert!(rt; is_one, "{replies:?}");
     let tree = Some((15_500, 294_500_000_000_000));
     same(&rt, "one edit, two sinks", told, (1, 2, tree));
-    same(&rt, "none late", gate.late.load(Ordering::SeqCst), 0);
+    same(&rt, "both began, none late", gate.counted(), (0b110, 0, 0));
+    // Two leaves and their pair, of the tree after all edits.
+    same(&rt, "made with the number 0", gate.made(), 3);
+    Ok(())
+}
+
+#[test]
+fn callers_begin_before_their_first_draws(rt: HostRuntime) -> Result<(), Fail> {
+    let gate = Meeting::of(1, 2);
+    let text = b"callers 2\n1 tree\n2 tree\nend\n";
+    let (told, _) = told(&rt, rt.alloc(), &gate, text)?;
+    let tree = Some((7_000, 119_000_000_000_000));
+    same(&rt, "no edit, one sink", told, (0, 1, tree));
+    same(&rt, "nothing made before", gate.counted(), (0b110, 0, 0));
     Ok(())
 }
 

@@ -15,6 +15,8 @@ mod designs;
 #[cfg(test)]
 mod drawing;
 #[cfg(test)]
+mod gates;
+#[cfg(test)]
 mod instances;
 #[cfg(test)]
 mod leaves;

@@ -1,4 +1,4 @@
-//! Sinks on a line, built by many workers, with gates that count pieces and hold them up.
+//! Trees built by many workers, with gates that count pieces and hold them up.
 
 ghost use Rattle.std.specs.Prelude.{◌≡◌, ◌<◌, ◌≤◌, length, IfOk};
 ghost use Rattle.cts_topo.specs.Shape.{IsShapeOver};
@@ -7,10 +7,12 @@ ghost use Rattle.cts_units.specs.Limits.{IsParams};
 ghost use Rattle.cts_up.specs.Sinks.{AreSinksInRange, IsSinkInRange};
 
 use crate::compare::same;
+use crate::gates::{Meeting, bit};
 use crate::instances::sink;
 use crate::leaves::{closed, params};
 use cts_memo::Memo;
 use cts_merge::{Finished, Steps};
+use cts_script::make_instance;
 use cts_topo::{Shape, topology};
 use cts_turn::Object;
 use cts_units::{Params, Sink};
@@ -25,14 +27,13 @@ use std::sync::ledger::{Blank, Ledger};
 use std::test::Fail;
 use std::thread::Threads;
 
-/// How often a gate looks before it lets a piece go.
-const LIMIT: u32 = 100_000_000;
-
-/// A gate that counts the pieces, and keeps which of the numbers below 64 they had.
+/// A gate that counts the pieces, and keeps which of the numbers below 64 they had, and how many pairs above them
+/// were made with each number below 16.
 #[derive(Drop)]
 struct Pieces {
     count: AtomicU64,
     numbers: AtomicU64,
+    above: AtomicU64,
 }
 
 impl Pieces {
@@ -40,63 +41,29 @@ impl Pieces {
         Pieces {
             count: AtomicU64::new(0),
             numbers: AtomicU64::new(0),
+            above: AtomicU64::new(0),
         }
     }
 
-    /// How many pieces came, and a bit for each number.
-    fn counted(&self) -> (u64, u64) {
+    /// How many pieces came, a bit for each number, and how many pairs above them had each number, in 4 bits each,
+    /// the least number last.
+    fn counted(&self) -> (u64, u64, u64) {
         let count = self.count.load(Ordering::SeqCst);
-        (count, self.numbers.load(Ordering::SeqCst))
+        let numbers = self.numbers.load(Ordering::SeqCst);
+        (count, numbers, self.above.load(Ordering::SeqCst))
     }
 }
 
 impl Gate for Pieces {
     fn piece(&self, number: u32) {
         self.count.fetch_add(1, Ordering::SeqCst);
-        self.numbers
-            .fetch_or(1u64 << (number % 64), Ordering::SeqCst);
+        self.numbers.fetch_or(bit(number), Ordering::SeqCst);
     }
 
-    fn between(&self, _number: u32) {}
-}
-
-/// A gate that lets the pieces 0 and 1 go once both have entered.
-#[derive(Drop)]
-struct Meeting {
-    entered: AtomicU64,
-    late: AtomicU64,
-}
-
-impl Meeting {
-    fn new() -> Meeting {
-        Meeting {
-            entered: AtomicU64::new(0),
-            late: AtomicU64::new(0),
-        }
+    fn between(&self, number: u32) {
+        self.above
+            .fetch_add(1u64 << (4 * (number % 16)), Ordering::SeqCst);
     }
-
-    /// How many pieces entered, and how many did not meet another.
-    fn counted(&self) -> (u64, u64) {
-        let entered = self.entered.load(Ordering::SeqCst);
-        (entered, self.late.load(Ordering::SeqCst))
-    }
-}
-
-impl Gate for Meeting {
-    fn piece(&self, number: u32) {
-        if number > 1 {
-            return;
-        }
-        self.entered.fetch_add(1, Ordering::SeqCst);
-        for _ in 0..LIMIT {
-            if self.entered.load(Ordering::SeqCst) == 2 {
-                return;
-            }
-        }
-        self.late.fetch_add(1, Ordering::SeqCst);
-    }
-
-    fn between(&self, _number: u32) {}
 }
 
 /// A gate that lets a piece go once the next one has entered, as long as there is a next one.
@@ -211,8 +178,41 @@ fn make<R: Threads + Wait + Abort + Sync, G: Gate>(
     Ok(are_published && are_same(&plan?, expected))
 }
 
-/// Whether workers make the plan that one thread makes, of so many sinks on a line, and publish each node.
-fn agree<R: Threads + Wait + Abort + Sync, G: Gate>(
+/// The wires to both parts of a root in nm, its greatest doubled delay in 10^-27 s and its load in zF.
+type Root = ((u64, u64), u128, u64);
+
+/// The root of a plan.
+fn root_of(plan: &[Finished]) -> Option<Root> {
+    let root = plan.last()?;
+    Some(((root.ea, root.eb), root.side.greatest, root.side.load))
+}
+
+/// The root of the plan of these sinks, where workers make the plan that one thread makes, and publish each node.
+fn agreed<R: Threads + Wait + Abort + Sync, G: Gate>(
+    rt: &R,
+    alloc: Global,
+    gate: &G,
+    params: &Params,
+    sinks: &[Sink],
+    workers: u32,
+) -> Result<Option<Root>, Fail>
+    requires one { 1 ≤ workers }
+    requires most { workers ≤ 64 }
+    requires params { IsParams params.now }
+    requires sinks { AreSinks sinks.now }
+    requires range { AreSinksInRange sinks.now }
+{
+    let shape = topology(alloc, sinks)?;
+    let alone = plan_alone(alloc, params, sinks, &shape)?;
+    if make(rt, alloc, gate, params, sinks, &shape, workers, &alone)? {
+        Ok(root_of(&alone))
+    } else {
+        Ok(None)
+    }
+}
+
+/// Whether workers make the plan of so many sinks on a line.
+fn agree_on_line<R: Threads + Wait + Abort + Sync, G: Gate>(
     rt: &R,
     alloc: Global,
     gate: &G,
@@ -226,35 +226,71 @@ fn agree<R: Threads + Wait + Abort + Sync, G: Gate>(
 {
     let params = params(alloc);
     let sinks = line(alloc, count)?;
-    let shape = topology(alloc, &sinks)?;
-    let alone = plan_alone(alloc, &params, &sinks, &shape)?;
-    make(rt, alloc, gate, &params, &sinks, &shape, workers, &alone)
+    Ok(agreed(rt, alloc, gate, &params, &sinks, workers)?.is_some())
+}
+
+/// Whether workers make the plan of the instance of seed 14 with 64 sinks.
+fn agree_on_made<R: Threads + Wait + Abort + Sync, G: Gate>(
+    rt: &R,
+    alloc: Global,
+    gate: &G,
+    workers: u32,
+) -> Result<bool, Fail>
+    requires one { 1 ≤ workers }
+    requires most { workers ≤ 64 }
+{
+    let made = make_instance(alloc, 14, 64)?;
+    Ok(agreed(rt, alloc, gate, made.params(), made.sinks(), workers)?.is_some())
+}
+
+/// The root above a sink at 0 nm with 5 zF and one at 10 nm with 10 zF, which two workers build.
+fn root_of_two<R: Threads + Wait + Abort + Sync>(
+    rt: &R,
+    alloc: Global,
+    gate: &Meeting,
+) -> Result<Option<Root>, Fail> {
+    let params = params(alloc);
+    let sinks = [sink(1, 0, 0, 5), sink(2, 10, 0, 10)];
+    agreed(rt, alloc, gate, &params, &sinks, 2)
+}
+
+#[test]
+fn two_workers_build_a_leaf_each(rt: HostRuntime) -> Result<(), Fail> {
+    let gate = Meeting::of(0, 1);
+    let root = root_of_two(&rt, rt.alloc(), &gate)?;
+    // 6 nm to the left sink and 4 nm to the right one, with 96 on both sides.
+    same(&rt, "the root", root, Some(((6, 4), 96, 25)));
+    same(&rt, "both came, none late", gate.counted(), (0b11, 0, 0));
+    same(&rt, "the pair above piece 0", gate.made(), 1);
+    Ok(())
 }
 
 #[test]
 fn two_workers_build_eight_pieces_of_two_sinks(rt: HostRuntime) -> Result<(), Fail> {
     let gate = Pieces::new();
-    let agree = agree(&rt, rt.alloc(), &gate, 16, 2)?;
+    let agree = agree_on_line(&rt, rt.alloc(), &gate, 16, 2)?;
     same(&rt, "the same plan", agree, true);
-    same(&rt, "eight pieces", gate.counted(), (8, 0xff));
+    // Pairs of two pieces begin at 0, 2, 4 and 6, those of four at 0 and 4, and the root at 0.
+    same(&rt, "eight pieces", gate.counted(), (8, 0xff, 0x0102_0103));
     Ok(())
 }
 
 #[test]
 fn sixty_four_workers_build_each_leaf(rt: HostRuntime) -> Result<(), Fail> {
     let gate = Pieces::new();
-    let agree = agree(&rt, rt.alloc(), &gate, 16, 64)?;
+    let agree = agree_on_line(&rt, rt.alloc(), &gate, 16, 64)?;
     same(&rt, "the same plan", agree, true);
-    same(&rt, "sixteen pieces", gate.counted(), (16, 0xffff));
+    let pieces = (16, 0xffff, 0x0102_0103_0102_0104);
+    same(&rt, "sixteen pieces", gate.counted(), pieces);
     Ok(())
 }
 
 #[test]
 fn two_workers_meet(rt: HostRuntime) -> Result<(), Fail> {
-    let gate = Meeting::new();
-    let agree = agree(&rt, rt.alloc(), &gate, 64, 2)?;
+    let gate = Meeting::of(0, 1);
+    let agree = agree_on_made(&rt, rt.alloc(), &gate, 2)?;
     same(&rt, "the same plan", agree, true);
-    same(&rt, "both came, none late", gate.counted(), (2, 0));
+    same(&rt, "eight came, none late", gate.counted(), (0xff, 0, 0));
     Ok(())
 }
 
@@ -264,7 +300,7 @@ fn pieces_may_be_held_up_in_any_order(rt: HostRuntime) -> Result<(), Fail> {
         last: 15,
         entered: AtomicU64::new(0),
     };
-    let agree = agree(&rt, rt.alloc(), &gate, 64, 4)?;
+    let agree = agree_on_made(&rt, rt.alloc(), &gate, 4)?;
     same(&rt, "the same plan", agree, true);
     Ok(())
 }
@@ -272,7 +308,7 @@ fn pieces_may_be_held_up_in_any_order(rt: HostRuntime) -> Result<(), Fail> {
 #[test]
 fn every_count_of_workers_makes_the_same_plan(rt: HostRuntime) -> Result<(), Fail> {
     for workers in 1..65u32 {
-        let agree = agree(&rt, rt.alloc(), &OpenGate, 100, workers)?;
+        let agree = agree_on_line(&rt, rt.alloc(), &OpenGate, 100, workers)?;
         assert!(rt; agree, "with {workers} workers");
     }
     Ok(())

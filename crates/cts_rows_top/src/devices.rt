@@ -223,7 +223,7 @@ fn reads_and_writes_the_host(rt: HostRuntime) -> Result<(), Fail> {
 }
 
 fn put_line<K: ByteSink>(out: &mut SinkBuffer, sink: &mut K, name: &[u8], value: &[u8])
-    ensures { Puts K.held K.faults sink.old out.old sink.new out.new
+    ensures { Puts K.ByteSink (sink.old, out.old) (sink.new, out.new)
         (name.now ++ codes " " ++ value.now ++ codes "\n") }
 {
     out.put(sink, name);

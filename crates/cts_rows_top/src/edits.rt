@@ -4,7 +4,7 @@
 
 use crate::runs::{Completed, ends, ran, text_of};
 use cts_top::Status;
-use cts_work::{Gate, OpenGate};
+use cts_work::Gate;
 use std::process::Abort;
 use std::sync::Wait;
 use std::sync::atomic::{AtomicU64, Ordering};
@@ -26,11 +26,15 @@ const ONE_SINK: &[u8] =
 /// caller 1 had to make.
 #[derive(Drop)]
 struct Meeting {
+    /// A bit for each caller.
     begun: AtomicU64,
     /// The callers that reached the limit.
     alone: AtomicU64,
     made: AtomicU64,
 }
+
+/// The callers 1 and 2.
+const BOTH: u64 = 0b110;
 
 impl Meeting {
     fn new() -> Meeting {
@@ -43,10 +47,10 @@ impl Meeting {
 }
 
 impl Gate for Meeting {
-    fn piece(&self, _number: u32) {
-        self.begun.fetch_add(1, Ordering::SeqCst);
+    fn piece(&self, number: u32) {
+        self.begun.fetch_or(1u64 << (number % 64), Ordering::SeqCst);
         for _ in 0..TURNS {
-            if self.begun.load(Ordering::SeqCst) == 2 {
+            if self.begun.load(Ordering::SeqCst) == BOTH {
                 return;
             }
         }
@@ -60,7 +64,7 @@ impl Gate for Meeting {
     }
 }
 
-/// Compares how many callers have begun, how many reached the limit, and how many subtrees caller 1 made.
+/// Compares which callers have begun, how many reached the limit, and how many subtrees caller 1 made.
 fn compare_gate(rt: &impl Abort, gate: &Meeting, counts: (u64, u64, u64)) {
     let begun = gate.begun.load(Ordering::SeqCst);
     let alone = gate.alone.load(Ordering::SeqCst);
@@ -118,7 +122,7 @@ fn two_callers_begin_and_one_draws(rt: HostRuntime) -> Result<(), Fail> {
     let end = (ran.outcome.status, ran.outcome.memo.is_some());
     ends(&rt, end, (Status::Done, true));
     // Two sinks and their pair, in the first draw; the second one makes nothing.
-    compare_gate(&rt, &gate, (2, 0, 3));
+    compare_gate(&rt, &gate, (BOTH, 0, 3));
     compare_lengths(&rt, &ran, (1, 2));
     let last = text_of(&rt, "synth 1", EDITED)?;
     tells_before_or_after(&rt, ran.output.bytes(), last.bytes());
@@ -151,7 +155,8 @@ fn one_of_two_callers_adds_a_sink(rt: HostRuntime) -> Result<(), Fail> {
     let ran = edit(&rt, &gate, ONE_SINK, scripts)?;
     let end = (ran.outcome.status, ran.outcome.memo.is_some());
     ends(&rt, end, (Status::Done, true));
-    assert_eq!(rt; gate.alone.load(Ordering::SeqCst), 0);
+    // The tree is drawn after all edits, by no caller.
+    compare_gate(&rt, &gate, (BOTH, 0, 0));
     compare_lengths(&rt, &ran, (1, 2));
     tells_one_of_two(&rt, ran.output.bytes());
     Ok(())
@@ -159,10 +164,12 @@ fn one_of_two_callers_adds_a_sink(rt: HostRuntime) -> Result<(), Fail> {
 
 #[test]
 fn the_scripts_are_refused_before_a_caller_begins(rt: HostRuntime) -> Result<(), Fail> {
+    let gate = Meeting::new();
     let scripts = b"callers 2\n1 tree\n3 tree\nend\n";
-    let ran = edit(&rt, &OpenGate, ONE_SINK, scripts)?;
+    let ran = edit(&rt, &gate, ONE_SINK, scripts)?;
     let end = (ran.outcome.status, ran.outcome.memo.is_some());
     ends(&rt, end, (Status::Refused, false));
+    compare_gate(&rt, &gate, (0, 0, 0));
     assert!(rt; ran.output.bytes().is_empty());
     compare_lengths(&rt, &ran, (0, 0));
     Ok(())

@@ -13,6 +13,7 @@ const TURNS: u32 = 100_000_000;
 /// A gate that holds pieces 0 and 1 until both have been begun, or until the limit of turns.
 #[derive(Drop)]
 struct Meeting {
+    /// A bit for each piece.
     begun: AtomicU64,
     /// The pieces that reached the limit.
     alone: AtomicU64,
@@ -23,9 +24,9 @@ impl Gate for Meeting {
         if number > 1 {
             return;
         }
-        self.begun.fetch_add(1, Ordering::SeqCst);
+        self.begun.fetch_or(1u64 << number, Ordering::SeqCst);
         for _ in 0..TURNS {
-            if self.begun.load(Ordering::SeqCst) == 2 {
+            if self.begun.load(Ordering::SeqCst) == 0b11 {
                 return;
             }
         }
@@ -35,7 +36,7 @@ impl Gate for Meeting {
     fn between(&self, _number: u32) {}
 }
 
-/// Compares how many pieces have been begun, and how many reached the limit.
+/// Compares which of the two pieces have been begun, and how many reached the limit.
 fn compare_gate(rt: &impl Abort, gate: &Meeting, counts: (u64, u64)) {
     let begun = gate.begun.load(Ordering::SeqCst);
     let alone = gate.alone.load(Ordering::SeqCst);
@@ -58,7 +59,7 @@ fn two_workers_begin_two_pieces(rt: HostRuntime) -> Result<(), Fail> {
     let beside = ran(&rt, &gate, "synth 2", made.bytes())?;
     let end = (beside.outcome.status, beside.outcome.memo.is_some());
     ends(&rt, end, (Status::Done, true));
-    compare_gate(&rt, &gate, (2, 0));
+    compare_gate(&rt, &gate, (0b11, 0));
     let notes = beside.notes.bytes().len();
     writes(&rt, beside.output.bytes(), notes, alone.bytes());
     Ok(())

@@ -4,6 +4,6 @@ use Rattle.cts_rows.proofs.free_places.lies_in.Goals as goal
 
 pub returns : goal.returns
 returns c = λ _. record {
-  from = record { left = omega (arith, ints); right = omega (arith, ints); bottom = omega (arith, ints); top = omega (arith, ints) };
-  to = record { left = omega (arith, ints); right = omega (arith, ints); bottom = omega (arith, ints); top = omega (arith, ints) };
+  from = record { west = omega (arith, ints); east = omega (arith, ints); south = omega (arith, ints); north = omega (arith, ints) };
+  to = record { west = omega (arith, ints); east = omega (arith, ints); south = omega (arith, ints); north = omega (arith, ints) };
 }

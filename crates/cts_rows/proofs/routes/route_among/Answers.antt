@@ -1,5 +1,6 @@
 use Rattle.std.proofs.Common.{sym, subst}
-use Rattle.cts_route.specs.Limits.{AreBlocksInRange, IsDieInRange}
+use Rattle.cts_block.specs.NearestFree.{IsDieInRange}
+use Rattle.cts_route.specs.Limits.{AreBlocksInRange}
 use Rattle.cts_embed.proofs.Grounds.{blocks_in_range, die_in_range}
 use Rattle.cts_rows.proofs.routes.route_among.Goals as goal
 

@@ -1,5 +1,5 @@
 use Rattle.std.proofs.Common.{All, List, [], ◌∷◌}
-use Rattle.cts_design.specs.declared.edit.Entry.{Entry}
+use Rattle.cts_edit.specs.declared.edit.Entry.{Entry}
 use Rattle.cts_design.specs.Edits.{IsEdit}
 use Rattle.cts_callers.specs.declared.reply.Reply.{Reply}
 use Rattle.cts_history.specs.History.{IsPrintableReply}
