@@ -18,7 +18,7 @@ pub fn write_note<N: ByteSink>(notes: &mut N, ending: &Result<(), Stop>) -> Resu
 
 #[tactic(auto, unfolding(crate::specs::Notes::note_of))]
 fn put_ending<N: ByteSink>(out: &mut SinkBuffer, notes: &mut N, ending: &Result<(), Stop>)
-    ensures { Puts N.held N.faults notes.old out.old notes.new out.new (note_of ending.now) }
+    ensures { Puts N.ByteSink (notes.old, out.old) (notes.new, out.new) (note_of ending.now) }
 {
     match ending {
         Ok(()) => out.put(notes, b""),
@@ -28,7 +28,7 @@ fn put_ending<N: ByteSink>(out: &mut SinkBuffer, notes: &mut N, ending: &Result<
 
 #[tactic(auto, unfolding(crate::specs::Notes::stop_note))]
 fn put_stop<N: ByteSink>(out: &mut SinkBuffer, notes: &mut N, stop: &Stop)
-    ensures { Puts N.held N.faults notes.old out.old notes.new out.new (stop_note stop.now) }
+    ensures { Puts N.ByteSink (notes.old, out.old) (notes.new, out.new) (stop_note stop.now) }
 {
     match stop {
         Stop::Words => out.put(notes, b"usage: cts-draw\n"),

@@ -6,7 +6,7 @@ use Rattle.std.proofs.lemmas.Grind.{flat_map-append}
 use Rattle.cts_geom.specs.declared.points.Half.{Half}
 use Rattle.cts_report.specs.Printed.{PrintedPoint}
 use Rattle.cts_report_reader.specs.Seen.{seen_point}
-use Rattle.cts_picture.specs.Sheet.{point_words}
+use Rattle.cts_report.specs.Lines.{point_words}
 use Rattle.cts_picture.specs.Wires.{gap, way_length}
 
 -- a way from a point on, over the next corner

@@ -6,7 +6,7 @@ use Rattle.cts_block.specs.declared.blocks.Block.{Block}
 use Rattle.cts_block.specs.declared.blocks.Kind.{Kind}
 use Rattle.cts_block.specs.declared.blocks.Kind.TheVariants as kind
 use Rattle.cts_report.specs.Printed.{PrintedPoint, PrintedKind, sink_leaf, pair_node, PrintedNode}
-use Rattle.cts_report.specs.Lines.{coordinate, whole}
+use Rattle.cts_report.specs.Lines.{coordinate, point_words, whole}
 use Rattle.cts_picture.specs.declared.frame.Frame.{Frame}
 use Rattle.cts_picture.specs.Frame.{drawn, margin, width, height, height_on_page}
 
@@ -67,10 +67,6 @@ unfoldable pub block_text : Block → List ℕ
 block_text block =
     rectangle (drawn block.x1) (drawn block.y1) (drawn block.x2 - drawn block.x1) (drawn block.y2 - drawn block.y1)
     ++ fill_words block.kind
-
--- a point, its x before its y
-unfoldable pub point_words : PrintedPoint → List ℕ
-point_words p = coordinate (codes " ") p.x ++ coordinate (codes " ") p.y
 
 -- a square of so many wires' width around the place of a node with a buffer
 unfoldable pub square_text : ℕ → PrintedPoint → List ℕ

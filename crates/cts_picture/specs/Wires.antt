@@ -3,9 +3,8 @@ use Rattle.std.specs.Prelude.{ℕ, ◌+◌, ◌-◌, ◌*◌, ◌/◌, min, nat_
 use Rattle.std.specs.List.{flat_map}
 use Rattle.std.specs.Option.{option_map_or}
 use Rattle.cts_report.specs.Printed.{PrintedPoint, PrintedKind, sink_leaf, pair_node, PrintedNode, PrintedTotals}
-use Rattle.cts_report.specs.Lines.{whole, length_in_um, coordinate, capacitance, time, arrival_words}
+use Rattle.cts_report.specs.Lines.{whole, length_in_um, coordinate, capacitance, time, arrival_words, point_words}
 use Rattle.cts_picture.specs.declared.wire.Scale.{Scale}
-use Rattle.cts_picture.specs.Sheet.{point_words}
 
 -- a wire, by the number of the node at its lower end, its upper end, and that node
 pub record DrawnWire : Type 0 where

@@ -56,7 +56,7 @@ fn greatest_slew(nodes: &[ReportNode]) -> u128
 
 /// The end of the picture, and the length of the scale bar.
 fn put_bar_words<K: ByteSink>(out: &mut SinkBuffer, sink: &mut K, height: u64, bar: u64)
-    ensures { Puts K.held K.faults sink.old out.old sink.new out.new (bar_words height bar) }
+    ensures { Puts K.ByteSink (sink.old, out.old) (sink.new, out.new) (bar_words height bar) }
 {
     put_whole(
         out,
@@ -77,7 +77,7 @@ fn put_counts<K: ByteSink>(
     buffers: u64,
 )
     requires { wire_total < 10 ^ 38 }
-    ensures { Puts K.held K.faults sink.old out.old sink.new out.new (counts_words wire_total sinks buffers) }
+    ensures { Puts K.ByteSink (sink.old, out.old) (sink.new, out.new) (counts_words wire_total sinks buffers) }
 {
     put_total(out, sink, b"<text x='480' y='20'>wire total ", wire_total);
     put_whole(out, sink, b" &#181;m</text>\n<text y='44'>sinks ", sinks);
@@ -93,7 +93,7 @@ fn put_counts<K: ByteSink>(
 /// The greatest and the least delay.
 fn put_delays<K: ByteSink>(out: &mut SinkBuffer, sink: &mut K, totals: ReportTotals)
     requires { HasDrawableTotals totals }
-    ensures { Puts K.held K.faults sink.old out.old sink.new out.new (delays_words (seen_totals totals)) }
+    ensures { Puts K.ByteSink (sink.old, out.old) (sink.new, out.new) (delays_words (seen_totals totals)) }
 {
     put_time(out, sink, b"<text y='68'>delay greatest ", totals.greatest);
     put_time(
@@ -107,7 +107,7 @@ fn put_delays<K: ByteSink>(out: &mut SinkBuffer, sink: &mut K, totals: ReportTot
 
 /// Whether a limit is met.
 fn put_met<K: ByteSink>(out: &mut SinkBuffer, sink: &mut K, label: &[u8], met: bool)
-    ensures { Puts K.held K.faults sink.old out.old sink.new out.new (met_words label.now met) }
+    ensures { Puts K.ByteSink (sink.old, out.old) (sink.new, out.new) (met_words label.now met) }
 {
     out.put(sink, label);
     out.put(
@@ -123,7 +123,7 @@ fn put_met<K: ByteSink>(out: &mut SinkBuffer, sink: &mut K, label: &[u8], met: b
 /// The greatest slew, and whether the limits on loads and slews are met.
 fn put_limits<K: ByteSink>(out: &mut SinkBuffer, sink: &mut K, slew: u128, totals: ReportTotals)
     requires { slew < 10 ^ 38 }
-    ensures { Puts K.held K.faults sink.old out.old sink.new out.new (limits_words slew (seen_totals totals)) }
+    ensures { Puts K.ByteSink (sink.old, out.old) (sink.new, out.new) (limits_words slew (seen_totals totals)) }
 {
     put_time(out, sink, b"<text y='92'>slew greatest ", slew);
     put_met(
@@ -138,7 +138,7 @@ fn put_limits<K: ByteSink>(out: &mut SinkBuffer, sink: &mut K, slew: u128, total
 /// The skew, and the bound on it.
 fn put_skew<K: ByteSink>(out: &mut SinkBuffer, sink: &mut K, totals: ReportTotals)
     requires { HasDrawableTotals totals }
-    ensures { Puts K.held K.faults sink.old out.old sink.new out.new (skew_words (seen_totals totals)) }
+    ensures { Puts K.ByteSink (sink.old, out.old) (sink.new, out.new) (skew_words (seen_totals totals)) }
 {
     put_time(out, sink, b"<text y='116'>skew ", totals.skew);
     put_time(
@@ -153,7 +153,7 @@ fn put_skew<K: ByteSink>(out: &mut SinkBuffer, sink: &mut K, totals: ReportTotal
 /// The greatest and the least arrival, where the report tells them.
 fn put_arrivals<K: ByteSink>(out: &mut SinkBuffer, sink: &mut K, arrivals: Option<ReportArrivals>)
     requires { IfSome arrivals HasDrawableArrivals }
-    ensures { Puts K.held K.faults sink.old out.old sink.new out.new (arrivals_words (seen_arrivals arrivals)) }
+    ensures { Puts K.ByteSink (sink.old, out.old) (sink.new, out.new) (arrivals_words (seen_arrivals arrivals)) }
 {
     match arrivals {
         None => {}
@@ -178,7 +178,7 @@ fn put_arrivals<K: ByteSink>(out: &mut SinkBuffer, sink: &mut K, arrivals: Optio
 /// The classes of delay from the delay at the root on, and what the signs mean.
 fn put_classes<K: ByteSink>(out: &mut SinkBuffer, sink: &mut K, start: u128)
     requires { start < 10 ^ 38 }
-    ensures { Puts K.held K.faults sink.old out.old sink.new out.new (classes_words start) }
+    ensures { Puts K.ByteSink (sink.old, out.old) (sink.new, out.new) (classes_words start) }
 {
     put_time(
         out,
@@ -203,7 +203,7 @@ pub fn put_legend<K: ByteSink>(
 )
     requires report { IsDrawable report.now }
     requires start { start < 10 ^ 38 }
-    ensures { Puts K.held K.faults sink.old out.old sink.new out.new
+    ensures { Puts K.ByteSink (sink.old, out.old) (sink.new, out.new)
         (legend_text height bar sinks (seen_report report.now) start) }
 {
     let nodes = report.nodes.as_slice();

@@ -21,7 +21,7 @@ use cts_units::Sink;
 
 /// What a block is filled with.
 fn put_fill<K: ByteSink>(out: &mut SinkBuffer, sink: &mut K, kind: Kind)
-    ensures { Puts K.held K.faults sink.old out.old sink.new out.new (fill_words kind) }
+    ensures { Puts K.ByteSink (sink.old, out.old) (sink.new, out.new) (fill_words kind) }
 {
     match kind {
         Kind::Buffer => out.put(sink, b"' fill='url(#h)' stroke='#777'/>\n"),
@@ -33,7 +33,7 @@ fn put_fill<K: ByteSink>(out: &mut SinkBuffer, sink: &mut K, kind: Kind)
 #[tactic(auto, unfolding(crate::specs::Sheet::block_text))]
 fn put_block<K: ByteSink>(out: &mut SinkBuffer, sink: &mut K, block: Block)
     requires { IsOutline block.x1 block.y1 block.x2 block.y2 }
-    ensures { Puts K.held K.faults sink.old out.old sink.new out.new (block_text block) }
+    ensures { Puts K.ByteSink (sink.old, out.old) (sink.new, out.new) (block_text block) }
 {
     put_outline(out, sink, block);
     put_fill(out, sink, block.kind);
@@ -42,7 +42,7 @@ fn put_block<K: ByteSink>(out: &mut SinkBuffer, sink: &mut K, block: Block)
 /// The blocks of a valid instance.
 pub fn put_blocks<K: ByteSink>(out: &mut SinkBuffer, sink: &mut K, blocks: &[Block])
     requires { All (λ block. IsOutline block.x1 block.y1 block.x2 block.y2) blocks.now }
-    ensures { Puts K.held K.faults sink.old out.old sink.new out.new (flat_map block_text blocks.now) }
+    ensures { Puts K.ByteSink (sink.old, out.old) (sink.new, out.new) (flat_map block_text blocks.now) }
 {
     for block in blocks {
         put_block(out, sink, *block);
@@ -53,7 +53,7 @@ pub fn put_blocks<K: ByteSink>(out: &mut SinkBuffer, sink: &mut K, blocks: &[Blo
 #[tactic(auto, unfolding(crate::specs::Sheet::sink_text))]
 fn put_sink<K: ByteSink>(out: &mut SinkBuffer, sink: &mut K, pin: Sink)
     requires { IsPlace pin.x pin.y }
-    ensures { Puts K.held K.faults sink.old out.old sink.new out.new (sink_text pin) }
+    ensures { Puts K.ByteSink (sink.old, out.old) (sink.new, out.new) (sink_text pin) }
 {
     put_coordinate(out, sink, b"M ", drawn(pin.x));
     put_coordinate(out, sink, b" ", drawn(pin.y));
@@ -63,7 +63,7 @@ fn put_sink<K: ByteSink>(out: &mut SinkBuffer, sink: &mut K, pin: Sink)
 /// Dots at the places of sinks of a valid instance.
 fn put_dots<K: ByteSink>(out: &mut SinkBuffer, sink: &mut K, sinks: &[Sink])
     requires { All (λ pin. IsPlace pin.x pin.y) sinks.now }
-    ensures { Puts K.held K.faults sink.old out.old sink.new out.new (flat_map sink_text sinks.now) }
+    ensures { Puts K.ByteSink (sink.old, out.old) (sink.new, out.new) (flat_map sink_text sinks.now) }
 {
     for pin in sinks {
         put_sink(out, sink, *pin);
@@ -74,7 +74,7 @@ fn put_dots<K: ByteSink>(out: &mut SinkBuffer, sink: &mut K, sinks: &[Sink])
 pub fn put_sinks<K: ByteSink>(out: &mut SinkBuffer, sink: &mut K, stroke: u64, sinks: &[Sink])
     requires stroke { stroke ≤ 10 ^ 10 }
     requires sinks { All (λ pin. IsPlace pin.x pin.y) sinks.now }
-    ensures { Puts K.held K.faults sink.old out.old sink.new out.new (sinks_text stroke sinks.now) }
+    ensures { Puts K.ByteSink (sink.old, out.old) (sink.new, out.new) (sinks_text stroke sinks.now) }
 {
     put_coordinate(out, sink, b"<path class='s' stroke-width='", 3 * stroke);
     out.put(sink, b"' d='");
@@ -87,7 +87,7 @@ pub fn put_sinks<K: ByteSink>(out: &mut SinkBuffer, sink: &mut K, stroke: u64, s
 fn put_square<K: ByteSink>(out: &mut SinkBuffer, sink: &mut K, stroke: u64, place: Half)
     requires stroke { stroke ≤ 10 ^ 10 }
     requires place { IsSeen place }
-    ensures { Puts K.held K.faults sink.old out.old sink.new out.new (square_text stroke (seen_point place)) }
+    ensures { Puts K.ByteSink (sink.old, out.old) (sink.new, out.new) (square_text stroke (seen_point place)) }
 {
     out.put(sink, b"M");
     put_point(out, sink, place);
@@ -105,7 +105,7 @@ fn put_buffer<K: ByteSink>(
 )
     requires stroke { stroke ≤ 10 ^ 10 }
     requires place { IsSeen place }
-    ensures { Puts K.held K.faults sink.old out.old sink.new out.new
+    ensures { Puts K.ByteSink (sink.old, out.old) (sink.new, out.new)
         (buffer_text stroke (seen_point place) (seen_kind kind)) }
 {
     match kind {
@@ -122,7 +122,7 @@ fn put_buffer<K: ByteSink>(
 fn put_squares<K: ByteSink>(out: &mut SinkBuffer, sink: &mut K, stroke: u64, nodes: &[ReportNode])
     requires stroke { stroke ≤ 10 ^ 10 }
     requires nodes { All IsDrawableNode nodes.now }
-    ensures { Puts K.held K.faults sink.old out.old sink.new out.new
+    ensures { Puts K.ByteSink (sink.old, out.old) (sink.new, out.new)
         (flat_map (λ node. buffer_text stroke node.place node.kind) (map seen_node nodes.now)) }
 {
     for node in nodes {
@@ -139,7 +139,7 @@ pub fn put_buffers<K: ByteSink>(
 )
     requires stroke { stroke ≤ 10 ^ 10 }
     requires nodes { All IsDrawableNode nodes.now }
-    ensures { Puts K.held K.faults sink.old out.old sink.new out.new (buffers_text stroke (map seen_node nodes.now)) }
+    ensures { Puts K.ByteSink (sink.old, out.old) (sink.new, out.new) (buffers_text stroke (map seen_node nodes.now)) }
 {
     put_coordinate(out, sink, b"<path class='b' stroke-width='", 4 * stroke);
     out.put(sink, b"' d='");
@@ -150,7 +150,7 @@ pub fn put_buffers<K: ByteSink>(
 /// A ring at the place of the source.
 pub fn put_source<K: ByteSink>(out: &mut SinkBuffer, sink: &mut K, line: u64, source: Dot)
     requires { line ≤ 10 ^ 8 }
-    ensures { Puts K.held K.faults sink.old out.old sink.new out.new (source_text line (seen_dot source)) }
+    ensures { Puts K.ByteSink (sink.old, out.old) (sink.new, out.new) (source_text line (seen_dot source)) }
 {
     put_coordinate(out, sink, b"<circle cx='", source.x);
     put_coordinate(out, sink, b"' cy='", source.y);

@@ -68,7 +68,7 @@ fn source_of(instance: &Instance) -> Dot
 fn put_sheet<K: ByteSink>(out: &mut SinkBuffer, sink: &mut K, frame: &Frame, blocks: &[Block])
     requires frame { IsFrame frame.now }
     requires blocks { All (λ block. IsOutline block.x1 block.y1 block.x2 block.y2) blocks.now }
-    ensures { Puts K.held K.faults sink.old out.old sink.new out.new (sheet_text frame.now blocks.now) }
+    ensures { Puts K.ByteSink (sink.old, out.old) (sink.new, out.new) (sheet_text frame.now blocks.now) }
 {
     put_page(out, sink, frame);
     put_frame(out, sink, frame);
@@ -88,7 +88,7 @@ fn put_marks<K: ByteSink>(
     requires frame { IsFrame frame.now }
     requires nodes { All IsDrawableNode nodes.now }
     requires sinks { All (λ pin. IsPlace pin.x pin.y) sinks.now }
-    ensures { Puts K.held K.faults sink.old out.old sink.new out.new
+    ensures { Puts K.ByteSink (sink.old, out.old) (sink.new, out.new)
         (marks_text frame.now (map seen_node nodes.now) sinks.now (seen_dot source)) }
 {
     put_buffers(out, sink, frame.stroke, nodes);

@@ -20,7 +20,7 @@ const COLOURS: &[u8] =
 /// The colours, the widths and the dashes of wires, of which the thinnest is `stroke` wide.
 fn put_style<K: ByteSink>(out: &mut SinkBuffer, sink: &mut K, stroke: u64)
     requires { stroke ≤ 10 ^ 10 }
-    ensures { Puts K.held K.faults sink.old out.old sink.new out.new (style_text stroke) }
+    ensures { Puts K.ByteSink (sink.old, out.old) (sink.new, out.new) (style_text stroke) }
 {
     out.put(sink, b"<style>");
     out.put(sink, COLOURS);
@@ -35,7 +35,7 @@ fn put_style<K: ByteSink>(out: &mut SinkBuffer, sink: &mut K, stroke: u64)
 /// The head of the page, which has room for the legend below the picture.
 pub fn put_page<K: ByteSink>(out: &mut SinkBuffer, sink: &mut K, frame: &Frame)
     requires { IsFrame frame.now }
-    ensures { Puts K.held K.faults sink.old out.old sink.new out.new (page_text frame.now) }
+    ensures { Puts K.ByteSink (sink.old, out.old) (sink.new, out.new) (page_text frame.now) }
 {
     let height = frame.height_on_page() + 240;
     put_whole(
@@ -56,7 +56,7 @@ pub fn put_page<K: ByteSink>(out: &mut SinkBuffer, sink: &mut K, frame: &Frame)
 /// The hatch of blocks that keep out buffers alone.
 fn put_hatch<K: ByteSink>(out: &mut SinkBuffer, sink: &mut K, line: u64)
     requires { line ≤ 10 ^ 8 }
-    ensures { Puts K.held K.faults sink.old out.old sink.new out.new (hatch_text line) }
+    ensures { Puts K.ByteSink (sink.old, out.old) (sink.new, out.new) (hatch_text line) }
 {
     put_coordinate(
         out,
@@ -74,7 +74,7 @@ fn put_hatch<K: ByteSink>(out: &mut SinkBuffer, sink: &mut K, line: u64)
 /// The frame, in which points have the coordinates of the report.
 pub fn put_frame<K: ByteSink>(out: &mut SinkBuffer, sink: &mut K, frame: &Frame)
     requires { IsFrame frame.now }
-    ensures { Puts K.held K.faults sink.old out.old sink.new out.new (frame_text frame.now) }
+    ensures { Puts K.ByteSink (sink.old, out.old) (sink.new, out.new) (frame_text frame.now) }
 {
     put_whole(
         out,
@@ -105,7 +105,7 @@ fn put_rectangle<K: ByteSink>(
     width: u64,
     height: u64,
 )
-    ensures { Puts K.held K.faults sink.old out.old sink.new out.new (rectangle x y width height) }
+    ensures { Puts K.ByteSink (sink.old, out.old) (sink.new, out.new) (rectangle x y width height) }
 {
     put_coordinate(out, sink, b"<rect x='", x);
     put_coordinate(out, sink, b"' y='", y);
@@ -117,7 +117,7 @@ fn put_rectangle<K: ByteSink>(
 #[tactic(auto, unfolding(crate::specs::Sheet::die_text))]
 pub fn put_die<K: ByteSink>(out: &mut SinkBuffer, sink: &mut K, frame: &Frame)
     requires { IsFrame frame.now }
-    ensures { Puts K.held K.faults sink.old out.old sink.new out.new (die_text frame.now) }
+    ensures { Puts K.ByteSink (sink.old, out.old) (sink.new, out.new) (die_text frame.now) }
 {
     let width = frame.x2 - frame.x1;
     let height = frame.y2 - frame.y1;
@@ -134,7 +134,7 @@ pub fn put_die<K: ByteSink>(out: &mut SinkBuffer, sink: &mut K, frame: &Frame)
 /// The outline of a block, up to what it is filled with.
 pub fn put_outline<K: ByteSink>(out: &mut SinkBuffer, sink: &mut K, block: Block)
     requires { IsOutline block.x1 block.y1 block.x2 block.y2 }
-    ensures { Puts K.held K.faults sink.old out.old sink.new out.new
+    ensures { Puts K.ByteSink (sink.old, out.old) (sink.new, out.new)
         (rectangle (drawn block.x1) (drawn block.y1) (drawn block.x2 - drawn block.x1) (drawn block.y2 - drawn block.y1)) }
 {
     let x = drawn(block.x1);
@@ -147,7 +147,7 @@ pub fn put_outline<K: ByteSink>(out: &mut SinkBuffer, sink: &mut K, block: Block
 /// The scale bar.
 pub fn put_bar<K: ByteSink>(out: &mut SinkBuffer, sink: &mut K, frame: &Frame)
     requires { IsFrame frame.now }
-    ensures { Puts K.held K.faults sink.old out.old sink.new out.new (bar_text frame.now) }
+    ensures { Puts K.ByteSink (sink.old, out.old) (sink.new, out.new) (bar_text frame.now) }
 {
     put_coordinate(out, sink, b"<path d='M ", frame.x1);
     put_coordinate(out, sink, b" ", frame.y1);

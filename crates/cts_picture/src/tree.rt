@@ -52,7 +52,7 @@ fn put_wire_to<K: ByteSink>(
     requires scale { IsScale scale.now }
     requires nodes { All IsDrawableNode nodes.now }
     requires upper { IsDot upper }
-    ensures { Puts K.held K.faults sink.old out.old sink.new out.new
+    ensures { Puts K.ByteSink (sink.old, out.old) (sink.new, out.new)
         (flat_map (wire_text scale.now) (wire_to (map seen_node nodes.now) (seen_dot upper) number)) }
 {
     match nodes.get(number) {
@@ -73,7 +73,7 @@ fn put_wires_from<K: ByteSink>(
     requires scale { IsScale scale.now }
     requires nodes { All IsDrawableNode nodes.now }
     requires place { IsSeen place }
-    ensures { Puts K.held K.faults sink.old out.old sink.new out.new
+    ensures { Puts K.ByteSink (sink.old, out.old) (sink.new, out.new)
         (flat_map (wire_text scale.now) (wires_from (map seen_node nodes.now) (seen_point place) (seen_kind kind))) }
 {
     match kind {
@@ -95,7 +95,7 @@ fn put_wires_below<K: ByteSink>(
 )
     requires scale { IsScale scale.now }
     requires nodes { All IsDrawableNode nodes.now }
-    ensures { Puts K.held K.faults sink.old out.old sink.new out.new
+    ensures { Puts K.ByteSink (sink.old, out.old) (sink.new, out.new)
         (flat_map (λ node. flat_map (wire_text scale.now) (wires_below (map seen_node nodes.now) node)) (map seen_node nodes.now)) }
 {
     for node in nodes {
@@ -114,7 +114,7 @@ pub fn put_wires<K: ByteSink>(
     requires scale { IsScale scale.now }
     requires source { IsDot source }
     requires nodes { All IsDrawableNode nodes.now }
-    ensures { Puts K.held K.faults sink.old out.old sink.new out.new
+    ensures { Puts K.ByteSink (sink.old, out.old) (sink.new, out.new)
         (wires_text scale.now (seen_dot source) (map seen_node nodes.now)) }
 {
     let root = nodes.len().saturating_sub(1);

@@ -3,12 +3,11 @@
 ghost use Rattle.std.specs.Prelude.{◌≡◌, ◌+◌, ◌*◌, ◌^◌, ◌<◌, ◌≤◌, [], ◌∷◌, ◌++◌, length, map, All};
 ghost use Rattle.std.specs.List.{flat_map};
 ghost use Rattle.cts_io.specs.Text.{Puts};
-ghost use Rattle.cts_report.specs.Lines.{arrival_words};
+ghost use Rattle.cts_report.specs.Lines.{arrival_words, point_words};
 ghost use Rattle.cts_report_reader.specs.Nodes.{seen_arrival, seen_node};
 ghost use Rattle.cts_report_reader.specs.Seen.{IsSeen, seen_point};
 ghost use Rattle.cts_picture.specs.Drawable.{IsDot, IsDrawableArrival, IsDrawableNode, IsPlace, IsScale};
 ghost use Rattle.cts_picture.specs.Dots.{drawn_point, seen_dot};
-ghost use Rattle.cts_picture.specs.Sheet.{point_words};
 ghost use Rattle.cts_picture.specs.Wires.{course, dash_words, delay_class, gap, route_length, title_text, way_length, wire_text};
 
 use crate::frame::drawn;
@@ -58,9 +57,9 @@ pub fn place_dot(x: i64, y: i64) -> Dot
 }
 
 /// A point, its x before its y.
-#[tactic(auto, unfolding(crate::specs::Sheet::point_words))]
+#[tactic(auto, unfolding(cts_report::specs::Lines::point_words))]
 pub fn put_dot<K: ByteSink>(out: &mut SinkBuffer, sink: &mut K, dot: Dot)
-    ensures { Puts K.held K.faults sink.old out.old sink.new out.new (point_words (seen_dot dot)) }
+    ensures { Puts K.ByteSink (sink.old, out.old) (sink.new, out.new) (point_words (seen_dot dot)) }
 {
     put_coordinate(out, sink, b" ", dot.x);
     put_coordinate(out, sink, b" ", dot.y);
@@ -69,14 +68,14 @@ pub fn put_dot<K: ByteSink>(out: &mut SinkBuffer, sink: &mut K, dot: Dot)
 /// A point of a report, its x before its y.
 pub fn put_point<K: ByteSink>(out: &mut SinkBuffer, sink: &mut K, point: Half)
     requires { IsSeen point }
-    ensures { Puts K.held K.faults sink.old out.old sink.new out.new (point_words (seen_point point)) }
+    ensures { Puts K.ByteSink (sink.old, out.old) (sink.new, out.new) (point_words (seen_point point)) }
 {
     put_dot(out, sink, dot_of(point));
 }
 
 fn put_points<K: ByteSink>(out: &mut SinkBuffer, sink: &mut K, points: &[Half])
     requires { All IsSeen points.now }
-    ensures { Puts K.held K.faults sink.old out.old sink.new out.new
+    ensures { Puts K.ByteSink (sink.old, out.old) (sink.new, out.new)
         (flat_map point_words (map seen_point points.now)) }
 {
     for point in points {
@@ -93,7 +92,7 @@ fn put_way<K: ByteSink>(
     lower: Dot,
 )
     requires { All IsSeen corners.now }
-    ensures { Puts K.held K.faults sink.old out.old sink.new out.new
+    ensures { Puts K.ByteSink (sink.old, out.old) (sink.new, out.new)
         (flat_map point_words (seen_dot upper ∷ (map seen_point corners.now ++ seen_dot lower ∷ []))) }
 {
     put_dot(out, sink, upper);
@@ -104,7 +103,7 @@ fn put_way<K: ByteSink>(
 /// The points of the wire from `upper` to a node.
 fn put_course<K: ByteSink>(out: &mut SinkBuffer, sink: &mut K, upper: Dot, node: &ReportNode)
     requires { IsDrawableNode node.now }
-    ensures { Puts K.held K.faults sink.old out.old sink.new out.new
+    ensures { Puts K.ByteSink (sink.old, out.old) (sink.new, out.new)
         (flat_map point_words (course (seen_dot upper) (seen_node node.now))) }
 {
     put_way(out, sink, upper, node.corners.items(), dot_of(node.place));
@@ -159,7 +158,7 @@ fn delay_class(scale: &Scale, delay: u128) -> u64
 /// The word that dashes a wire which is longer than its route.
 #[tactic(auto, unfolding(crate::specs::Wires::dash_words))]
 fn put_dash<K: ByteSink>(out: &mut SinkBuffer, sink: &mut K, wire: u32, route: u64)
-    ensures { Puts K.held K.faults sink.old out.old sink.new out.new (dash_words wire route) }
+    ensures { Puts K.ByteSink (sink.old, out.old) (sink.new, out.new) (dash_words wire route) }
 {
     let dash: &[u8] = if route < 10 * u64::from(wire) {
         b" l"
@@ -172,7 +171,7 @@ fn put_dash<K: ByteSink>(out: &mut SinkBuffer, sink: &mut K, wire: u32, route: u
 /// The arrival of a leaf, where the report tells it.
 fn put_arrival<K: ByteSink>(out: &mut SinkBuffer, sink: &mut K, kind: ReportKind)
     requires { IsDrawableArrival (seen_arrival kind) }
-    ensures { Puts K.held K.faults sink.old out.old sink.new out.new (arrival_words (seen_arrival kind)) }
+    ensures { Puts K.ByteSink (sink.old, out.old) (sink.new, out.new) (arrival_words (seen_arrival kind)) }
 {
     match kind {
         ReportKind::TimedLeaf { arrival, .. } => put_time(out, sink, b" arrival ", arrival),
@@ -189,7 +188,7 @@ fn put_title<K: ByteSink>(
     node: &ReportNode,
 )
     requires { IsDrawableNode node.now }
-    ensures { Puts K.held K.faults sink.old out.old sink.new out.new (title_text number route (seen_node node.now)) }
+    ensures { Puts K.ByteSink (sink.old, out.old) (sink.new, out.new) (title_text number route (seen_node node.now)) }
 {
     put_whole(out, sink, b"'><title>node ", number);
     put_length(out, sink, b" wire ", node.wire);
@@ -213,7 +212,7 @@ pub fn put_wire<K: ByteSink>(
     requires scale { IsScale scale.now }
     requires upper { IsDot upper }
     requires node { IsDrawableNode node.now }
-    ensures { Puts K.held K.faults sink.old out.old sink.new out.new
+    ensures { Puts K.ByteSink (sink.old, out.old) (sink.new, out.new)
         (wire_text scale.now (record { number = number; upper = seen_dot upper; node = seen_node node.now })) }
 {
     let route = route_length(upper, node);

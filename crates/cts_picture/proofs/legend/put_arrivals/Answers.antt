@@ -4,7 +4,7 @@ use Rattle.cts_picture.proofs.legend.put_arrivals.Goals as goal
 
 pub returns-in-None : goal.returns-in-None
 unfolding arrivals_words
-returns-in-None g c = rw c.in-None.is (puts_nothing _ _ _ _)
+returns-in-None g c = rw c.in-None.is (puts_nothing _ _)
 
 pub returns-in-Some : goal.returns-in-Some
 unfolding arrivals_words

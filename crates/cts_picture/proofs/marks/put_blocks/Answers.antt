@@ -6,7 +6,7 @@ use Rattle.cts_picture.proofs.Pieces.{texts_step}
 use Rattle.cts_picture.proofs.marks.put_blocks.Goals as goal
 
 pub loop-block-init : goal.loop-block-init
-loop-block-init g c = puts_nothing _ _ _ _
+loop-block-init g c = puts_nothing _ _
 
 pub bounds-blocks-block-index : goal.bounds-blocks-block-index
 bounds-blocks-block-index g c = omega arith
@@ -19,7 +19,7 @@ put_block-requires g c = c.requires c.loop-block.block-index _ c.loop-block-test
 
 pub loop-block-preserved : goal.loop-block-preserved
 loop-block-preserved g c =
-    texts_step (λ text. Puts g.K.ByteSink.held g.K.ByteSink.faults c.args.sink.now c.args.out.now c.put_block.new.sink c.put_block.new.out text)
+    texts_step (λ text. Puts g.K.ByteSink (c.args.sink.now, c.args.out.now) (c.put_block.new.sink, c.put_block.new.out) text)
     block_text c.args.blocks.now c.loop-block.block-index _ c.loop-block-test.true (c.loop-block.invariant ▸ c.put_block.ensures)
 
 pub returns : goal.returns

@@ -6,5 +6,5 @@ use Rattle.cts_picture.proofs.marks.put_blocks.Given as goal
 
 abbrev pub invariant-loop-block : goal.invariant-loop-block
 invariant-loop-block g l =
-    Puts g.K.ByteSink.held g.K.ByteSink.faults l.fn.sink l.fn.out l.sink l.out
+    Puts g.K.ByteSink (l.fn.sink, l.fn.out) (l.sink, l.out)
     (flat_map block_text (take l.block-index l.blocks))

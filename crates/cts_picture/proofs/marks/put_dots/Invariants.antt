@@ -6,5 +6,5 @@ use Rattle.cts_picture.proofs.marks.put_dots.Given as goal
 
 abbrev pub invariant-loop-pin : goal.invariant-loop-pin
 invariant-loop-pin g l =
-    Puts g.K.ByteSink.held g.K.ByteSink.faults l.fn.sink l.fn.out l.sink l.out
+    Puts g.K.ByteSink (l.fn.sink, l.fn.out) (l.sink, l.out)
     (flat_map sink_text (take l.pin-index l.sinks))

@@ -7,5 +7,5 @@ use Rattle.cts_picture.proofs.marks.put_squares.Given as goal
 
 abbrev pub invariant-loop-node : goal.invariant-loop-node
 invariant-loop-node g l =
-    Puts g.K.ByteSink.held g.K.ByteSink.faults l.fn.sink l.fn.out l.sink l.out
+    Puts g.K.ByteSink (l.fn.sink, l.fn.out) (l.sink, l.out)
     (flat_map (λ node. buffer_text l.stroke node.place node.kind) (map seen_node (take l.node-index l.nodes)))

@@ -19,11 +19,11 @@ put_wire-requires-clause-upper g c = c.requires.upper
 pub returns-in-Some : goal.returns-in-Some
 returns-in-Some g c =
     let found = c.in-Some.ensures.lookup in
-    wire_found (λ text. Puts g.K.ByteSink.held g.K.ByteSink.faults c.args.sink.now c.args.out.now c.put_wire.new.sink c.put_wire.new.out text)
+    wire_found (λ text. Puts g.K.ByteSink (c.args.sink.now, c.args.out.now) (c.put_wire.new.sink, c.put_wire.new.out) text)
     c.args.scale.now c.args.nodes.now (seen_dot c.args.upper) c.args.number c.in-Some.node.now (found.3.0) (found.1) c.put_wire.ensures
 
 pub returns-in-None : goal.returns-in-None
 returns-in-None g c =
     let found = c.in-None.ensures.lookup in
-    no_wire (λ text. Puts g.K.ByteSink.held g.K.ByteSink.faults c.args.sink.now c.args.out.now c.put.new.sink c.put.new.self text)
+    no_wire (λ text. Puts g.K.ByteSink (c.args.sink.now, c.args.out.now) (c.put.new.sink, c.put.new.self) text)
     c.args.scale.now c.args.nodes.now (seen_dot c.args.upper) c.args.number (found.3) c.put.ensures

@@ -10,8 +10,7 @@ use Rattle.cts_picture.proofs.tree.put_wires.Goals as goal
 pub returns : goal.returns
 returns g c =
     subst
-    (λ text. Puts g.K.ByteSink.held g.K.ByteSink.faults c.args.sink.now c.args.out.now c.put_wires_below.new.sink
-    c.put_wires_below.new.out text)
+    (λ text. Puts g.K.ByteSink (c.args.sink.now, c.args.out.now) (c.put_wires_below.new.sink, c.put_wires_below.new.out) text)
     (wires_in_print c.args.scale.now (seen_dot c.args.source) (map seen_node c.args.nodes.now) c.saturating_sub-root.result
     (c.saturating_sub-root.ensures ∙ ap (λ n. n - 1) (sym (length-map c.args.nodes.now seen_node))))
     (c.put_wire_to.ensures ▸ c.put_wires_below.ensures)

@@ -10,7 +10,7 @@ use Rattle.cts_picture.proofs.Pieces.{lent_step}
 use Rattle.cts_picture.proofs.tree.put_wires_below.Goals as goal
 
 pub loop-node-init : goal.loop-node-init
-loop-node-init g c = puts_nothing _ _ _ _
+loop-node-init g c = puts_nothing _ _
 
 pub put_wires_from-requires-clause-scale : goal.put_wires_from-requires-clause-scale
 put_wires_from-requires-clause-scale g c = c.requires.scale
@@ -27,7 +27,7 @@ put_wires_from-requires-clause-place g c =
 pub loop-node-preserved : goal.loop-node-preserved
 loop-node-preserved g c =
     lent_step
-    (λ text. Puts g.K.ByteSink.held g.K.ByteSink.faults c.args.sink.now c.args.out.now c.put_wires_from.new.sink c.put_wires_from.new.out text)
+    (λ text. Puts g.K.ByteSink (c.args.sink.now, c.args.out.now) (c.put_wires_from.new.sink, c.put_wires_from.new.out) text)
     (λ (node : PrintedNode). flat_map (wire_text c.args.scale.now) (wires_below (map seen_node c.args.nodes.now) node)) seen_node
     c.args.nodes.now c.loop-node.node-index c.node-item.result c.loop-node-test.true c.node-item.is
     (c.loop-node.invariant ▸ c.put_wires_from.ensures)
@@ -35,7 +35,7 @@ loop-node-preserved g c =
 pub returns : goal.returns
 returns g c =
     subst
-    (λ nodes. Puts g.K.ByteSink.held g.K.ByteSink.faults c.args.sink.now c.args.out.now c.loop-node.sink c.loop-node.out
+    (λ nodes. Puts g.K.ByteSink (c.args.sink.now, c.args.out.now) (c.loop-node.sink, c.loop-node.out)
     (flat_map (λ node. flat_map (wire_text c.args.scale.now) (wires_below (map seen_node c.args.nodes.now) node)) (map seen_node nodes)))
     (take_all c.loop-node.node-index c.args.nodes.now (omega (arith, c.loop-node-test.false)))
     c.loop-node.invariant

@@ -7,6 +7,6 @@ use Rattle.cts_picture.proofs.tree.put_wires_below.Given as goal
 
 abbrev pub invariant-loop-node : goal.invariant-loop-node
 invariant-loop-node g l =
-    Puts g.K.ByteSink.held g.K.ByteSink.faults l.fn.sink l.fn.out l.sink l.out
+    Puts g.K.ByteSink (l.fn.sink, l.fn.out) (l.sink, l.out)
     (flat_map (λ node. flat_map (wire_text l.scale) (wires_below (map seen_node l.nodes) node))
     (map seen_node (take l.node-index l.nodes)))

@@ -11,6 +11,6 @@ pub returns-in-Leaf : goal.returns-in-Leaf
 unfolding arrival_words
 returns-in-Leaf g c =
     elim c.in-Leaf.is [
-      | inl leaf ↦ rw leaf.1 (puts_nothing _ _ _ _)
-      | inr pair ↦ rw pair.4 (puts_nothing _ _ _ _)
+      | inl leaf ↦ rw leaf.1 (puts_nothing _ _)
+      | inr pair ↦ rw pair.4 (puts_nothing _ _)
     ]

@@ -1,5 +1,5 @@
 use Rattle.cts_io.proofs.Chains.{◌▸◌}
-use Rattle.cts_picture.specs.Sheet.{point_words}
+use Rattle.cts_report.specs.Lines.{point_words}
 use Rattle.cts_picture.proofs.wire.put_dot.Goals as goal
 
 pub returns : goal.returns

@@ -1,6 +1,6 @@
-use Rattle.cts_report.specs.Lines.{capacitance}
+use Rattle.cts_report.specs.Lines.{labelled, capacitance}
 use Rattle.cts_picture.proofs.words.put_capacitance.Goals as goal
 
 pub returns : goal.returns
-unfolding capacitance
-returns g c = c.put_number.ensures
+unfolding capacitance labelled
+returns g c = c.put_labelled.ensures
