@@ -1,11 +1,10 @@
 //! Lengths of wire that bring two delays together: a greatest length, or the next unit.
 
-ghost use Rattle.std.specs.Bool.{OnTrue};
-ghost use Rattle.std.specs.Prelude.{◌≡◌, ◌+◌, ◌-◌, ◌*◌, ◌^◌, ◌<◌, ◌≤◌, MatchOption, IfOk, IfErr};
+ghost use Rattle.std.specs.Prelude.{◌≡◌, ◌+◌, ◌-◌, ◌*◌, ◌^◌, ◌<◌, ◌≤◌, MatchOption, IfOk, IfErr, IfSome};
 ghost use Rattle.cts_units.specs.Limits.{IsWire, max_length};
 ghost use Rattle.cts_merge.specs.LeastPair.{IsLeastPair, IsTooLong, Spans};
 ghost use Rattle.cts_merge.specs.Side.{IsSideInRange, delay_through};
-ghost use Rattle.cts_merge.specs.Stretch.{IsStretch, IsLongStretch, IsLastBelow};
+ghost use Rattle.cts_merge.specs.Stretch.{IsBracket, IsStretch, IsLongStretch};
 
 use crate::greatest::{near_snake, snake, tap};
 use crate::side::{Beyond, Side};
@@ -23,9 +22,52 @@ pub(crate) fn delay_through(wire: Wire, side: &Side, length: u64) -> u128
     side.greatest + wire_delay(wire, length, side.load)
 }
 
-/// The last length, from `base` on, at which a side's delay is at most `target`, or `None` where that is over
-/// the limit of one wire. Mostly it is the base itself, in a balance.
-fn last_below(wire: Wire, side: &Side, base: u64, target: u128) -> Option<u64>
+/// What one unit of wire more than this length adds to the delay of a side.
+#[inline(always)]
+fn unit_delay(wire: Wire, side: &Side, length: u64) -> u128
+    requires wire { IsWire wire }
+    requires side { IsSideInRange side.now }
+    requires length { length ≤ max_length }
+    ensures { delay_through wire side.now (length + 1) ≡ delay_through wire side.now length + result }
+{
+    u128::from(wire.r) * u128::from(wire.c * (2 * length + 1) + 2 * side.load)
+}
+
+/// The last length at which a delay is at most a target, with what the delay there lacks of the target, and
+/// what the delay through one unit more is over it.
+#[derive(Clone, Copy)]
+pub(crate) struct Bracket {
+    length: u64,
+    short_by: u128,
+    long_by: u128,
+}
+
+/// The bracket of a target, if it is at this length.
+#[inline(always)]
+fn bracket_at(wire: Wire, side: &Side, length: u64, target: u128) -> Option<Bracket>
+    requires wire { IsWire wire }
+    requires side { IsSideInRange side.now }
+    requires length { length ≤ max_length }
+    ensures { IfSome result (IsBracket (delay_through wire side.now) target) }
+{
+    let here = delay_through(wire, side, length);
+    if target < here {
+        return None;
+    }
+    let short_by = target - here;
+    let unit = unit_delay(wire, side, length);
+    if unit <= short_by {
+        return None;
+    }
+    Some(Bracket {
+        length,
+        short_by,
+        long_by: unit - short_by,
+    })
+}
+
+/// The bracket of a target from `base` on, or `None` where it is over the limit of one wire: by a root.
+fn bracket_by_root(wire: Wire, side: &Side, base: u64, target: u128) -> Option<Bracket>
     requires wire { IsWire wire }
     requires side { IsSideInRange side.now }
     requires base { base ≤ max_length }
@@ -33,33 +75,40 @@ fn last_below(wire: Wire, side: &Side, base: u64, target: u128) -> Option<u64>
     requires room { delay_through wire side.now base ≤ target }
     ensures { MatchOption result
         (delay_through wire side.now (max_length + 1) ≤ target)
-        (λ len. IsLastBelow (delay_through wire side.now) target len) }
+        (IsBracket (delay_through wire side.now) target) }
 {
-    if target < delay_through(wire, side, base + 1) {
-        return Some(base);
-    }
     if delay_through(wire, side, MAX_LENGTH + 1) <= target {
         return None;
     }
-    let delta = target - side.greatest;
-    let near = near_snake(wire, side.load, delta);
-    if is_last_below(wire, side, near, target) {
-        return Some(near);
-    }
-    Some(snake(wire, side.load, delta))
+    let length = snake(wire, side.load, target - side.greatest);
+    let short_by = target - delay_through(wire, side, length);
+    Some(Bracket {
+        length,
+        short_by,
+        long_by: unit_delay(wire, side, length) - short_by,
+    })
 }
 
-/// Whether a length is the last one at which a side's delay is at most `target`.
-#[inline(always)]
-fn is_last_below(wire: Wire, side: &Side, length: u64, target: u128) -> bool
+/// The bracket of a target from `base` on, or `None` where it is over the limit of one wire. Mostly it is at
+/// the base itself, in a balance, or else where floats say.
+fn find_bracket(wire: Wire, side: &Side, base: u64, target: u128) -> Option<Bracket>
     requires wire { IsWire wire }
     requires side { IsSideInRange side.now }
-    ensures { OnTrue result (IsLastBelow (delay_through wire side.now) target length) }
+    requires base { base ≤ max_length }
+    requires target { target ≤ 2 ^ 111 }
+    requires room { delay_through wire side.now base ≤ target }
+    ensures { MatchOption result
+        (delay_through wire side.now (max_length + 1) ≤ target)
+        (IsBracket (delay_through wire side.now) target) }
 {
-    if length > MAX_LENGTH {
-        return false;
+    if let Some(found) = bracket_at(wire, side, base, target) {
+        return Some(found);
     }
-    delay_through(wire, side, length) <= target && target < delay_through(wire, side, length + 1)
+    let near = near_snake(wire, side.load, target - side.greatest).min(MAX_LENGTH);
+    if let Some(found) = bracket_at(wire, side, near, target) {
+        return Some(found);
+    }
+    bracket_by_root(wire, side, base, target)
 }
 
 /// The length from `base` on at which a side's delay comes nearest to `target`, the shorter of two.
@@ -76,12 +125,11 @@ pub(crate) fn stretched(wire: Wire, side: &Side, base: u64, target: u128) -> Res
     if base > MAX_LENGTH {
         return Err(Beyond);
     }
-    let Some(low) = last_below(wire, side, base, target) else {
+    let Some(found) = find_bracket(wire, side, base, target) else {
         return Err(Beyond);
     };
-    let short_by = target - delay_through(wire, side, low);
-    let long_by = delay_through(wire, side, low + 1) - target;
-    if short_by <= long_by {
+    let low = found.length;
+    if found.short_by <= found.long_by {
         return Ok(low);
     }
     if low == MAX_LENGTH {

@@ -2,7 +2,7 @@
 use Rattle.std.proofs.Common.{◌+◌, ◌<◌, ◌≤◌, arith}
 use Rattle.cts_units.specs.Limits.{max_length}
 use Rattle.cts_merge.specs.Side.{delay_through}
-use Rattle.cts_merge.specs.Stretch.{IsLastBelow}
+use Rattle.cts_merge.specs.Stretch.{IsBracket}
 use Rattle.cts_merge.proofs.SideDelays.{delay_rises}
 use Rattle.cts_merge.proofs.Stretches.{stretch_below, stretch_above, stretch_exists, stretch_past, base_below}
 use Rattle.cts_merge.proofs.lengths.stretched.Goals as goal
@@ -23,29 +23,31 @@ returns-in_default-clause-beyond c =
     let past : max_length + 1 ≤ s.len = stretch_past f up c.args.base c.args.target s.len (max_length + 1) s.stretch far in
     record { len = s.len; stretch = s.stretch; long = omega (arith, past) }
 
-pub returns-then-short_by-long_by-clause-stretch :
-    goal.returns-then-short_by-long_by-clause-stretch
-returns-then-short_by-long_by-clause-stretch c =
+pub returns-then-found-clause-stretch :
+    goal.returns-then-found-clause-stretch
+returns-then-found-clause-stretch c =
     let f = delay_through c.args.wire c.args.side.now in
     let up = delay_rises c.args.wire c.args.side.now c.requires.wire in
-    let last : IsLastBelow f c.args.target c.in-Some.low = c.in-Some.ensures in
-    let here : f c.in-Some.low ≤ c.args.target = last.here in
-    let next : c.args.target < f (c.in-Some.low + 1) = last.next in
-    let from : c.args.base ≤ c.in-Some.low = base_below f up _ _ _ c.requires.room next in
-    stretch_below f up c.args.base c.args.target c.in-Some.low from here next (omega arith)
+    let bracket : IsBracket f c.args.target c.in-Some.found = c.in-Some.ensures in
+    let last = bracket.last in
+    let here : f c.in-Some.found.length ≤ c.args.target = last.here in
+    let next : c.args.target < f (c.in-Some.found.length + 1) = last.next in
+    let from : c.args.base ≤ c.in-Some.found.length = base_below f up _ _ _ c.requires.room next in
+    stretch_below f up c.args.base c.args.target c.in-Some.found.length from here next (omega (arith, bracket.short_by, bracket.long_by))
 
 pub returns-then-low-eq-MAX_LENGTH-clause-beyond :
     goal.returns-then-low-eq-MAX_LENGTH-clause-beyond
 returns-then-low-eq-MAX_LENGTH-clause-beyond c =
     let f = delay_through c.args.wire c.args.side.now in
     let up = delay_rises c.args.wire c.args.side.now c.requires.wire in
-    let last : IsLastBelow f c.args.target c.in-Some.low = c.in-Some.ensures in
-    let here : f c.in-Some.low ≤ c.args.target = last.here in
-    let next : c.args.target < f (c.in-Some.low + 1) = last.next in
-    let from : c.args.base ≤ c.in-Some.low = base_below f up _ _ _ c.requires.room next in
+    let bracket : IsBracket f c.args.target c.in-Some.found = c.in-Some.ensures in
+    let last = bracket.last in
+    let here : f c.in-Some.found.length ≤ c.args.target = last.here in
+    let next : c.args.target < f (c.in-Some.found.length + 1) = last.next in
+    let from : c.args.base ≤ c.in-Some.found.length = base_below f up _ _ _ c.requires.room next in
     record {
-      len = c.in-Some.low + 1;
-      stretch = stretch_above f up c.args.base c.args.target c.in-Some.low from here next (omega arith);
+      len = c.in-Some.found.length + 1;
+      stretch = stretch_above f up c.args.base c.args.target c.in-Some.found.length from here next (omega (arith, bracket.short_by, bracket.long_by));
       long = omega arith;
     }
 
@@ -53,8 +55,9 @@ pub returns-clause-stretch : goal.returns-clause-stretch
 returns-clause-stretch c =
     let f = delay_through c.args.wire c.args.side.now in
     let up = delay_rises c.args.wire c.args.side.now c.requires.wire in
-    let last : IsLastBelow f c.args.target c.in-Some.low = c.in-Some.ensures in
-    let here : f c.in-Some.low ≤ c.args.target = last.here in
-    let next : c.args.target < f (c.in-Some.low + 1) = last.next in
-    let from : c.args.base ≤ c.in-Some.low = base_below f up _ _ _ c.requires.room next in
-    stretch_above f up c.args.base c.args.target c.in-Some.low from here next (omega arith)
+    let bracket : IsBracket f c.args.target c.in-Some.found = c.in-Some.ensures in
+    let last = bracket.last in
+    let here : f c.in-Some.found.length ≤ c.args.target = last.here in
+    let next : c.args.target < f (c.in-Some.found.length + 1) = last.next in
+    let from : c.args.base ≤ c.in-Some.found.length = base_below f up _ _ _ c.requires.room next in
+    stretch_above f up c.args.base c.args.target c.in-Some.found.length from here next (omega (arith, bracket.short_by, bracket.long_by))
