@@ -1,5 +1,5 @@
 -- Each kind of step keeps the rule of a turn, and tells what it should.
-use Rattle.std.proofs.Common.{◌≡◌, ◌≢◌, ℕ, ◌+◌, ◌%◌, ◌^◌, ◌<◌, ◌≤◌, ⊎_elim, inl, inr, List, [], ◌∷◌, length, get_or, set, sym, refl, ap, ◌∙◌, subst, arith, Option, Some}
+use Rattle.std.proofs.Common.{◌≡◌, ◌≢◌, ℕ, suc, ◌+◌, ◌-◌, ◌%◌, ◌^◌, ◌<◌, ◌≤◌, ⊎_elim, inl, inr, List, [], ◌∷◌, length, get_or, set, sym, refl, ap, ◌∙◌, subst, arith, Option, Some}
 use Rattle.std.proofs.Math.Nat.{mod-add-mod}
 use mathlib.Core.Logic.{dite}
 use mathlib.Core.Option as homes
@@ -15,7 +15,7 @@ use Rattle.cts_turn.specs.Sums.{total}
 use Rattle.cts_turn.specs.Views.{whole_view, first_half, second_half, joined, spent_view, with_ticket, at_turn, after_call, after_turn}
 use Rattle.cts_turn.specs.Line.{StandsInLine}
 use Rattle.cts_turn.specs.History.{NoneInTurn, SomeInTurn, HasSeen, IsKept}
-use Rattle.cts_turn.specs.Steps.{Held, Draws, Compares, Records, PassesOn, Waits}
+use Rattle.cts_turn.specs.Steps.{Held, Draws, Compares, Rings, Records, PassesOn, Waits}
 use Rattle.cts_turn.proofs.Sums.{total_only, one_le_total, two_le_total}
 use Rattle.cts_turn.proofs.Prefixes.{prefix_self, prefix_same, prefix_trans, prefix_length}
 use Rattle.cts_turn.proofs.Seats.{at_same, put_here, each_set, each_single}
@@ -73,8 +73,9 @@ module _ {E O B : Type 0} (told : O → List E) (base : O → B) (start : O) whe
           tickets = r.tickets + 1;
           serving = r.serving;
           history = r.history;
+          bells = r.bells;
           words = ap (λ (ws : List ℕ). set ws 0 ((get_or ws 0 0 + 1) % 2 ^ 64)) r.words
-              ∙ ap (λ (n : ℕ). n ∷ (r.serving % 2 ^ 64) ∷ length r.history ∷ []) (mod-add-mod r.tickets (2 ^ 64) 1);
+              ∙ ap (λ (n : ℕ). n ∷ (r.serving % 2 ^ 64) ∷ length r.history ∷ r.bells) (mod-add-mod r.tickets (2 ^ 64) 1);
           line = line_set r.tickets r.serving (r.tickets + 1) r.serving s.views id v w at r.line refl (omega arith) mine others apart;
           passes = history_set told base start r.history r.history s.views id v w at r.passes refl seen (λ j u _ at'. r.passes.each j u at')
               (whole_still r.history s.views id v w at (λ l. l) (λ e. e) r.passes.whole);
@@ -88,6 +89,31 @@ module _ {E O B : Type 0} (told : O → List E) (base : O → B) (start : O) whe
   compares slots id me s r count at fits =
       let shares = r.line.shares in
       (me.0, keeps, tt, unmoved s 0 id me r at, (refl, (r.passes.each id me.0 at).also, omega (arith, one_le_total (λ (v : View E O). v.share) s.views id me.0 at)))
+
+  -- a step on a bell
+  pub rings : (slots id : ℕ) (me : Held E O) (word : ℕ) (f : ℕ → ℕ) → 3 ≤ word → Allows (IsKept told base start) slots id me word f (Rings any_step me)
+  rings slots id me word f bell s r count at fits =
+      let number = f (get_or s.words word 0) in
+      let later = word - 3 in
+      let place : word ≡ suc (suc (suc later)) = omega arith in
+      let views : s.views ≡ set s.views id me.0 = sym (set_again s.views id me.0 at) in
+      let kept : IsKept told base start record { words = set s.words word number; homes = s.homes; views = s.views } = record {
+        tickets = r.tickets;
+        serving = r.serving;
+        history = r.history;
+        bells = set r.bells later number;
+        words = ap (λ (ws : List ℕ). set ws word number) r.words
+            ∙ ap (λ (i : ℕ). set ((r.tickets % 2 ^ 64) ∷ (r.serving % 2 ^ 64) ∷ length r.history ∷ r.bells) i number) place;
+        line = r.line;
+        passes = r.passes;
+        slot = r.slot;
+      } in (
+        me.0,
+        keeps,
+        tt,
+        subst (λ (vs : List (View E O)). IsKept told base start record { words = set s.words word number; homes = s.homes; views = vs }) views kept,
+        refl,
+      )
 
   -- the slot is at home where a view is about to be in turn
   at_home : (s : State (Option O) (View E O)) (r : IsKept told base start s) (id : ℕ) (v : View E O) → get_elem? s.views id ≡ some v → 0 < v.waits → v.in_turn ≡ 0 → r.serving ≡ v.ticket
@@ -141,6 +167,7 @@ module _ {E O B : Type 0} (told : O → List E) (base : O → B) (start : O) whe
           tickets = r.tickets;
           serving = r.serving;
           history = r.history;
+          bells = r.bells;
           words = set-get_or s.words 1 0 ∙ r.words;
           line = line_set r.tickets r.serving r.tickets r.serving s.views id v w at r.line refl (omega arith) mine (λ j u _ at'. r.line.each j u at') apart;
           passes = history_set told base start r.history r.history s.views id v w at r.passes refl seen (λ j u _ at'. r.passes.each j u at')
@@ -200,7 +227,8 @@ module _ {E O B : Type 0} (told : O → List E) (base : O → B) (start : O) whe
           tickets = r.tickets;
           serving = r.serving;
           history = list;
-          words = ap (λ (ws : List ℕ). set ws 2 new) r.words ∙ ap (λ (n : ℕ). (r.tickets % 2 ^ 64) ∷ (r.serving % 2 ^ 64) ∷ n ∷ []) is;
+          bells = r.bells;
+          words = ap (λ (ws : List ℕ). set ws 2 new) r.words ∙ ap (λ (n : ℕ). (r.tickets % 2 ^ 64) ∷ (r.serving % 2 ^ 64) ∷ n ∷ r.bells) is;
           line = line_set r.tickets r.serving r.tickets r.serving s.views id v w at r.line refl (omega arith) mine (λ j u _ at'. r.line.each j u at') apart;
           passes = history_set told base start r.history list s.views id v w at r.passes (omega arith) seen others (whole_mine list s.views id v w at some_share refl);
           slot = inr (id, w, put_here s.views id v w at, turn);
@@ -261,7 +289,8 @@ module _ {E O B : Type 0} (told : O → List E) (base : O → B) (start : O) whe
           tickets = r.tickets;
           serving = r.serving + 1;
           history = r.history;
-          words = ap (λ (ws : List ℕ). set ws 1 new) r.words ∙ ap (λ (n : ℕ). (r.tickets % 2 ^ 64) ∷ n ∷ length r.history ∷ []) is_next;
+          bells = r.bells;
+          words = ap (λ (ws : List ℕ). set ws 1 new) r.words ∙ ap (λ (n : ℕ). (r.tickets % 2 ^ 64) ∷ n ∷ length r.history ∷ r.bells) is_next;
           line = line_set r.tickets r.serving r.tickets (r.serving + 1) s.views id v w at r.line refl (omega arith) mine others apart;
           passes = history_set told base start r.history r.history s.views id v w at r.passes refl seen (λ j u _ at'. r.passes.each j u at')
               (whole_still r.history s.views id v w at (λ l. l) (λ e. e) r.passes.whole);
@@ -283,9 +312,9 @@ module _ {E O B : Type 0} (told : O → List E) (base : O → B) (start : O) whe
       homes_back hs h e l object holds = ap (λ (x : List (ℕ × Option O)). put_back hs x) holds ∙ ap (λ (x : List (homes.Option (Option O))). set x 0 (some (Some object))) e
 
   -- the start
-  pub opens : (length_word : ℕ) (slots : List (Option O)) → length_word ≡ length (told start) → slots ≡ Some start ∷ []
-      → IsKept told base start (opening (0 ∷ 0 ∷ length_word ∷ []) slots (whole_view (told start) start))
-  opens length_word slots is are =
+  pub opens : (length_word : ℕ) (bells : List ℕ) (slots : List (Option O)) → length_word ≡ length (told start) → slots ≡ Some start ∷ []
+      → IsKept told base start (opening (0 ∷ 0 ∷ length_word ∷ bells) slots (whole_view (told start) start))
+  opens length_word bells slots is are =
       let first : View E O = whole_view (told start) start in
       let mine : StandsInLine 0 0 first = record {
         waits = omega arith;
@@ -301,10 +330,11 @@ module _ {E O B : Type 0} (told : O → List E) (base : O → B) (start : O) whe
         in_turn = λ l. absurd (omega arith);
       } in
       let alone : (P : View E O → Type 0) → P first → (i : ℕ) (u : View E O) → get_elem? (first ∷ []) i ≡ some u → P u = each_single first in
-      subst (λ (x : ℕ × List (Option O)). IsKept told base start (opening (0 ∷ 0 ∷ x.0 ∷ []) x.1 first)) (λ k. (sym is k, sym are k)) record {
+      subst (λ (x : ℕ × List (Option O)). IsKept told base start (opening (0 ∷ 0 ∷ x.0 ∷ bells) x.1 first)) (λ k. (sym is k, sym are k)) record {
         tickets = 0;
         serving = 0;
         history = told start;
+        bells = bells;
         words = refl;
         line = record {
           shares = refl;
@@ -326,6 +356,7 @@ module _ {E O B : Type 0} (told : O → List E) (base : O → B) (start : O) whe
     tickets = r.tickets;
     serving = r.serving;
     history = r.history;
+    bells = r.bells;
     words = r.words;
     line = line_split r.tickets r.serving s.views id v at r.line idle free;
     passes = history_split told base start r.history s.views id v at r.passes free;
@@ -340,6 +371,7 @@ module _ {E O B : Type 0} (told : O → List E) (base : O → B) (start : O) whe
         tickets = r.tickets;
         serving = r.serving;
         history = r.history;
+        bells = r.bells;
         words = r.words;
         line = line_join r.tickets r.serving s.views id other v w ne at there r.line idle free idle';
         passes = history_join told base start r.history s.views id other v w ne at there r.passes free share;

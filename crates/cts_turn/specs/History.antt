@@ -39,12 +39,14 @@ module _ {E O B : Type 0} (told : O → List E) (base : O → B) (start : O) whe
       (NoneInTurn views × ((object : O) × (slots ≡ some (Some object) ∷ []) × (told object ≡ history) × (base object ≡ base start)))
       ⊎ SomeInTurn views
 
-  -- The three words count the tickets drawn, the tickets served, and the entries of the history.
+  -- The first three words count the tickets drawn, the tickets served, and the entries of the history. The others
+  -- are bells, at whatever numbers.
   pub record IsKept (s : State (Option O) (View E O)) : Type 0 where
     pub tickets : ℕ
     pub serving : ℕ
     pub history : List E
-    pub words : s.words ≡ (tickets % 2 ^ 64) ∷ (serving % 2 ^ 64) ∷ length history ∷ []
+    pub bells : List ℕ
+    pub words : s.words ≡ (tickets % 2 ^ 64) ∷ (serving % 2 ^ 64) ∷ length history ∷ bells
     pub line : IsLine tickets serving s.views
     pub passes : IsHistory history s.views
     pub slot : KeepsObject history s.homes s.views

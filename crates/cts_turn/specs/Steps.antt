@@ -17,6 +17,10 @@ module _ {E O : Type 0} where
   abbrev pub Compares : Step (Option O) → Held E O → ℕ → Held E O → Type 0
   Compares st m found n = (n ≡ m) × IsPrefix m.0.also m.0.seen × (m.0.share ≤ 65536)
 
+  -- a bell was touched; the seat stays as it was
+  abbrev pub Rings : Step (Option O) → Held E O → ℕ → Held E O → Type 0
+  Rings st m found n = n ≡ m
+
   -- the object was called, and tells the list
   abbrev pub Records : List E → Step (Option O) → Held E O → ℕ → Held E O → Type 0
   Records list st m found n = n ≡ (after_call list m.0, m.1)

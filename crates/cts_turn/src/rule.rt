@@ -1,8 +1,8 @@
 //! The rule that a turn's table keeps, and what each step on it tells.
 //!
 //! Word 0 counts the tickets that were drawn, word 1 those that were served, both modulo 2^64, and
-//! word 2 is the length of the list that the object tells. The slot has the object, or nothing while
-//! a call has it.
+//! word 2 is the length of the list that the object tells. The others are bells, of whose numbers the
+//! rule says nothing. The slot has the object, or nothing while a call has it.
 
 use crate::object::Object;
 use crate::view::View;
@@ -15,6 +15,8 @@ pub(crate) const TICKETS: usize = 0;
 pub(crate) const SERVING: usize = 1;
 
 pub(crate) const LENGTH: usize = 2;
+
+pub(crate) const FIRST_BELL: usize = 3;
 
 pub struct Rule<O> {
     object: PhantomData<O>,
@@ -111,4 +113,13 @@ impl<E, O> Play<Option<O>, View<E, O>> for PassOn {
     ghost use Rattle.cts_turn.specs.Steps.{PassesOn};
 
     ghost then = { PassesOn };
+}
+
+/// A step on a bell.
+pub(crate) struct Ring;
+
+impl<E, O> Play<Option<O>, View<E, O>> for Ring {
+    ghost use Rattle.cts_turn.specs.Steps.{Rings};
+
+    ghost then = { Rings };
 }

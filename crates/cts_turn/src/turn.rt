@@ -5,7 +5,8 @@ ghost use mathlib.Core.List.{IsPrefix};
 
 use crate::object::Object;
 use crate::rule::{
-    Compare, Draw, Halves, LENGTH, PassOn, Record, Recorded, Rule, SERVING, Serve, TICKETS, Whole,
+    Compare, Draw, FIRST_BELL, Halves, LENGTH, PassOn, Record, Recorded, Ring, Rule, SERVING,
+    Serve, TICKETS, Whole,
 };
 use crate::view::View;
 use atomic_table::{Refused, Table};
@@ -15,13 +16,22 @@ use std::hint::spin_loop;
 use std::marker::Brand;
 use std::snapshot::Snapshot;
 use std::sync::Wait;
-use std::thread::yield_now;
 
 /// The parts of a turn's share.
 const PARTS: u32 = 65_536;
 
-/// How often a call looks whether its ticket is served before it yields the processor.
-const SPINS: u32 = 64;
+/// How often a call that is near looks whether its ticket is served before it sleeps: for longer than three
+/// callers that sleep take to wake one after another, so that callers who sleep find back to looking.
+const LOOKS: u32 = 1_000;
+
+/// How many tickets may be served before that of a call that is near.
+const NEAR: u64 = 3;
+
+/// How many bells there are. Up to so many calls that wait each sleep by a bell of their own.
+const BELLS: usize = 64;
+
+/// The words of the table.
+const WORDS: usize = FIRST_BELL + BELLS;
 
 type Seat<O> = atomic_table::Seat<Option<O>, View<<O as Object>::Entry, O>>;
 
@@ -29,7 +39,7 @@ type Seat<O> = atomic_table::Seat<Option<O>, View<<O as Object>::Entry, O>>;
 #[derive(Drop)]
 pub struct Turn<O: Object> {
     table: Table<Option<O>, View<O::Entry, O>, Snapshot<O>, Rule<O>, Global>,
-    ghost sized: { (table.shared.table_id.words ≡ 3) × (table.shared.table_id.slots ≡ 1) },
+    ghost sized: { (table.shared.table_id.words ≡ 67) × (table.shared.table_id.slots ≡ 1) },
 }
 
 /// The right to call a turn's object, and what its holder has seen and made of the object's list.
@@ -48,6 +58,14 @@ pub struct StillOut<O: Object> {
     pub out: u32,
 }
 
+/// The word by which the caller with this ticket sleeps. It is odd where someone may be asleep, and
+/// rises at each ring.
+fn bell_of(ticket: u64) -> usize
+    ensures bell { (3 ≤ result) × (result < 67) }
+{
+    FIRST_BELL + (ticket % BELLS as u64) as usize
+}
+
 impl<O: Object> Turn<O> {
     ghost use Rattle.cts_turn.specs.Views.{with_ticket, at_turn, after_call, after_turn};
     ghost use Rattle.cts_turn.specs.Steps.{TakesTurn};
@@ -63,6 +81,33 @@ impl<O: Object> Turn<O> {
         self.table.shared.fetch_add::<Draw>(seat, TICKETS, 1)
     }
 
+    /// Sleeps until the bell of the ticket rings, or for no time where it is served already.
+    fn sleep<R: Wait>(&self, rt: &R, seat: &mut Seat<O>, ticket: u64)
+        requires own { seat.old.table_id ≡ self.now.table.shared.table_id }
+        ensures own { seat.new.table_id ≡ seat.old.table_id }
+        ensures same { seat.new.me ≡ seat.old.me }
+    {
+        let bell = bell_of(ticket);
+        let odd = self.table.shared.fetch_or::<Ring>(seat, bell, 1) | 1;
+        // Whoever serves the ticket after this look finds the bell odd, and rings it.
+        if self.table.shared.peek(SERVING) != ticket {
+            self.table.shared.park(rt, bell, (odd & 0xffff_ffff) as u32);
+        }
+    }
+
+    /// Rings the bell of a ticket, where someone may be asleep by it.
+    fn ring(&self, seat: &mut Seat<O>, ticket: u64)
+        requires own { seat.old.table_id ≡ self.now.table.shared.table_id }
+        ensures own { seat.new.table_id ≡ seat.old.table_id }
+        ensures same { seat.new.me ≡ seat.old.me }
+    {
+        let bell = bell_of(ticket);
+        if self.table.shared.peek(bell) % 2 == 1 {
+            self.table.shared.fetch_add::<Ring>(seat, bell, 1);
+            self.table.shared.wake_all(bell);
+        }
+    }
+
     /// Waits until the ticket is served, and takes the slot.
     fn wait<R: Wait>(&self, rt: &R, seat: &mut Seat<O>, ticket: u64)
         requires own { seat.old.table_id ≡ self.now.table.shared.table_id }
@@ -71,16 +116,17 @@ impl<O: Object> Turn<O> {
         ensures own { seat.new.table_id ≡ seat.old.table_id }
         ensures turn { TakesTurn O.told O.base seat.old.me seat.new.me }
     {
-        let mut spins = 0;
+        let mut looks = 0;
         for _ in rt.forever() {
-            if self.table.shared.load::<Serve<O>>(seat, SERVING) == ticket {
+            let serving = self.table.shared.load::<Serve<O>>(seat, SERVING);
+            if serving == ticket {
                 return;
             }
-            if spins < SPINS {
-                spins += 1;
+            if looks < LOOKS && ticket.wrapping_sub(serving) <= NEAR {
+                looks += 1;
                 spin_loop();
             } else {
-                yield_now();
+                self.sleep(rt, seat, ticket);
             }
         }
         unreachable!()
@@ -113,7 +159,7 @@ impl<O: Object> Turn<O> {
             .swap::<Record<J>>(seat, LENGTH, object.len());
     }
 
-    /// Puts the object back, and serves the next ticket.
+    /// Puts the object back, serves the next ticket, and wakes its caller and the one after it.
     fn pass_on(&self, seat: &mut Seat<O>, object: O, ticket: u64)
         requires own { seat.old.table_id ≡ self.now.table.shared.table_id }
         requires holds { seat.old.me.1 ≡ (0, None) ∷ [] }
@@ -127,6 +173,9 @@ impl<O: Object> Turn<O> {
         self.table
             .shared
             .store::<PassOn>(seat, SERVING, ticket.wrapping_add(1));
+        self.ring(seat, ticket.wrapping_add(1));
+        // Who comes after it wakes meanwhile, and looks.
+        self.ring(seat, ticket.wrapping_add(2));
     }
 
     /// A turn on the object, and the pass with the whole share of it. Where memory runs out the
@@ -137,7 +186,8 @@ impl<O: Object> Turn<O> {
         ensures pass { IfOk result (λ t. (seen_by t.1 ≡ O.told object) × (made_by t.1 ≡ 0) × (share_of t.1 ≡ 65536)) }
     {
         let first = Snapshot::of(&object);
-        let words = [0, 0, object.len()];
+        let mut words = [0; WORDS];
+        words[LENGTH] = object.len();
         let mut slots = Vec::with_capacity(alloc, 1)?;
         slots.push(Some(object))?;
         match Table::new(alloc, &words, slots, &first) {
