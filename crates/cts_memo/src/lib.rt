@@ -11,10 +11,13 @@ mod entry;
 mod key;
 pub mod laws;
 mod memo;
+mod secret;
 mod seeded;
 mod table;
 
 pub use entry::{Answer, MemoCall, MemoEntry, MemoReply, PutEnd};
 pub use key::Key;
 pub use memo::{Memo, MemoOut, MemoPass};
+pub use secret::{Mixture, Secret};
+pub use seeded::Seeded;
 pub use table::Table;

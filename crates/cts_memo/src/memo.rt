@@ -9,6 +9,7 @@ ghost use Rattle.cts_turn.specs.Passes.{made_by, seen_by, share_of};
 
 use crate::entry::{Answer, MemoCall, MemoReply, PutEnd};
 use crate::key::Key;
+use crate::secret::Secret;
 use crate::table::Table;
 use cts_merge::Finished;
 use cts_num::NoMemory;
@@ -46,12 +47,14 @@ impl Memo {
     ghost use Rattle.cts_memo.specs.Passes.{IsPassOf, IsPublication, params_of};
     ghost use Rattle.cts_memo.specs.Tables.{base_of, told_by};
 
-    /// A memo without entries, and the pass with the whole share of it. The seed is that of the hash of
-    /// keys; no answer depends on it.
-    pub fn start_seeded(
+    /// A memo without entries, with room for so many of them, and the pass with the whole share of it.
+    /// The secret is that of the hash of keys; no answer depends on it. `NoMemory` comes where the room
+    /// can't be had.
+    pub fn start_with_room(
         alloc: Global,
         params: &Params,
-        seed: u64,
+        secret: Secret,
+        entries: usize,
     ) -> Result<(Memo, MemoPass), NoMemory>
         requires { IsParams params.now }
         ensures params { IfOk result (λ m. params_of m.0 ≡ params.now) }
@@ -59,18 +62,35 @@ impl Memo {
         ensures pass { IfOk result (λ m. (seen_by m.1 ≡ []) × (made_by m.1 ≡ 0) × (share_of m.1 ≡ 65536)) }
     {
         let kept = params.try_clone(alloc)?;
-        let (turn, pass) = Turn::start(alloc, Table::new(alloc, params, seed))?;
+        let table = Table::with_room(alloc, params, secret, entries)?;
+        let (turn, pass) = Turn::start(alloc, table)?;
         Ok((Memo { turn, params: kept }, pass))
     }
 
-    /// A memo without entries, and the pass with the whole share of it.
+    /// A memo without entries, whose room grows with them, and the pass with the whole share of it. The
+    /// secret is that of the hash of keys; no answer depends on it.
+    pub fn start_seeded(
+        alloc: Global,
+        params: &Params,
+        secret: Secret,
+    ) -> Result<(Memo, MemoPass), NoMemory>
+        requires { IsParams params.now }
+        ensures params { IfOk result (λ m. params_of m.0 ≡ params.now) }
+        ensures own { IfOk result (λ m. IsPassOf m.0 m.1) }
+        ensures pass { IfOk result (λ m. (seen_by m.1 ≡ []) × (made_by m.1 ≡ 0) × (share_of m.1 ≡ 65536)) }
+    {
+        Memo::start_with_room(alloc, params, secret, 0)
+    }
+
+    /// A memo without entries, and the pass with the whole share of it. Everybody knows the secret of its
+    /// hash, so it is for sinks that nobody picked to do harm.
     pub fn start(alloc: Global, params: &Params) -> Result<(Memo, MemoPass), NoMemory>
         requires { IsParams params.now }
         ensures params { IfOk result (λ m. params_of m.0 ≡ params.now) }
         ensures own { IfOk result (λ m. IsPassOf m.0 m.1) }
         ensures pass { IfOk result (λ m. (seen_by m.1 ≡ []) × (made_by m.1 ≡ 0) × (share_of m.1 ≡ 65536)) }
     {
-        Memo::start_seeded(alloc, params, 0)
+        Memo::start_seeded(alloc, params, Secret::known())
     }
 
     /// The parameters that all entries are made with.

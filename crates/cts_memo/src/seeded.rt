@@ -1,33 +1,31 @@
 //! The hash of a table's keys.
 
-use std::hash::{BuildHasher, DefaultHasher, Hasher};
+use crate::secret::Secret;
+use std::hash::{BuildHasher, FoldHasher, Hasher};
 
-/// Makes hashers that begin with a seed, so that whoever picks the keys without knowing it can't pick
-/// some that collide.
+/// Makes the hashers of keys, which have taken a secret in. They multiply and fold, once for each part of
+/// a key.
 #[derive(Clone, Copy)]
-pub(crate) struct Seeded {
-    seed: u64,
+pub struct Seeded {
+    start: FoldHasher,
 }
 
 impl Seeded {
-    /// Makes hashers that begin with this seed.
-    pub(crate) fn new(seed: u64) -> Seeded {
-        Seeded { seed }
+    /// Makes hashers that begin with this secret.
+    pub fn new(secret: Secret) -> Seeded {
+        let mut start = FoldHasher::default();
+        start.write_u64(secret.low);
+        start.write_u64(secret.high);
+        Seeded { start }
     }
 }
 
 impl BuildHasher for Seeded {
-    ghost use Rattle.std.specs.Prelude.{fold};
-    ghost use Rattle.std.specs.Hash as fed;
-    ghost use Rattle.std.specs.Hash.DefaultHasher as sip;
+    type Hasher = FoldHasher;
 
-    type Hasher = DefaultHasher;
+    ghost build_hasher = { λ s. s.start };
 
-    ghost build_hasher = { λ s. fold sip.write sip.initial (fed.u64 s.seed) };
-
-    fn build_hasher(&self) -> DefaultHasher {
-        let mut hasher = DefaultHasher::new();
-        hasher.write_u64(self.seed);
-        hasher
+    fn build_hasher(&self) -> FoldHasher {
+        self.start
     }
 }

@@ -7,8 +7,10 @@ ghost use Rattle.cts_memo.specs.Sound.{IsSound};
 
 use crate::entry::{Answer, MemoCall, MemoEntry, MemoReply, PutEnd};
 use crate::key::Key;
+use crate::secret::Secret;
 use crate::seeded::Seeded;
 use cts_merge::Finished;
+use cts_num::NoMemory;
 use cts_turn::Object;
 use cts_units::Params;
 use indexmap::IndexMap;
@@ -29,21 +31,28 @@ pub struct Table {
 }
 
 impl Table {
-    ghost use Rattle.std.specs.Prelude.{◌≡◌, slice_get, []};
+    ghost use Rattle.std.specs.Prelude.{◌≡◌, slice_get, [], IfOk};
     ghost use Rattle.cts_memo.specs.Sound.{IsMadeOf};
     ghost use Rattle.cts_memo.specs.Replies.{IsFound, IsPut, after_put};
     ghost use Rattle.cts_memo.specs.Tables.{base_of, told_by};
 
-    /// A table without entries.
-    pub(crate) fn new(alloc: Global, params: &Params, seed: u64) -> Table
+    /// A table without entries, with room for so many of them, or for 2^21 where that is less.
+    pub(crate) fn with_room(
+        alloc: Global,
+        params: &Params,
+        secret: Secret,
+        entries: usize,
+    ) -> Result<Table, NoMemory>
         requires { IsParams params.now }
-        ensures told { told_by result ≡ [] }
-        ensures base { base_of result ≡ params.now }
+        ensures told { IfOk result (λ table. told_by table ≡ []) }
+        ensures base { IfOk result (λ table. base_of table ≡ params.now) }
     {
-        Table {
-            map: IndexMap::with_hasher(alloc, Seeded::new(seed)),
+        let room = entries.min(MAX_ENTRIES);
+        let map = IndexMap::with_capacity_and_hasher(alloc, room, Seeded::new(secret))?;
+        Ok(Table {
+            map,
             params: Snapshot::of(params),
-        }
+        })
     }
 
     /// The entry of a number.
