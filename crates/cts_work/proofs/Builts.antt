@@ -34,25 +34,28 @@ use Rattle.cts_memo.proofs.Positions.{absent_position, stands_position}
 use Rattle.cts_memo.proofs.Numbering.{leaf_of, number_stays, numbered_finished, pair_is, some_entry, entry_is, is_entry}
 use Rattle.cts_work.specs.declared.node.Built.{Built}
 use Rattle.cts_work.specs.Built.{IsBuilt, IsBuiltLeaf, IsKept, IsPairKey}
+use Rattle.cts_work.proofs.Noted.{noted_stays}
 
 -- a leaf that was looked up
 pub have_leaf : (params : Params) (seen : List MemoEntry) (sink : Sink) (key : Key) (n : ℕ) (f : Finished) → key ≡ leaf_key sink
-    → IsSound params seen → slice_get seen n ≡ Some (entry key f) → IsBuiltLeaf seen sink (record { number = Some n; finished = f })
+    → IsSound params seen → slice_get seen n ≡ Some (entry key f) → IsBuiltLeaf seen sink (record { key = Some key; number = Some n; finished = f })
 have_leaf params seen sink key n f is sound at =
     let here : slice_get seen n ≡ Some (entry (leaf_key sink) f) = at ∙ ap (λ k. Some (entry k f)) is in
     record {
       leaf = leaf_of sink f (made_of_all params seen n (entry (leaf_key sink) f) sound here);
       number = stands_position params seen (leaf_key sink) n sound (f, here);
       full = λ none. absurd (cc (none));
+      noted = at;
     }
 
 -- one that was made
 pub kept_leaf : (params : Params) (seen : List MemoEntry) (sink : Sink) (key : Key) (f : Finished) (number : Option ℕ) → key ≡ leaf_key sink
-    → IsSound params seen → IsLeaf sink f → IsKept seen key f number → IsBuiltLeaf seen sink (record { number = number; finished = f })
+    → IsSound params seen → IsLeaf sink f → IsKept seen key f number → IsBuiltLeaf seen sink (record { key = Some key; number = number; finished = f })
 kept_leaf params seen sink key f None is sound leaf kept = record {
   leaf = leaf;
   number = absent_position seen (leaf_key sink) (subst (λ k. IsAbsent seen k) is (kept.0));
   full = λ none. kept.1;
+  noted = tt;
 }
 kept_leaf params seen sink key f (Some n) is sound leaf kept = have_leaf params seen sink key n f is sound kept
 
@@ -84,6 +87,7 @@ module _ (params : Params) (sinks : List Sink) where
         finished = built.finished;
         number = number_stays seen longer sinks t n more (built.number ∙ is) ∙ sym is;
         full = λ none. absurd (let e : None ≡ Some n = sym none ∙ is in cc);
+        noted = noted_stays seen longer more b built.noted;
       }
 
   pub all_stay : (seen longer : List MemoEntry) (ts : List (BinaryTree ShapeNode)) (bs : List Built) → IsPrefix seen longer → length longer ≤ max_entries
@@ -131,11 +135,12 @@ module _ (params : Params) (sinks : List Sink) where
         no_right (Some i) (Some j) is = cc
 
     pub unnumbered_pair : (f : Finished) → (a.number ≡ None) ⊎ (b.number ≡ None) → IsMerged params a.finished.side b.finished.side f
-        → IsBuilt params sinks seen (fork l r m) (record { number = None; finished = f })
+        → IsBuilt params sinks seen (fork l r m) (record { key = None; number = None; finished = f })
     unnumbered_pair f none merged = record {
       finished = merged_finished f merged;
       number = unnumbered none;
       full = λ e. elim none [ inl is ↦ left.full is | inr is ↦ right.full is ];
+      noted = tt;
     }
 
     module _ (key : Key) (is_key : IsPairKey a.number b.number key) where
@@ -163,7 +168,7 @@ module _ (params : Params) (sinks : List Sink) where
           (subst (λ (p : Finished × Finished). IsMerged params p.0.side p.1.side f) (λ k. (sym (x.2) k, sym (y.2) k)) merged)))
 
       -- the pair where it was looked up
-      pub have_pair : (n : ℕ) (f : Finished) → slice_get seen n ≡ Some (entry key f) → IsBuilt params sinks seen (fork l r m) (record { number = Some n; finished = f })
+      pub have_pair : (n : ℕ) (f : Finished) → slice_get seen n ≡ Some (entry key f) → IsBuilt params sinks seen (fork l r m) (record { key = Some key; number = Some n; finished = f })
       have_pair n f at =
           let number : number_of seen sinks (fork l r m) ≡ Some n = number_is ∙ stands_position params seen key n sound (f, at) in
           record {
@@ -171,14 +176,16 @@ module _ (params : Params) (sinks : List Sink) where
                 (numbered_finished params seen sinks (fork l r m) n sound number);
             number = number;
             full = λ none. absurd (cc (none));
+            noted = at;
           }
 
       -- and where it was made
       pub kept_pair : (f : Finished) (number : Option ℕ) → IsMerged params a.finished.side b.finished.side f → IsKept seen key f number
-          → IsBuilt params sinks seen (fork l r m) (record { number = number; finished = f })
+          → IsBuilt params sinks seen (fork l r m) (record { key = Some key; number = number; finished = f })
       kept_pair f None merged kept = record {
         finished = merged_finished f merged;
         number = number_is ∙ absent_position seen key (kept.0);
         full = λ none. kept.1;
+        noted = tt;
       }
       kept_pair f (Some n) merged kept = have_pair n f kept

@@ -1,3 +1,4 @@
+pub mod Noted
 pub mod Builts
 pub mod Misses
 pub mod Nodes
@@ -8,3 +9,4 @@ pub mod Drawn
 pub mod Slots
 pub mod Completing
 pub mod Sent
+pub mod Numbered

@@ -1,17 +1,24 @@
 -- Nodes that were made without the memo, one after another.
-use Rattle.std.proofs.Common.{◌≡◌, ℕ, ◌+◌, ◌-◌, ◌<◌, ◌≤◌, inl, inr, List, [], ◌∷◌, ◌++◌, length, get_or, Option, Some, sym, ap, subst, arith, length-append}
+use Rattle.std.proofs.Common.{◌≡◌, ℕ, ◌+◌, ◌-◌, ◌<◌, ◌≤◌, inl, inr, List, [], ◌∷◌, ◌++◌, length, get_or, Option, Some, Result, Ok, Err, IfOk, Vec, sym, ap, subst, arith, length-append}
 use Rattle.std.proofs.lemmas.Bool.{cases_lt}
-use Rattle.std.proofs.lemmas.List.{get_or_at, get_or_append_left}
+use Rattle.std.proofs.lemmas.List.{get_or_at, get_or_append_left, get_or_default}
+use Rattle.std.proofs.Math.Seq.{get_or-append_right}
 use Rattle.std.proofs.lemmas.Option.{slice_get-get_or}
+use Rattle.std.specs.Global.{Global}
 use Rattle.std.specs.Option.{MatchOption}
 use Rattle.cts_units.specs.declared.params.Sink.{Sink}
 use Rattle.cts_postorder.specs.BinaryTree.{tip, fork}
+use Rattle.cts_postorder.specs.PostOrder.{trees_of}
+use Rattle.cts_postorder.proofs.Growth.{length-trees_of}
+use Rattle.cts_postorder.proofs.Zips.{all_zip-from}
+use Rattle.cts_topo.specs.Shape.{children}
 use Rattle.cts_topo.specs.declared.shape.ShapeNode.TheVariants.{Leaf, Pair}
 use Rattle.cts_merge.specs.declared.side.Finished.{Finished}
 use Rattle.cts_merge.specs.Merge.{IsBeyond, IsLeaf, IsMerged}
 use Rattle.cts_merge.specs.Side.{IsMergeable}
 use Rattle.cts_up.specs.declared.end.UpEnd.{UpEnd}
-use Rattle.cts_up.specs.Plan.{IsBeyondPair, IsFinished, sink_of}
+use Rattle.cts_up.specs.declared.end.UpEnd.TheVariants.{Beyond, NoMemory}
+use Rattle.cts_up.specs.Plan.{IsBeyondPair, IsFinished, IsPlan, sink_of}
 use Rattle.cts_up.proofs.Sides.{sides_merge}
 use Rattle.cts_up.proofs.Unique.{finished_not_beyond, finished_one}
 use Rattle.cts_memo.specs.Passes.{params_of}
@@ -58,6 +65,54 @@ module _ (work : Work) where
       → EndsAt work k end → EndsIn work first root end
   made_end first k root fs end made long below ends =
       ends_at work first k root end (omega (arith, long)) (made_not_beyond first k fs made long) below ends
+
+  -- the nodes of a part more
+  pub made_append : (first k : ℕ) (fs gs : List Finished) → AreMade work first fs → first + length fs ≡ k → AreMade work k gs
+      → AreMade work first (fs ++ gs)
+  made_append first k fs gs made long more = record {
+    each = λ i d h. elim (cases_lt i (length fs)) [
+      | inl w ↦ subst (IsMadeAt work (first + i)) (sym (get_or_append_left fs gs d i w)) (made.each i d w)
+      | inr w ↦
+          let there : k + (i - length fs) ≡ first + i = omega (arith, long, w) in
+          subst (IsMadeAt work (first + i)) (sym (get_or-append_right fs gs i d w))
+          (subst (λ j. IsMadeAt work j (get_or gs (i - length fs) d)) there
+          (more.each (i - length fs) d (omega (arith, h, w, length-append fs gs))))
+    ];
+  }
+
+  -- the end of a part is that of all nodes up to it
+  pub end_after : (first k root all : ℕ) (fs : List Finished) (end : UpEnd) → AreMade work first fs → first + length fs ≡ k → root ≤ all
+      → EndsIn work k root end → EndsIn work first all end
+  end_after first k root all fs (Beyond node) made long below ends = (
+    omega (arith, ends.0),
+    record {
+      from = omega (arith, ends.1.from, long);
+      beyond = ends.1.beyond;
+      none_before = λ j from before. elim (cases_lt j k) [
+        | inl w ↦ made_not_beyond first k fs made long j from w
+        | inr w ↦ ends.1.none_before j w before
+      ];
+    },
+  )
+  end_after first k root all fs NoMemory made long below ends = tt
+
+  -- all nodes are the plan
+  module _ (fs : List Finished) (long : length fs ≡ length work.nodes.now) (made : AreMade work 0 fs) where
+    from_zero : (k : ℕ) (f : Finished) → IsMadeAt work (0 + k) f → IsMadeAt work k f
+    from_zero k f here = let same : 0 + k ≡ k = omega arith in subst (λ j. IsMadeAt work j f) same here
+
+    pub plan_of_made : IsPlan (params_of work.memo.now) work.sinks.now work.nodes.now fs
+    plan_of_made =
+        all_zip-from (IsFinished (params_of work.memo.now) work.sinks.now) (trees_of children work.nodes.now) fs
+        (omega (arith, length-trees_of children work.nodes.now, long))
+        (λ k d e h. subst (λ t. IsFinished (params_of work.memo.now) work.sinks.now t (get_or fs k e))
+        (get_or_default (trees_of children work.nodes.now) k (tip (Leaf 0)) d h)
+        (from_zero k (get_or fs k e) (made.each k e (omega (arith, length-trees_of children work.nodes.now, long, h)))))
+
+  pub planned : (r : Result (Vec Finished Global) UpEnd) → IfOk r (λ v. length v.items ≡ length work.nodes.now) → IfOk r (λ v. AreMade work 0 v.items)
+      → IfOk r (λ v. IsPlan (params_of work.memo.now) work.sinks.now work.nodes.now v.items)
+  planned (Ok v) long made = plan_of_made v.items long made
+  planned (Err end) long made = tt
 
   -- a node's side can be merged
   pub made_merges : (k : ℕ) (f : Finished) → IsReady work → IsMadeAt work k f → IsMergeable f.side

@@ -78,4 +78,5 @@ module _ (params : Params) (sinks : List Sink) (seen : List MemoEntry) where
         finished = subst (λ (o : Option Sink). MatchOption o ⊥ (λ x. IsLeaf x b.finished)) (sym found) leaf.leaf;
         number = ap (option_and_then (λ x. position_of seen (leaf_key x))) found ∙ leaf.number;
         full = leaf.full;
+        noted = leaf.noted;
       }

@@ -1,5 +1,5 @@
 -- What is known of a node that is done with, over a memo.
-use Rattle.std.specs.Prelude.{◌≡◌, ℕ, List, slice_get, slice_index_or, length, Option, Some, None, MatchOption}
+use Rattle.std.specs.Prelude.{◌≡◌, ℕ, List, slice_get, slice_index_or, length, Option, Some, None, MatchOption, IfSome}
 use mathlib.Core.List.{IsPrefix}
 use Rattle.cts_units.specs.declared.params.Sink.{Sink}
 use Rattle.cts_units.specs.declared.params.Params.{Params}
@@ -38,17 +38,23 @@ abbrev pub IsKept : List MemoEntry → Key → Finished → Option ℕ → Type 
 IsKept seen key f number =
     MatchOption number (IsAbsent seen key × (length seen ≡ max_entries)) (λ n. slice_get seen n ≡ Some (entry key f))
 
+-- Where a node has a number the entry of this number has its key and what it is made of.
+abbrev pub IsNoted : List MemoEntry → Built → Type 0
+IsNoted seen b = IfSome b.number (λ n. IfSome b.key (λ key. slice_get seen n ≡ Some (entry key b.finished)))
+
 -- a leaf: what its sink gives, and the position of its key, or a full list without the key
 pub record IsBuiltLeaf (seen : List MemoEntry) (sink : Sink) (b : Built) : Type 0 where
   pub leaf : IsLeaf sink b.finished
   pub number : position_of seen (leaf_key sink) ≡ b.number
   pub full : b.number ≡ None → length seen ≡ max_entries
+  pub noted : IsNoted seen b
 
 -- What a tree's root is made of, and its number in the list, or a full list in which it has none.
 pub record IsBuilt (params : Params) (sinks : List Sink) (seen : List MemoEntry) (t : BinaryTree ShapeNode) (b : Built) : Type 0 where
   pub finished : IsFinished params sinks t b.finished
   pub number : number_of seen sinks t ≡ b.number
   pub full : b.number ≡ None → length seen ≡ max_entries
+  pub noted : IsNoted seen b
 
 -- the tree at a number of a list of nodes
 abbrev pub tree_at : List ShapeNode → ℕ → BinaryTree ShapeNode

@@ -1,4 +1,6 @@
 pub mod Built
+pub mod Known
 pub mod Work
 pub mod Pieces
 pub mod Done
+pub mod Numbered

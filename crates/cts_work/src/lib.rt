@@ -2,16 +2,20 @@
 //!
 //! A layer above has a shape's plan made by one caller with [`rebuild`], which makes no more merges than the memo lacks pairs,
 //! or by many workers with [`build_all`]. Both answer as the upward pass of `cts_up` does, whatever the memo holds and whoever
-//! shares it, and leave every subtree in the memo, or the memo full. A [`Gate`] is called before each piece of the work, and
-//! between a look-up and what is published for it; no answer depends on it.
+//! shares it, and leave every subtree in the memo, or the memo full. What [`build_all`] does comes in two halves too: workers
+//! make the plan with [`plan_all`], and whoever has time brings it into the memo with [`publish_plan`], beside the passes that
+//! want the plan alone. A [`Gate`] is called before each piece of the work, and between a look-up and what is published for it;
+//! no answer depends on it.
 #![tactic(auto)]
 
 mod all;
 mod gate;
+mod known;
 mod making;
 mod node;
 mod part;
 mod pieces;
+mod planning;
 mod publishing;
 mod upward;
 mod work;
@@ -19,4 +23,7 @@ mod workers;
 
 pub use all::build_all;
 pub use gate::{Gate, OpenGate};
-pub use upward::rebuild;
+pub use known::Known;
+pub use planning::plan_all;
+pub use publishing::publish_plan;
+pub use upward::{rebuild, rebuild_with};

@@ -12,7 +12,7 @@ use std::alloc::Global;
 use std::sync::ledger::Ledger;
 
 /// What the node of a number is, by what those before it are, from `first` on.
-fn make_node<L: Ledger>(
+pub(crate) fn make_node<L: Ledger>(
     work: &Work<'_>,
     first: u32,
     node: u32,

@@ -1,6 +1,6 @@
 //! One node over the memo.
 
-ghost use Rattle.std.specs.Prelude.{◌≡◌, ◌+◌, ◌≤◌, ◌∷◌, [], ◌⊎◌, Some, None, IfOk, IfErr, IfSome, IfNone};
+ghost use Rattle.std.specs.Prelude.{◌≡◌, ◌+◌, ◌≤◌, ◌∷◌, [], ◌⊎◌, List, Some, None, IfOk, IfErr, IfSome, IfNone, option_copied};
 ghost use Rattle.cts_merge.specs.Merge.{IsBeyond, IsLeaf, IsMerged};
 ghost use Rattle.cts_merge.specs.Side.{IsMergeable};
 ghost use Rattle.cts_topo.specs.Sinks.{IsPlaced};
@@ -8,9 +8,11 @@ ghost use Rattle.cts_up.specs.Sinks.{IsSinkInRange};
 ghost use Rattle.cts_turn.specs.Passes.{seen_by};
 ghost use Rattle.cts_memo.specs.Keys.{entry};
 ghost use Rattle.cts_memo.specs.Passes.{IsPassOf, params_of};
-ghost use Rattle.cts_memo.specs.Replies.{IsAbsent};
+ghost use Rattle.cts_memo.specs.declared.entry.MemoEntry.{MemoEntry};
+ghost use Rattle.cts_memo.specs.Replies.{IsAbsent, IsFound};
 ghost use Rattle.cts_memo.specs.Sound.{IsMadeOf, NamesEntries, max_entries};
 ghost use Rattle.cts_work.specs.Built.{GoesOn, IsBuiltLeaf, IsKept, IsPairAt, IsPairKey};
+ghost use Rattle.cts_work.specs.Known.{MayKnow};
 ghost use Rattle.cts_work.specs.Work.{EndsAt, IsBuiltAt, IsReady, missing_at};
 
 use crate::gate::Gate;
@@ -26,6 +28,8 @@ use std::sync::ledger::Ledger;
 /// A node that is done with.
 #[derive(Clone, Copy)]
 pub(crate) struct Built {
+    /// Its key, or `None` where one of its parts has no number.
+    pub(crate) key: Option<Key>,
     /// The number of its entry, or `None` where the memo was full.
     pub(crate) number: Option<u32>,
     /// What it is made of.
@@ -56,7 +60,7 @@ pub(crate) fn keep<R: Wait>(
 /// Publishes what was made of a key that was absent, past the gate. Its number, or `None` where the memo
 /// is full.
 fn publish<R: Wait, G: Gate>(
-    worker: &Worker<'_, R, G>,
+    worker: &Worker<'_, '_, R, G>,
     memo: &Memo,
     pass: &mut MemoPass,
     key: Key,
@@ -72,28 +76,75 @@ fn publish<R: Wait, G: Gate>(
     keep(worker.rt, memo, pass, key, finished)
 }
 
+/// What the memo answers for a key, where the worker knows the key's node and its number.
+#[inline(always)]
+fn recall<R, G>(
+    worker: &Worker<'_, '_, R, G>,
+    key: Key,
+    id: Option<u32>,
+    cursor: &mut Option<u32>,
+) -> Option<Answer>
+    ensures { (seen : List MemoEntry) → MayKnow seen (option_copied worker.now.known) → IfSome result (IsFound seen key) }
+{
+    let node = worker.known?.find(key, id, cursor)?;
+    Some(Answer::Have {
+        number: node.number?,
+        finished: node.finished,
+    })
+}
+
+/// What the memo answers for a key: recalled, or asked for. The id is that of a leaf's sink.
+#[inline(always)]
+fn look_up<R: Wait, G: Gate>(
+    worker: &Worker<'_, '_, R, G>,
+    memo: &Memo,
+    pass: &mut MemoPass,
+    key: Key,
+    id: Option<u32>,
+    cursor: &mut Option<u32>,
+) -> Answer
+    requires own { IsPassOf memo.now pass.old }
+    requires key { NamesEntries (seen_by pass.old) key }
+    requires known { MayKnow (seen_by pass.old) (option_copied worker.now.known) }
+    ensures pass { GoesOn memo.now pass.old pass.new }
+    ensures found { IsFound (seen_by pass.new) key result }
+{
+    match recall(worker, key, id, cursor) {
+        Some(answer) => answer,
+        None => memo.ask(worker.rt, pass, key),
+    }
+}
+
 /// The leaf of a sink: looked up, or made and published.
 pub(crate) fn build_leaf<R: Wait, G: Gate>(
-    worker: &Worker<'_, R, G>,
+    worker: &Worker<'_, '_, R, G>,
     memo: &Memo,
     pass: &mut MemoPass,
     sink: &Sink,
+    cursor: &mut Option<u32>,
 ) -> Result<Built, NoMemory>
     requires own { IsPassOf memo.now pass.old }
     requires sink { IsSinkInRange sink.now }
+    requires known { MayKnow (seen_by pass.old) (option_copied worker.now.known) }
     ensures pass { GoesOn memo.now pass.old pass.new }
     ensures built { IfOk result (IsBuiltLeaf (seen_by pass.new) sink.now) }
 {
     let key = Key::of_sink(sink);
-    if let Answer::Have { number, finished } = memo.ask(worker.rt, pass, key) {
+    let answer = look_up(worker, memo, pass, key, Some(sink.id), cursor);
+    if let Answer::Have { number, finished } = answer {
         return Ok(Built {
+            key: Some(key),
             number: Some(number),
             finished,
         });
     }
     let finished = leaf(sink);
     let number = publish(worker, memo, pass, key, finished)?;
-    Ok(Built { number, finished })
+    Ok(Built {
+        key: Some(key),
+        number,
+        finished,
+    })
 }
 
 /// The pair of two sides, with the parameters of the memo.
@@ -136,7 +187,7 @@ pub(crate) fn pair_key(left: Option<u32>, right: Option<u32>) -> Option<Key>
 
 /// A pair whose key is absent: made and published.
 fn make_pair<L: Ledger, R: Wait, G: Gate>(
-    worker: &Worker<'_, R, G>,
+    worker: &Worker<'_, '_, R, G>,
     work: &Work<'_>,
     pass: &mut MemoPass,
     at: PairNumbers,
@@ -160,7 +211,11 @@ fn make_pair<L: Ledger, R: Wait, G: Gate>(
     match merge_sides(work.memo, &a.finished, &b.finished, steps) {
         Ok(finished) => {
             let number = publish(worker, work.memo, pass, key, finished)?;
-            Ok(Built { number, finished })
+            Ok(Built {
+                key: Some(key),
+                number,
+                finished,
+            })
         }
         Err(Beyond) => Err(UpEnd::Beyond { node: at.node }),
     }
@@ -168,13 +223,14 @@ fn make_pair<L: Ledger, R: Wait, G: Gate>(
 
 /// A pair whose two parts have numbers in the memo: looked up, or made and published.
 fn ask_pair<L: Ledger, R: Wait, G: Gate>(
-    worker: &Worker<'_, R, G>,
+    worker: &Worker<'_, '_, R, G>,
     work: &Work<'_>,
     pass: &mut MemoPass,
     at: PairNumbers,
     a: &Built,
     b: &Built,
     key: Key,
+    cursor: &mut Option<u32>,
     steps: &mut Steps<L>,
 ) -> Result<Built, UpEnd>
     requires own { IsPassOf work.now.memo.now pass.old }
@@ -183,13 +239,15 @@ fn ask_pair<L: Ledger, R: Wait, G: Gate>(
     requires a { IsBuiltAt work.now (seen_by pass.old) at.left a.now }
     requires b { IsBuiltAt work.now (seen_by pass.old) at.right b.now }
     requires key { IsPairKey a.now.number b.now.number key }
+    requires known { MayKnow (seen_by pass.old) (option_copied worker.now.known) }
     ensures pass { GoesOn work.now.memo.now pass.old pass.new }
     ensures built { IfOk result (IsBuiltAt work.now (seen_by pass.new) at.node) }
     ensures ends { IfErr result (EndsAt work.now at.node) }
     ensures merges { steps.new ≤ steps.old + missing_at work.now (seen_by pass.old) at.node }
 {
-    match work.memo.ask(worker.rt, pass, key) {
+    match look_up(worker, work.memo, pass, key, None, cursor) {
         Answer::Have { number, finished } => Ok(Built {
+            key: Some(key),
             number: Some(number),
             finished,
         }),
@@ -200,12 +258,13 @@ fn ask_pair<L: Ledger, R: Wait, G: Gate>(
 /// The pair at a number, from its two parts. Above a part that has no number in the memo it is made
 /// without asking.
 pub(crate) fn build_pair<L: Ledger, R: Wait, G: Gate>(
-    worker: &Worker<'_, R, G>,
+    worker: &Worker<'_, '_, R, G>,
     work: &Work<'_>,
     pass: &mut MemoPass,
     at: PairNumbers,
     a: &Built,
     b: &Built,
+    cursor: &mut Option<u32>,
     steps: &mut Steps<L>,
 ) -> Result<Built, UpEnd>
     requires own { IsPassOf work.now.memo.now pass.old }
@@ -213,15 +272,17 @@ pub(crate) fn build_pair<L: Ledger, R: Wait, G: Gate>(
     requires here { IsPairAt work.now.nodes.now at.node at.left at.right }
     requires a { IsBuiltAt work.now (seen_by pass.old) at.left a.now }
     requires b { IsBuiltAt work.now (seen_by pass.old) at.right b.now }
+    requires known { MayKnow (seen_by pass.old) (option_copied worker.now.known) }
     ensures pass { GoesOn work.now.memo.now pass.old pass.new }
     ensures built { IfOk result (IsBuiltAt work.now (seen_by pass.new) at.node) }
     ensures ends { IfErr result (EndsAt work.now at.node) }
     ensures merges { steps.new ≤ steps.old + missing_at work.now (seen_by pass.old) at.node }
 {
     match pair_key(a.number, b.number) {
-        Some(key) => ask_pair(worker, work, pass, at, a, b, key, steps),
+        Some(key) => ask_pair(worker, work, pass, at, a, b, key, cursor, steps),
         None => match merge_sides(work.memo, &a.finished, &b.finished, steps) {
             Ok(finished) => Ok(Built {
+                key: None,
                 number: None,
                 finished,
             }),

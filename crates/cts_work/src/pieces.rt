@@ -1,6 +1,6 @@
 //! The pieces of a shape, which workers build beside each other.
 
-ghost use Rattle.std.specs.Prelude.{◌≡◌, ◌++◌, length, IfOk};
+ghost use Rattle.std.specs.Prelude.{◌≡◌, ◌-◌, ◌*◌, ◌^◌, ◌≤◌, ◌++◌, length, IfOk};
 ghost use Rattle.cts_topo.specs.Shape.{IsShapeOver};
 ghost use Rattle.cts_work.specs.Built.{tree_at};
 ghost use Rattle.cts_work.specs.Pieces.{pieces_of};
@@ -8,6 +8,7 @@ ghost use Rattle.cts_work.specs.Work.{IsPart};
 
 use cts_num::NoMemory;
 use cts_topo::ShapeNode;
+use std::alloc::Global;
 
 /// A part of a shape: the nodes from `first` to `root` are all nodes of the tree at `root`.
 #[derive(Clone, Copy)]
@@ -42,4 +43,28 @@ pub(crate) fn divide(
             divide(nodes, count, left + 1, right, lots / 2, pieces)
         }
     }
+}
+
+/// The pieces of a shape for so many workers, with four lots for each.
+pub(crate) fn pieces_for(
+    alloc: Global,
+    nodes: &[ShapeNode],
+    count: usize,
+    workers: u32,
+) -> Result<Vec<Piece>, NoMemory>
+    requires shape { IsShapeOver count nodes.now }
+    requires few { workers ≤ 64 }
+    requires most { count ≤ 2 ^ 31 }
+    ensures { IfOk result (λ pieces. pieces.items ≡ pieces_of 0 (4 * workers) (tree_at nodes.now (length nodes.now - 1))) }
+{
+    let mut pieces = Vec::new(alloc);
+    divide(
+        nodes,
+        count,
+        0,
+        nodes.len() as u32 - 1,
+        4 * workers,
+        &mut pieces,
+    )?;
+    Ok(pieces)
 }

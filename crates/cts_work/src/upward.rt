@@ -10,8 +10,10 @@ ghost use Rattle.cts_turn.specs.Passes.{seen_by, share_of};
 ghost use Rattle.cts_memo.specs.Numbers.{AreKnown, missing};
 ghost use Rattle.cts_memo.specs.Passes.{IsPassOf, params_of};
 ghost use Rattle.cts_memo.specs.Sound.{max_entries};
+ghost use Rattle.cts_work.specs.Known.{MayKnow};
 
 use crate::gate::Gate;
+use crate::known::Known;
 use crate::node::Built;
 use crate::part::build_part;
 use crate::work::{Work, Worker};
@@ -29,6 +31,55 @@ pub(crate) fn finished_of(alloc: Global, built: &[Built]) -> Result<Vec<Finished
     ensures { IfOk result (λ plan. plan.items ≡ map (λ node. node.finished) built.now) }
 {
     built.iter().map(|node| node.finished).collect(alloc)
+}
+
+/// The plan of a shape over sinks, which is that of [`rebuild`]. The memo is asked only for the nodes that
+/// aren't known of the tree before.
+///
+/// Afterwards the nodes of this tree are known, or none where they are too many or memory runs out. Where
+/// there is no plan those stay that were known before.
+pub fn rebuild_with<L: Ledger, R: Wait, G: Gate>(
+    rt: &R,
+    alloc: Global,
+    memo: &Memo,
+    pass: &mut MemoPass,
+    gate: &G,
+    number: u32,
+    sinks: &[Sink],
+    shape: &Shape,
+    known: &mut Option<Known>,
+    steps: &mut Steps<L>,
+) -> Result<Vec<Finished>, UpEnd>
+    requires own { IsPassOf memo.now pass.old }
+    requires sinks { AreSinksInRange sinks.now }
+    requires shape { IsShapeOver (length sinks.now) shape.now }
+    requires kept { MayKnow (seen_by pass.old) known.old }
+    ensures own { IsPassOf memo.now pass.new }
+    ensures share { share_of pass.new ≡ share_of pass.old }
+    ensures goes_on { IsPrefix (seen_by pass.old) (seen_by pass.new) }
+    ensures plan { IfOk result (λ plan. IsPlan (params_of memo.now) sinks.now shape.now plan.items) }
+    ensures ends { IfErr result (Ends (params_of memo.now) sinks.now shape.now) }
+    ensures known { OnOk result ((length (seen_by pass.new) ≡ max_entries) ⊎ AreKnown (seen_by pass.new) sinks.now shape.now) }
+    ensures kept { MayKnow (seen_by pass.new) known.new }
+    ensures merges { steps.new ≤ steps.old + missing (seen_by pass.old) sinks.now shape.now }
+{
+    let nodes = shape.nodes();
+    let work = Work { memo, sinks, nodes };
+    let worker = Worker {
+        rt,
+        gate,
+        number,
+        known: known.as_ref(),
+    };
+    let root = nodes.len() as u32 - 1;
+    match build_part(&worker, &work, alloc, pass, 0, root, steps) {
+        Ok(built) => {
+            let plan = finished_of(alloc, &built)?;
+            *known = Known::of(alloc, &work, built);
+            Ok(plan)
+        }
+        Err(end) => Err(end),
+    }
 }
 
 /// The plan of a shape over sinks, as the upward pass gives it with the memo's parameters, whatever the
@@ -60,12 +111,8 @@ pub fn rebuild<L: Ledger, R: Wait, G: Gate>(
     ensures known { OnOk result ((length (seen_by pass.new) ≡ max_entries) ⊎ AreKnown (seen_by pass.new) sinks.now shape.now) }
     ensures merges { steps.new ≤ steps.old + missing (seen_by pass.old) sinks.now shape.now }
 {
-    let nodes = shape.nodes();
-    let work = Work { memo, sinks, nodes };
-    let worker = Worker { rt, gate, number };
-    let root = nodes.len() as u32 - 1;
-    match build_part(&worker, &work, alloc, pass, 0, root, steps) {
-        Ok(built) => Ok(finished_of(alloc, &built)?),
-        Err(end) => Err(end),
-    }
+    let mut known = None;
+    rebuild_with(
+        rt, alloc, memo, pass, gate, number, sinks, shape, &mut known, steps,
+    )
 }

@@ -29,19 +29,19 @@ leaf_of_key params seen sink key f is leaf =
     } in
     subst (λ k. IsMadeOf params seen k f) (sym is) made
 
-pub ask-requires-clause-own : goal.ask-requires-clause-own
-ask-requires-clause-own g c = c.requires.own
+pub look_up-answer-requires-clause-own : goal.look_up-answer-requires-clause-own
+look_up-answer-requires-clause-own g c κs within = c.requires.own
 
-pub ask-requires-clause-key : goal.ask-requires-clause-key
-ask-requires-clause-key g c = leaf_names (seen_by c.args.pass.now) c.args.sink.now c.of_sink-key.result c.of_sink-key.ensures
+pub look_up-answer-requires-clause-key : goal.look_up-answer-requires-clause-key
+look_up-answer-requires-clause-key g c κs within = leaf_names (seen_by c.args.pass.now) c.args.sink.now c.of_sink-key.result c.of_sink-key.ensures
 
 pub returns-in-Have-clause-built : goal.returns-in-Have-clause-built
 returns-in-Have-clause-built g c =
-    have_leaf _ (seen_by c.ask.new.pass) c.args.sink.now c.of_sink-key.result c.in-Have.number c.in-Have.finished c.of_sink-key.ensures
-    c.in-Have.ensures.own.sound c.in-Have.ensures.found
+    have_leaf _ (seen_by c.look_up-answer.new.pass) c.args.sink.now c.of_sink-key.result c.in-Have.number c.in-Have.finished c.of_sink-key.ensures
+    c.look_up-answer.ensures.pass.own.sound c.in-Have.ensures.found
 
 pub publish-requires-clause-key : goal.publish-requires-clause-key
-publish-requires-clause-key g c κs within = leaf_names (seen_by c.ask.new.pass) c.args.sink.now c.of_sink-key.result c.of_sink-key.ensures
+publish-requires-clause-key g c κs within = leaf_names (seen_by c.look_up-answer.new.pass) c.args.sink.now c.of_sink-key.result c.of_sink-key.ensures
 
 pub returns-clause-built : goal.returns-clause-built
 returns-clause-built g c =
@@ -49,11 +49,11 @@ returns-clause-built g c =
     c.of_sink-key.ensures c.publish.ensures.pass.own.sound c.leaf-finished.ensures.leaf c.in_ok-number.ensures.kept
 
 pub publish-requires-clause-own : goal.publish-requires-clause-own
-publish-requires-clause-own g c κs within = c.ask.ensures.own
+publish-requires-clause-own g c κs within = c.look_up-answer.ensures.pass.own
 
 pub publish-requires-clause-finished : goal.publish-requires-clause-finished
 publish-requires-clause-finished g c κs within =
-    leaf_of_key (params_of c.args.memo.now) (seen_by c.ask.new.pass) c.args.sink.now c.of_sink-key.result c.leaf-finished.result
+    leaf_of_key (params_of c.args.memo.now) (seen_by c.look_up-answer.new.pass) c.args.sink.now c.of_sink-key.result c.leaf-finished.result
     c.of_sink-key.ensures c.leaf-finished.ensures.leaf
 
 pub returns-in_err-number-clause-built : goal.returns-in_err-number-clause-built

@@ -6,6 +6,7 @@ use Rattle.cts_up.specs.Plan.{IsBeyondPair}
 use Rattle.cts_work.specs.Built.{IsBuilt}
 use Rattle.cts_work.proofs.Builts.{sound_for, params_within, mergeable, pair_beyond, unnumbered, unnumbered_pair}
 use Rattle.cts_work.proofs.Misses.{one_merge}
+use Rattle.cts_work.proofs.Nodes.{stands_still}
 use Rattle.cts_work.proofs.node.build_pair.Goals as goal
 
 pub merge_sides-requires-clause-a : goal.merge_sides-requires-clause-a
@@ -20,7 +21,7 @@ merge_sides-requires-clause-b g c =
 
 pub returns-in-Ok-clause-built : goal.returns-in-Ok-clause-built
 returns-in-Ok-clause-built g c =
-    subst (λ t. IsBuilt (params_of c.args.work.now.memo.now) c.args.work.now.sinks.now (seen_by c.args.pass.now) t (record { number = None; finished = c.in-Ok.finished }))
+    subst (λ t. IsBuilt (params_of c.args.work.now.memo.now) c.args.work.now.sinks.now (seen_by c.args.pass.now) t (record { key = None; number = None; finished = c.in-Ok.finished }))
     (sym c.requires.here)
     (unnumbered_pair (params_of c.args.work.now.memo.now) c.args.work.now.sinks.now (seen_by c.args.pass.now) (sound_for c.args.work.now.memo.now c.args.pass.now c.requires.own)
     _ _ (Pair c.args.at.left c.args.at.right) c.args.a.now c.args.b.now c.requires.a c.requires.b c.in-Ok.finished c.in-None.ensures.none
@@ -49,3 +50,9 @@ returns-in-Err-clause-merges g c =
     (unnumbered (params_of c.args.work.now.memo.now) c.args.work.now.sinks.now (seen_by c.args.pass.now) (sound_for c.args.work.now.memo.now c.args.pass.now c.requires.own)
     _ _ (Pair c.args.at.left c.args.at.right) c.args.a.now c.args.b.now c.requires.a c.requires.b c.in-None.ensures.none)
     c.merge_sides.ensures.tick
+
+pub returns-in-Ok-clause-pass : goal.returns-in-Ok-clause-pass
+returns-in-Ok-clause-pass g c = stands_still c.args.work.now.memo.now c.args.pass.now c.requires.own
+
+pub returns-in-Err-clause-pass : goal.returns-in-Err-clause-pass
+returns-in-Err-clause-pass g c = stands_still c.args.work.now.memo.now c.args.pass.now c.requires.own

@@ -1,4 +1,4 @@
-use Rattle.std.proofs.Common.{sym, subst, refl, ◌∙◌}
+use Rattle.std.proofs.Common.{Some, sym, subst, refl, ◌∙◌}
 use Rattle.cts_turn.specs.Passes.{seen_by}
 use Rattle.cts_memo.specs.Passes.{params_of}
 use Rattle.cts_topo.specs.declared.shape.ShapeNode.TheVariants.{Pair}
@@ -46,7 +46,7 @@ returns-in_ok-number-in-Ok-clause-built g c =
     let pass = c.publish.ensures.pass in
     let a = built_stays params sinks (seen_by c.args.pass.now) (seen_by c.publish.new.pass) _ c.args.a.now pass.goes_on pass.own.short c.requires.a in
     let b = built_stays params sinks (seen_by c.args.pass.now) (seen_by c.publish.new.pass) _ c.args.b.now pass.goes_on pass.own.short c.requires.b in
-    subst (λ t. IsBuilt params sinks (seen_by c.publish.new.pass) t (record { number = c.in_ok-number-in-Ok.number; finished = c.in-Ok.finished }))
+    subst (λ t. IsBuilt params sinks (seen_by c.publish.new.pass) t (record { key = Some c.args.key; number = c.in_ok-number-in-Ok.number; finished = c.in-Ok.finished }))
     (sym c.requires.here)
     (kept_pair params sinks (seen_by c.publish.new.pass) (sound_for c.args.work.now.memo.now c.publish.new.pass pass.own)
     _ _ (Pair c.args.at.left c.args.at.right) c.args.a.now c.args.b.now a b c.args.key c.requires.key

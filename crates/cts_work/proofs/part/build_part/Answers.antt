@@ -1,6 +1,7 @@
 use Rattle.std.proofs.Common.{◌+◌, ◌-◌, ◌∷◌, [], length, sym, ap, subst, arith, length-append}
 use Rattle.cts_turn.specs.Passes.{seen_by}
 use Rattle.cts_work.specs.Work.{AreBuilt}
+use Rattle.cts_work.proofs.Noted.{may_stay}
 use Rattle.cts_work.proofs.Nodes.{stands_still, goes_further}
 use Rattle.cts_work.proofs.Parts.{part_ordered, next_fits, starts_from, none_built, built_push, ends_here, merges_next, merges_within}
 use Rattle.cts_work.proofs.part.build_part.Goals as goal
@@ -32,11 +33,15 @@ build_node-requires-clause-starts g c κs within =
     c.requires.part c.loop-node.invariant.from (omega (arith, c.loop-node-test.true))
 
 pub build_node-requires-clause-long : goal.build_node-requires-clause-long
-build_node-requires-clause-long g c κs within = omega (arith, c.loop-node.invariant.long, ap length c.as_slice.ensures.value)
+build_node-requires-clause-long g c κs within = omega (arith, c.loop-node.invariant.long, ap length c.as_slice-before.ensures.value)
 
 pub build_node-requires-clause-before : goal.build_node-requires-clause-before
 build_node-requires-clause-before g c κs within =
-    subst (AreBuilt c.args.work.now (seen_by c.loop-node.pass) c.args.first) (sym c.as_slice.ensures.value) c.loop-node.invariant.built
+    subst (AreBuilt c.args.work.now (seen_by c.loop-node.pass) c.args.first) (sym c.as_slice-before.ensures.value) c.loop-node.invariant.built
+
+pub build_node-requires-clause-known : goal.build_node-requires-clause-known
+build_node-requires-clause-known g c κs within =
+    may_stay (seen_by c.args.pass.now) (seen_by c.loop-node.pass) c.loop-node.invariant.pass.goes_on _ c.requires.known
 
 pub returns-in_err-push-in-Ok-clause-pass : goal.returns-in_err-push-in-Ok-clause-pass
 returns-in_err-push-in-Ok-clause-pass g c =

@@ -1,0 +1,90 @@
+//! The nodes of the last tree, which are found again without a search.
+
+ghost use Rattle.std.specs.Prelude.{◌≡◌, ◌+◌, ◌≤◌, length, IfSome};
+ghost use Rattle.cts_work.specs.Known.{IsOneOf};
+
+use crate::node::Built;
+use crate::work::Work;
+use cts_memo::Key;
+use cts_topo::ShapeNode;
+use std::alloc::{AllocError, Global};
+
+/// The most nodes of a tree that is kept: those of 65,536 sinks, which take some 15 MB.
+const MOST_NODES: usize = 1 << 17;
+
+/// The nodes of a tree that was built over a memo, so that the next tree asks the memo for the others
+/// alone.
+///
+/// In post-order a pair stands right after its right part. So the node of a key is looked for at the
+/// place after the one where the node before it was found, and that of a leaf also where the leaf of its
+/// sink stood. A node counts only where its key is the one that is looked for.
+#[derive(Drop)]
+pub struct Known {
+    pub(crate) nodes: Vec<Built>,
+    /// Where the leaf of a sink stands, by the last bits of its id. Ids may share these bits.
+    places: Vec<u32>,
+}
+
+/// The last bits of a sink's id, for so many places.
+fn last_bits(id: u32, places: usize) -> usize {
+    id as usize & places.wrapping_sub(1)
+}
+
+/// Where the leaves of a shape stand among its nodes, by the last bits of their sinks' ids.
+fn places_of(alloc: Global, work: &Work<'_>) -> Result<Vec<u32>, AllocError>
+    requires few { length work.now.nodes.now ≤ 131072 }
+{
+    let mut places = vec![in alloc; 0; work.nodes.len().next_power_of_two()]?;
+    let count = places.len();
+    for (place, node) in work.nodes.iter().enumerate() {
+        let ShapeNode::Leaf { sink } = *node else {
+            continue;
+        };
+        if let Some(sink) = work.sinks.get(sink as usize) {
+            if let Some(noted) = places.get_mut(last_bits(sink.id, count)) {
+                *noted = place as u32;
+            }
+        }
+    }
+    Ok(places)
+}
+
+impl Known {
+    /// The nodes of a work, unless they are too many to keep, or memory runs out.
+    pub(crate) fn of(alloc: Global, work: &Work<'_>, nodes: Vec<Built>) -> Option<Known>
+        ensures { IfSome result (λ known. known.nodes ≡ nodes) }
+    {
+        if work.nodes.len() > MOST_NODES {
+            return None;
+        }
+        let places = places_of(alloc, work).ok()?;
+        Some(Known { nodes, places })
+    }
+
+    /// The node at the cursor, where it has this key. The cursor goes on to the place after it, or to
+    /// none.
+    fn follow(&self, key: Key, cursor: &mut Option<u32>) -> Option<Built>
+        ensures { IfSome result (IsOneOf self.now.nodes.items key) }
+    {
+        let place = cursor.take()?;
+        let node = self.nodes.get(place as usize)?;
+        let own = node.key?;
+        if own != key {
+            return None;
+        }
+        *cursor = place.checked_add(1);
+        Some(*node)
+    }
+
+    /// The node of a key, where it stands at the cursor, or, as the leaf of a sink with this id, where
+    /// such a leaf stood.
+    pub(crate) fn find(&self, key: Key, id: Option<u32>, cursor: &mut Option<u32>) -> Option<Built>
+        ensures { IfSome result (IsOneOf self.now.nodes.items key) }
+    {
+        if let Some(node) = self.follow(key, cursor) {
+            return Some(node);
+        }
+        *cursor = self.places.get(last_bits(id?, self.places.len())).copied();
+        self.follow(key, cursor)
+    }
+}
