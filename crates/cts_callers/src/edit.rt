@@ -8,6 +8,7 @@ ghost use Rattle.cts_callers.specs.Runs.{IsLastTree, IsRun};
 
 use crate::callers::{Served, run_from};
 use crate::reply::Reply;
+use crate::secret::secret_of;
 use cts_design::Entry;
 use cts_elmore::Figures;
 use cts_instance::Instance;
@@ -91,7 +92,8 @@ pub fn run_callers<R: Threads + Wait + Sync, G: Gate>(
     requires few { length scripts.now ≤ 65536 }
     ensures { IfOk result (IsRun instance scripts.now) }
 {
-    let (desk, hands) = Desk::start(alloc, instance)?;
+    let secret = secret_of(&instance, scripts);
+    let (desk, hands) = Desk::start(alloc, instance, secret)?;
     let Served { replies, hands } = run_from(rt, alloc, gate, &desk, hands, 1, scripts);
     let replies = replies?;
     let mut session = Session::of(&desk, hands, 0);

@@ -11,6 +11,7 @@ mod callers;
 mod edit;
 pub mod laws;
 mod reply;
+mod secret;
 
 pub use edit::{Run, run_callers};
 pub use reply::Reply;

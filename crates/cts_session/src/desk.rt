@@ -15,7 +15,7 @@ ghost use Rattle.cts_design.specs.Sound.{IsSound as IsHistory};
 
 use cts_design::{Design, Entry};
 use cts_instance::Instance;
-use cts_memo::{Memo, MemoPass, Table};
+use cts_memo::{Memo, MemoPass, Secret, Table};
 use cts_num::NoMemory;
 use cts_turn::{Pass, Turn};
 use cts_units::Sink;
@@ -79,19 +79,6 @@ fn lists_of(design: Turn<Design>, pass: Pass<Design>) -> (Vec<Entry>, Vec<Sink>)
     }
 }
 
-/// A number that all sinks have a part in.
-fn seed_of(sinks: &[Sink]) -> u64 {
-    let mut seed = 0;
-    for sink in sinks {
-        for part in [sink.x.unsigned_abs(), sink.y.unsigned_abs(), sink.cap] {
-            seed = (seed ^ part)
-                .wrapping_mul(0x9e37_79b9_7f4a_7c15)
-                .rotate_left(29);
-        }
-    }
-    seed
-}
-
 impl Desk {
     ghost use Rattle.std.specs.Prelude.{◌≡◌, length, IfOk, IfErr};
     ghost use Rattle.cts_instance.specs.Validity.{IsValid, with_sinks};
@@ -99,15 +86,18 @@ impl Desk {
     ghost use Rattle.cts_design.specs.Sound.{IsSound as IsHistory};
     ghost use Rattle.cts_session.specs.Desks.{AreHandsOf, AreDivisible, AreJoined, AreWhole, IsTableOf, base_of, known_by, at_start, greater_half, lesser_half};
 
-    /// The desk of an instance without edits, and the hands with the whole share of it. Where memory
-    /// runs out the instance is dropped.
-    pub fn start(alloc: Global, instance: Instance) -> Result<(Desk, Hands), NoMemory>
+    /// The desk of an instance without edits, and the hands with the whole share of it. The secret is that
+    /// of the memo's hash; no answer depends on it. Where memory runs out the instance is dropped.
+    pub fn start(
+        alloc: Global,
+        instance: Instance,
+        secret: Secret,
+    ) -> Result<(Desk, Hands), NoMemory>
         ensures base { IfOk result (λ d. base_of d.0 ≡ instance) }
         ensures own { IfOk result (λ d. AreHandsOf d.0 d.1) }
         ensures hands { IfOk result (λ d. known_by d.1 ≡ at_start) }
     {
-        let seed = seed_of(instance.sinks());
-        let (memo, memo_pass) = Memo::start_seeded(alloc, instance.params(), seed)?;
+        let (memo, memo_pass) = Memo::start_seeded(alloc, instance.params(), secret)?;
         let (design, design_pass) = Design::start(alloc, &instance)?;
         let desk = Desk {
             instance,

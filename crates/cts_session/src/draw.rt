@@ -12,6 +12,7 @@ ghost use Rattle.cts_turn.specs.Passes.{made_by, seen_by, share_of};
 ghost use Rattle.cts_memo.specs.Numbers.{missing};
 ghost use Rattle.cts_memo.specs.Passes.{params_of};
 ghost use Rattle.cts_memo.specs.Passes.{IsPassOf as IsMemoPassOf};
+ghost use Rattle.cts_work.specs.Known.{MayKnow};
 ghost use Rattle.cts_design.specs.Passes.{instance_of};
 ghost use Rattle.cts_design.specs.Passes.{IsPassOf as IsDesignPassOf};
 ghost use Rattle.cts_session.specs.Desks.{AreHandsOf, GoesOn, base_of, known_by, version_of};
@@ -28,7 +29,7 @@ use cts_plain::{NoTree, finish};
 use cts_topo::topology;
 use cts_tree::Tree;
 use cts_turn::{Pass, Turn};
-use cts_work::{Gate, rebuild};
+use cts_work::{Gate, Known, rebuild_with};
 use std::alloc::Global;
 use std::sync::Wait;
 use std::sync::ledger::Ledger;
@@ -100,13 +101,15 @@ pub(crate) fn instance_now<R: Wait>(
 /// The synthesis of an instance, whose plan is made over the memo.
 ///
 /// The memo is as good as empty for the answer, which is that of the synthesis by one thread; it saves
-/// the merges of the pairs that have a number in it. Where the plan has no node beyond the memo has
-/// afterwards a number for every node of the tree, or is full.
+/// the merges of the pairs that have a number in it. It is asked only for the nodes that aren't known of
+/// the tree before; afterwards those of this tree are known. Where the plan has no node beyond the memo
+/// has afterwards a number for every node of the tree, or is full.
 pub(crate) fn draw<L: Ledger, R: Wait, G: Gate>(
     rt: &R,
     alloc: Global,
     memo: &Memo,
     pass: &mut MemoPass,
+    known: &mut Option<Known>,
     gate: &G,
     caller: u32,
     instance: &Instance,
@@ -114,6 +117,7 @@ pub(crate) fn draw<L: Ledger, R: Wait, G: Gate>(
 ) -> Result<(Tree, Figures), NoTree>
     requires own { IsMemoPassOf memo.now pass.old }
     requires params { params_of memo.now ≡ instance.now.params }
+    requires kept { MayKnow (seen_by pass.old) known.old }
     ensures own { IsMemoPassOf memo.now pass.new }
     ensures share { share_of pass.new ≡ share_of pass.old }
     ensures goes_on { IsPrefix (seen_by pass.old) (seen_by pass.new) }
@@ -126,26 +130,31 @@ pub(crate) fn draw<L: Ledger, R: Wait, G: Gate>(
     ensures ends { IfErr result (Ends instance.now) }
     ensures known { OnOk result (KnowsTree instance.now (seen_by pass.new)) }
     ensures known_until { IfErr result (KnowsUntil instance.now (seen_by pass.new)) }
+    ensures kept { MayKnow (seen_by pass.new) known.new }
     ensures merges { steps.new ≤ steps.old + missing (seen_by pass.old) instance.now.sinks (shape_of instance.now.sinks) }
 {
     let sinks = instance.sinks();
     let shape = topology(alloc, sinks)?;
-    let plan = rebuild(rt, alloc, memo, pass, gate, caller, sinks, &shape, steps)?;
+    let plan = rebuild_with(
+        rt, alloc, memo, pass, gate, caller, sinks, &shape, known, steps,
+    )?;
     finish(alloc, instance, &shape, &plan)
 }
 
 /// The tree of the sinks as they are when it is this call's turn. Nothing of an earlier draw is kept but
-/// the memo.
+/// the memo, and the nodes that are known of its tree.
 pub(crate) fn draw_now<L: Ledger, R: Wait, G: Gate>(
     rt: &R,
     alloc: Global,
     desk: &Desk,
     hands: &mut Hands,
+    known: &mut Option<Known>,
     gate: &G,
     caller: u32,
     steps: &mut Steps<L>,
 ) -> Result<Drawn, TreeEnd>
     requires own { AreHandsOf desk.now hands.old }
+    requires kept { MayKnow (seen_by hands.old.memo) known.old }
     ensures own { AreHandsOf desk.now hands.new }
     ensures goes_on { GoesOn (known_by hands.old) (known_by hands.new) }
     ensures known { known_by hands.new ≡ record (known_by hands.old) {
@@ -156,6 +165,7 @@ pub(crate) fn draw_now<L: Ledger, R: Wait, G: Gate>(
     ensures drawn { IfOk result (IsDrawn (base_of desk.now) (known_by hands.new).edits) }
     ensures ends { IfErr result (EndsDraw (base_of desk.now) (known_by hands.new).edits) }
     ensures remembered { OnOk result (KnowsTree (version_of (base_of desk.now) (known_by hands.new).edits) (known_by hands.new).entries) }
+    ensures kept { MayKnow (seen_by hands.new.memo) known.new }
     ensures remembered_until { IfErr result (KnowsAtEnd (version_of (base_of desk.now) (known_by hands.new).edits) (known_by hands.new).entries) }
     ensures merges { let sinks = (version_of (base_of desk.now) (known_by hands.new).edits).sinks in
         steps.new ≤ steps.old + missing (known_by hands.old).entries sinks (shape_of sinks) }
@@ -172,6 +182,7 @@ pub(crate) fn draw_now<L: Ledger, R: Wait, G: Gate>(
         alloc,
         &desk.memo,
         &mut hands.memo,
+        known,
         gate,
         caller,
         &instance,

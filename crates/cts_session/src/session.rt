@@ -4,18 +4,20 @@ use crate::desk::{Desk, Hands};
 use crate::draw::{Drawn, TreeEnd, draw_now};
 use cts_design::{Edit, EditReply, Entry, send_edit};
 use cts_merge::Steps;
-use cts_work::Gate;
+use cts_work::{Gate, Known};
 use std::alloc::Global;
 use std::marker::Model;
 use std::sync::Wait;
 use std::sync::ledger::Ledger;
 
-/// A caller at a desk: hands of its own, and the number by which the desk knows it.
+/// A caller at a desk: hands of its own, and the number by which the desk knows it. It keeps the nodes of
+/// its last tree, until it is split, joined or ended.
 #[derive(Drop)]
 pub struct Session<'a> {
     desk: &'a Desk,
     hands: Hands,
     caller: u32,
+    known: Option<Known>,
 }
 
 impl<'a> Model for Session<'a> {
@@ -24,6 +26,8 @@ impl<'a> Model for Session<'a> {
     ghost use Rattle.cts_session.specs.contracts.desk.Hands as hands_type;
     ghost use Rattle.cts_session.specs.Desks.{AreHandsOf};
     ghost use Rattle.cts_session.specs.Sessions.{AtDesk};
+    ghost use Rattle.cts_turn.specs.Passes.{seen_by};
+    ghost use Rattle.cts_work.specs.Known.{MayKnow};
 
     ghost Value = { AtDesk };
 
@@ -31,7 +35,7 @@ impl<'a> Model for Session<'a> {
 
     ghost view = { λ session. record { desk = session.desk.now; hands = session.hands; caller = session.caller } };
 
-    ghost invariant = { λ session. AreHandsOf session.desk.now session.hands };
+    ghost invariant = { λ session. AreHandsOf session.desk.now session.hands × MayKnow (seen_by session.hands.memo) session.known };
 }
 
 impl<'a> Session<'a> {
@@ -54,6 +58,7 @@ impl<'a> Session<'a> {
             desk,
             hands,
             caller,
+            known: None,
         }
     }
 
@@ -79,6 +84,7 @@ impl<'a> Session<'a> {
             desk,
             hands,
             caller: own,
+            known: _,
         } = self;
         let (first, second) = desk.split(hands);
         (
@@ -99,6 +105,7 @@ impl<'a> Session<'a> {
             desk,
             hands,
             caller,
+            known: _,
         } = self;
         let hands = desk.join(hands, other.hands);
         Session::of(desk, hands, caller)
@@ -134,7 +141,7 @@ impl<'a> Session<'a> {
     /// accepted so far, its version; or why there is none.
     ///
     /// The tree is that of the synthesis by one thread. The memo saves the merges of the pairs that have a
-    /// number in it, and the gate is called with the session's number where a node is made. Afterwards the
+    /// number in it; it is asked only for the nodes that the session's last tree didn't have, and the gate is called with the session's number where a node is made. Afterwards the
     /// memo has a number for every node of the tree, or is full; so it does where there is no tree, but for
     /// a node that is beyond in the plan. No turn is held while the tree is made.
     pub fn tree<L: Ledger, R: Wait, G: Gate>(
@@ -161,6 +168,7 @@ impl<'a> Session<'a> {
     {
         let desk = self.desk;
         let caller = self.caller;
-        draw_now(rt, alloc, desk, &mut self.hands, gate, caller, steps)
+        let known = &mut self.known;
+        draw_now(rt, alloc, desk, &mut self.hands, known, gate, caller, steps)
     }
 }

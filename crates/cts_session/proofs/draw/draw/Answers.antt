@@ -16,10 +16,10 @@ returns-clause-ends g c =
 
 pub returns-clause-known : goal.returns-clause-known
 returns-clause-known g c =
-    known_where_made c.args.instance.now c.sinks-sinks.result.now c.in_ok-shape.shape (seen_by c.rebuild.new.pass) c.finish.result
+    known_where_made c.args.instance.now c.sinks-sinks.result.now c.in_ok-shape.shape (seen_by c.rebuild_with.new.pass) c.finish.result
     c.sinks-sinks.ensures.part c.in_ok-shape.ensures.definition c.in_ok-plan.ensures.known
 
 pub returns-clause-known_until : goal.returns-clause-known_until
 returns-clause-known_until g c =
-    known_until_end c.args.instance.now c.sinks-sinks.result.now c.in_ok-shape.shape (seen_by c.rebuild.new.pass) c.finish.result
+    known_until_end c.args.instance.now c.sinks-sinks.result.now c.in_ok-shape.shape (seen_by c.rebuild_with.new.pass) c.finish.result
     c.sinks-sinks.ensures.part c.in_ok-shape.ensures.definition c.in_ok-plan.ensures.known
