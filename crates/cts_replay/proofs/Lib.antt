@@ -1,2 +1,4 @@
 pub mod Going
 pub mod Drawing
+pub mod OneSynthesis
+pub mod OneReply
