@@ -16,3 +16,4 @@ pub mod TrunkKinds
 pub mod TautTrunk
 pub mod Trunks
 pub mod Replaying
+pub mod Sent

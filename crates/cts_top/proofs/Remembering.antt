@@ -40,39 +40,31 @@ use Rattle.cts_plain.proofs.Valid.{synthesis_same}
 abbrev Made : Type 0
 Made = Result (List TreeNode × Figures) NoTree
 
--- what is known of a plan is known where there is a tree
-with_tree : {P : Type 0} (i : Parts) → IsValid i → (shape : List ShapeNode) → shape ≡ shape_of i.sinks → (plan : Result P UpEnd) (K : Type 0)
-    → OnOk plan K → IfErr plan (Ends i.params i.sinks shape) → (IsErrOf plan up.NoMemory → ⊥)
-    → (tree : List TreeNode) → IsSynthesis i (made tree) → K
-with_tree i valid shape e (Ok p) K known ends not tree is = known
-with_tree i valid shape e (Err (up.Beyond n)) K known ends not tree is =
-    let other : IsSynthesis i (beyond n) = inl (subst (λ s. IsLeastBeyond i.params i.sinks s n) e ends) in
-    let same : made tree ≡ beyond n = synthesis_same i valid (made tree) (beyond n) is other in
-    absurd cc
-with_tree i valid shape e (Err up.NoMemory) K known ends not tree is = absurd (not refl)
+-- the table in which the plan of an instance was published
+pub memo_of : (i : Parts) (shape : List ShapeNode) → shape ≡ shape_of i.sinks → (table : Table) → base_of table ≡ i.params
+    → IsSound (base_of table) (told_by table) → (length (told_by table) ≡ max_entries) ⊎ AreKnown (told_by table) i.sinks shape → IsMemoOf i table
+memo_of i shape e table base sound known = record {
+  base = base;
+  sound = subst (λ p. IsSound p (told_by table)) base sound;
+  known = λ tree is. subst (λ s. (length (told_by table) ≡ max_entries) ⊎ AreKnown (told_by table) i.sinks s) e known;
+}
 
--- memory didn't run out where a table is kept
-not_kept : (synthesis : Made) (table : Table) → IsKept synthesis (Some table) → IsErrOf synthesis end.NoMemory → ⊥
-not_kept (Ok r) table k e = cc
-not_kept (Err (end.Beyond n)) table k e = cc
-not_kept (Err (end.Cut n)) table k e = cc
-not_kept (Err end.NoMemory) table k e = k refl
+-- and one of an instance that has no plan
+pub memo_beyond : (i : Parts) → IsValid i → (shape : List ShapeNode) → shape ≡ shape_of i.sinks → (n : ℕ) → IsLeastBeyond i.params i.sinks shape n
+    → (table : Table) → base_of table ≡ i.params → IsSound (base_of table) (told_by table) → IsMemoOf i table
+memo_beyond i valid shape e n ends table base sound = record {
+  base = base;
+  sound = subst (λ p. IsSound p (told_by table)) base sound;
+  known = λ tree is.
+      let other : IsSynthesis i (beyond n) = inl (subst (λ s. IsLeastBeyond i.params i.sinks s n) e ends) in
+      let same : made tree ≡ beyond n = synthesis_same i valid (made tree) (beyond n) is other in
+      absurd cc;
+}
 
-pub memo_of : {P : Type 0} (i : Parts) → IsValid i → (shape : List ShapeNode) → shape ≡ shape_of i.sinks → (plan : Result P UpEnd) (synthesis : Made)
-    (table : Table) → base_of table ≡ i.params → IsSound (base_of table) (told_by table)
-    → OnOk plan ((length (told_by table) ≡ max_entries) ⊎ AreKnown (told_by table) i.sinks shape) → IfErr plan (Ends i.params i.sinks shape)
-    → (IsErrOf plan up.NoMemory → IsErrOf synthesis end.NoMemory)
-    → (memo : Option Table) → IsKept synthesis memo → IfSome memo (λ kept. kept ≡ table) → IfSome memo (IsMemoOf i)
-memo_of i valid shape e plan synthesis table base sound known ends out None kept same = tt
-memo_of i valid shape e plan synthesis table base sound known ends out (Some t) kept same =
-    subst (IsMemoOf i) (sym same)
-    (record {
-      base = base;
-      sound = subst (λ p. IsSound p (told_by table)) base sound;
-      known = λ tree is.
-          subst (λ s. (length (told_by table) ≡ max_entries) ⊎ AreKnown (told_by table) i.sinks s) e
-          (with_tree i valid shape e plan _ known ends (λ n. not_kept synthesis t kept (out n)) tree is);
-    })
+-- the table that is kept of a synthesis is its memo
+pub kept_memo : (i : Parts) (table : Table) (memo : Option Table) → IsMemoOf i table → IfSome memo (λ kept. kept ≡ table) → IfSome memo (IsMemoOf i)
+kept_memo i table None is same = tt
+kept_memo i table (Some t) is same = subst (IsMemoOf i) (sym same) is
 
 -- a written text tells of the tree, whole or in part
 pub tells_ended : (written : Result Unit WriteEnd) (kind : Answer) → TellsOfTree (status_of (Ok kind)) → TellsOfTree (status_of (ended_of written kind))

@@ -1,11 +1,13 @@
 //! The synthesis of an instance by many workers, over a memo.
 
-ghost use Rattle.std.specs.Prelude.{◌≡◌, ◌≤◌, ◌⊎◌, ◌↔◌, length, IfOk, IfErr, IfSome, IsErrOf, IsSome, OnOk};
+ghost use Rattle.std.specs.Prelude.{◌≡◌, ◌≤◌, ◌⊎◌, length, IfOk, IfSome, OnOk};
 ghost use Rattle.cts_topo.specs.Shape.{IsShapeOver};
 ghost use Rattle.cts_topo.specs.Topology.{shape_of};
 ghost use Rattle.cts_up.specs.Ends.{Ends};
 ghost use Rattle.cts_up.specs.Plan.{IsPlan};
+ghost use Rattle.cts_turn.specs.Passes.{seen_by, share_of};
 ghost use Rattle.cts_memo.specs.Numbers.{AreKnown};
+ghost use Rattle.cts_memo.specs.Passes.{IsPassOf, params_of};
 ghost use Rattle.cts_memo.specs.Sound.{IsSound, max_entries};
 ghost use Rattle.cts_memo.specs.Tables.{base_of, told_by};
 ghost use Rattle.cts_top.specs.Memos.{IsKept, IsMemoOf};
@@ -14,79 +16,190 @@ ghost use Rattle.cts_top.specs.Synthesised.{IsSynthesised};
 use crate::valid::instance_is_valid;
 use cts_elmore::Figures;
 use cts_instance::Instance;
-use cts_memo::{Memo, Table};
+use cts_memo::laws::memo_is_shared;
+use cts_memo::{Memo, MemoPass, Secret, Table};
 use cts_merge::Finished;
 use cts_num::NoMemory;
 use cts_plain::{NoTree, finish};
 use cts_topo::{Shape, topology};
 use cts_tree::Tree;
-use cts_units::Sink;
 use cts_up::UpEnd;
-use cts_work::{Gate, build_all};
+use cts_work::{Gate, plan_all, publish_plan};
 use std::alloc::Global;
-use std::hash::{DefaultHasher, Hasher};
 use std::sync::Wait;
-use std::thread::Threads;
+use std::thread::{Threads, join};
 
-/// A seed for the hash of a memo's keys: a hash of all the sinks, so that who picks sinks whose keys
-/// collide under one seed gets another seed by it. No answer depends on it.
-fn seed_of(sinks: &[Sink]) -> u64 {
-    let mut hasher = DefaultHasher::new();
-    for sink in sinks {
-        hasher.write_u32(sink.id);
-        hasher.write_i64(sink.x);
-        hasher.write_i64(sink.y);
-        hasher.write_u64(sink.cap);
-    }
-    hasher.finish()
+/// What a synthesis comes to, and the table of its memo.
+type Made = (Result<(Tree, Figures), NoTree>, Table);
+
+/// Brings the plan of an instance into the memo. The pass comes back.
+fn publish<R: Wait, G: Gate>(
+    rt: &R,
+    alloc: Global,
+    gate: &G,
+    memo: &Memo,
+    mut pass: MemoPass,
+    instance: &Instance,
+    shape: &Shape,
+    plan: &[Finished],
+    workers: u32,
+) -> (Result<(), NoMemory>, MemoPass)
+    requires own { IsPassOf memo.now pass }
+    requires params { params_of memo.now ≡ instance.now.params }
+    requires shape { IsShapeOver (length instance.now.sinks) shape.now }
+    requires plan { IsPlan instance.now.params instance.now.sinks shape.now plan.now }
+    requires few { workers ≤ 64 }
+    ensures own { IsPassOf memo.now result.1 }
+    ensures share { share_of result.1 ≡ share_of pass }
+    ensures known { OnOk result.0 ((length (seen_by result.1) ≡ max_entries) ⊎ AreKnown (seen_by result.1) instance.now.sinks shape.now) }
+{
+    let sinks = instance.sinks();
+    let published = publish_plan(
+        rt, alloc, gate, memo, &mut pass, sinks, shape, plan, workers,
+    );
+    (published, pass)
 }
 
-/// The plan of a shape over an instance's sinks, made by so many workers, and the table of the memo in
-/// which it was published.
-fn plan_by_workers<R: Threads + Wait + Sync, G: Gate>(
+/// The table of a memo whose passes are all joined.
+fn closed(memo: Memo, pass: MemoPass) -> Table
+    requires own { IsPassOf memo pass }
+    requires whole { share_of pass ≡ 65536 }
+    ensures told { told_by result ≡ seen_by pass }
+    ensures base { base_of result ≡ params_of memo }
+    ensures sound { IsSound (base_of result) (told_by result) }
+{
+    match memo.close(pass) {
+        Ok(table) => table,
+        // The share is whole.
+        Err(_) => unreachable!(),
+    }
+}
+
+/// What the plan of an instance comes to.
+fn finish_plan(
+    alloc: Global,
+    instance: &Instance,
+    shape: &Shape,
+    plan: &[Finished],
+) -> Result<(Tree, Figures), NoTree>
+    requires definition { shape.now ≡ shape_of instance.now.sinks }
+    requires shape { IsShapeOver (length instance.now.sinks) shape.now }
+    requires plan { IsPlan instance.now.params instance.now.sinks shape.now plan.now }
+    ensures { IsSynthesised instance.now result }
+{
+    instance_is_valid(instance);
+    finish(alloc, instance, shape, plan)
+}
+
+/// What the plan of an instance comes to, while a thread of its own brings it into the memo.
+fn finish_beside<R: Threads + Wait + Sync, G: Gate>(
+    rt: &R,
+    alloc: Global,
+    gate: &G,
+    memo: Memo,
+    pass: MemoPass,
+    instance: &Instance,
+    shape: &Shape,
+    plan: &[Finished],
+    workers: u32,
+) -> Result<Made, NoMemory>
+    requires definition { shape.now ≡ shape_of instance.now.sinks }
+    requires own { IsPassOf memo pass }
+    requires whole { share_of pass ≡ 65536 }
+    requires params { params_of memo ≡ instance.now.params }
+    requires shape { IsShapeOver (length instance.now.sinks) shape.now }
+    requires plan { IsPlan instance.now.params instance.now.sinks shape.now plan.now }
+    requires few { workers ≤ 64 }
+    ensures synthesised { IfOk result (λ made. IsSynthesised instance.now made.0) }
+    ensures memo { IfOk result (λ made. IsMemoOf instance.now made.1) }
+{
+    memo_is_shared();
+    let shared = &memo;
+    let bring = move || -> (Result<(), NoMemory>, MemoPass)
+        requires { IsPassOf shared.now pass × (params_of shared.now ≡ instance.now.params) × IsShapeOver (length instance.now.sinks) shape.now
+            × IsPlan instance.now.params instance.now.sinks shape.now plan.now × (workers ≤ 64) }
+        ensures { IsPassOf shared.entry.now result.1 × (share_of result.1 ≡ share_of pass)
+            × OnOk result.0 ((length (seen_by result.1) ≡ max_entries) ⊎ AreKnown (seen_by result.1) instance.entry.now.sinks shape.entry.now) }
+    {
+        publish(
+            rt, alloc, gate, shared, pass, instance, shape, plan, workers,
+        )
+    };
+    let go_on = move || -> Result<(Tree, Figures), NoTree>
+        requires { (shape.now ≡ shape_of instance.now.sinks) × IsShapeOver (length instance.now.sinks) shape.now
+            × IsPlan instance.now.params instance.now.sinks shape.now plan.now }
+        ensures { IsSynthesised instance.entry.now result }
+    { finish_plan(alloc, instance, shape, plan) };
+    let (published, synthesis) = join(rt, bring, go_on);
+    let (published, pass) = published;
+    published?;
+    Ok((synthesis, closed(memo, pass)))
+}
+
+/// What an instance comes to that has no plan, with the table of its memo.
+fn without_plan(
+    instance: &Instance,
+    shape: &Shape,
+    memo: Memo,
+    pass: MemoPass,
+    end: UpEnd,
+) -> Result<Made, NoMemory>
+    requires definition { shape.now ≡ shape_of instance.now.sinks }
+    requires own { IsPassOf memo pass }
+    requires whole { share_of pass ≡ 65536 }
+    requires params { params_of memo ≡ instance.now.params }
+    requires ends { Ends instance.now.params instance.now.sinks shape.now end }
+    ensures synthesised { IfOk result (λ made. IsSynthesised instance.now made.0) }
+    ensures memo { IfOk result (λ made. IsMemoOf instance.now made.1) }
+{
+    instance_is_valid(instance);
+    match end {
+        UpEnd::Beyond { node } => Ok((Err(NoTree::Beyond { node }), closed(memo, pass))),
+        UpEnd::NoMemory => Err(NoMemory),
+    }
+}
+
+/// What the synthesis of an instance over its shape comes to.
+fn make_over<R: Threads + Wait + Sync, G: Gate>(
     rt: &R,
     alloc: Global,
     gate: &G,
     instance: &Instance,
     shape: &Shape,
     workers: u32,
-) -> Result<(Result<Vec<Finished>, UpEnd>, Table), NoMemory>
+) -> Result<Made, NoMemory>
+    requires definition { shape.now ≡ shape_of instance.now.sinks }
     requires shape { IsShapeOver (length instance.now.sinks) shape.now }
     requires some { 1 ≤ workers }
     requires few { workers ≤ 64 }
-    ensures plan { IfOk result (λ r. IfOk r.0 (λ plan. IsPlan instance.now.params instance.now.sinks shape.now plan.items)) }
-    ensures ends { IfOk result (λ r. IfErr r.0 (Ends instance.now.params instance.now.sinks shape.now)) }
-    ensures base { IfOk result (λ r. base_of r.1 ≡ instance.now.params) }
-    ensures sound { IfOk result (λ r. IsSound (base_of r.1) (told_by r.1)) }
-    ensures known { IfOk result (λ r. OnOk r.0 ((length (told_by r.1) ≡ max_entries) ⊎ AreKnown (told_by r.1) instance.now.sinks shape.now)) }
+    ensures synthesised { IfOk result (λ made. IsSynthesised instance.now made.0) }
+    ensures memo { IfOk result (λ made. IsMemoOf instance.now made.1) }
 {
     let sinks = instance.sinks();
-    let (memo, pass) = Memo::start_seeded(alloc, instance.params(), seed_of(sinks))?;
-    let (plan, pass) = build_all(rt, alloc, &memo, pass, gate, sinks, shape, workers);
-    match memo.close(pass) {
-        Ok(table) => Ok((plan, table)),
-        // All passes are joined, so the share is whole.
-        Err(_) => unreachable!(),
+    let secret = Secret::of_sinks(sinks);
+    let nodes = shape.nodes().len();
+    let (memo, pass) = Memo::start_with_room(alloc, instance.params(), secret, nodes)?;
+    match plan_all(rt, alloc, &memo, gate, sinks, shape, workers) {
+        Ok(plan) => finish_beside(rt, alloc, gate, memo, pass, instance, shape, &plan, workers),
+        Err(end) => without_plan(instance, shape, memo, pass, end),
     }
 }
 
-/// The tree of that plan, with its figures; or why there is none.
-fn finish_plan(
+/// What the synthesis of an instance comes to.
+fn make<R: Threads + Wait + Sync, G: Gate>(
+    rt: &R,
     alloc: Global,
+    gate: &G,
     instance: &Instance,
-    shape: &Shape,
-    plan: Result<Vec<Finished>, UpEnd>,
-) -> Result<(Tree, Figures), NoTree>
-    requires definition { shape.now ≡ shape_of instance.now.sinks }
-    requires shape { IsShapeOver (length instance.now.sinks) shape.now }
-    requires plan { IfOk plan (λ plan. IsPlan instance.now.params instance.now.sinks shape.now plan.items) }
-    requires ends { IfErr plan (Ends instance.now.params instance.now.sinks shape.now) }
-    ensures synthesised { IsSynthesised instance.now result }
-    ensures no_memory { IsErrOf plan UpEnd.NoMemory → IsErrOf result NoTree.NoMemory }
+    workers: u32,
+) -> Result<Made, NoMemory>
+    requires some { 1 ≤ workers }
+    requires few { workers ≤ 64 }
+    ensures synthesised { IfOk result (λ made. IsSynthesised instance.now made.0) }
+    ensures memo { IfOk result (λ made. IsMemoOf instance.now made.1) }
 {
-    instance_is_valid(instance);
-    let plan = plan?;
-    finish(alloc, instance, shape, &plan)
+    let shape = topology(alloc, instance.sinks())?;
+    make_over(rt, alloc, gate, instance, &shape, workers)
 }
 
 /// The table of a synthesis, unless memory ran out for it.
@@ -97,34 +210,6 @@ fn kept(synthesis: &Result<(Tree, Figures), NoTree>, table: Table) -> Option<Tab
     match synthesis {
         Err(NoTree::NoMemory) => None,
         _ => Some(table),
-    }
-}
-
-/// The synthesis of an instance over its shape, and the table of the memo.
-fn synthesise_over<R: Threads + Wait + Sync, G: Gate>(
-    rt: &R,
-    alloc: Global,
-    gate: &G,
-    instance: &Instance,
-    shape: &Shape,
-    workers: u32,
-) -> (Result<(Tree, Figures), NoTree>, Option<Table>)
-    requires definition { shape.now ≡ shape_of instance.now.sinks }
-    requires shape { IsShapeOver (length instance.now.sinks) shape.now }
-    requires some { 1 ≤ workers }
-    requires few { workers ≤ 64 }
-    ensures synthesised { IsSynthesised instance.now result.0 }
-    ensures kept { IsKept result.0 result.1 }
-    ensures memo { IfSome result.1 (IsMemoOf instance.now) }
-{
-    instance_is_valid(instance);
-    match plan_by_workers(rt, alloc, gate, instance, shape, workers) {
-        Ok((plan, table)) => {
-            let synthesis = finish_plan(alloc, instance, shape, plan);
-            let memo = kept(&synthesis, table);
-            (synthesis, memo)
-        }
-        Err(NoMemory) => (Err(NoTree::NoMemory), None),
     }
 }
 
@@ -143,8 +228,11 @@ pub fn synthesise_by_workers<R: Threads + Wait + Sync, G: Gate>(
     ensures kept { IsKept result.0 result.1 }
     ensures memo { IfSome result.1 (IsMemoOf instance.now) }
 {
-    match topology(alloc, instance.sinks()) {
-        Ok(shape) => synthesise_over(rt, alloc, gate, instance, &shape, workers),
+    match make(rt, alloc, gate, instance, workers) {
+        Ok((synthesis, table)) => {
+            let memo = kept(&synthesis, table);
+            (synthesis, memo)
+        }
         Err(NoMemory) => (Err(NoTree::NoMemory), None),
     }
 }
