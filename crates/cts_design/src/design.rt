@@ -96,7 +96,7 @@ impl Design {
     ghost use Rattle.cts_design.specs.Replies.{Allows};
 
     /// The design of an instance that has no edits yet.
-    pub(crate) fn of(alloc: Global, instance: &Instance) -> Result<Design, NoMemory>
+    pub fn of(alloc: Global, instance: &Instance) -> Result<Design, NoMemory>
         ensures base { IfOk result (λ design. base_of design ≡ instance.now) }
         ensures told { IfOk result (λ design. told_by design ≡ []) }
     {
@@ -124,8 +124,8 @@ impl Design {
         cause_by(&self.die, facts, edit)
     }
 
-    /// Judges an edit, and makes it where it is accepted.
-    fn change(&mut self, entry: Entry) -> EditReply
+    /// Judges an edit, and makes it where it is accepted. A refusal and want of memory change nothing.
+    pub fn change(&mut self, entry: Entry) -> EditReply
         requires { IsEdit entry.edit }
         ensures base { base_of self.new ≡ base_of self.old }
         ensures reply { IsDecided (base_of self.old) (told_by self.old) entry.edit result }

@@ -1,11 +1,12 @@
 //! Edits of the sinks of an instance, and the versions of the sinks that they make.
 //!
-//! A [`Design`] has the sinks of an instance and the edits that were accepted so far, its history. It is
-//! the object of a turn: threads share it, each with a pass of its own. [`send_edit`] judges an edit and
-//! makes it where it is accepted, as `cts_edit` says; [`snapshot`] lists the sinks. The layers above may
-//! use that each call meets a history that begins with all that its pass had seen, that an accepted edit
-//! is appended there once, and that the sinks of a snapshot are those after the history that the pass
-//! then has seen, which are valid with the other parts of the instance.
+//! A [`Design`] has the sinks of an instance and the edits that were accepted so far, its history. One
+//! that is owned judges each edit in about constant time and makes it where it is accepted, as `cts_edit`
+//! says. It is also the object of a turn: threads share it, each with a pass of its own, [`send_edit`]
+//! sends an edit to it, and [`snapshot`] lists the sinks. The layers above may use that each call meets a
+//! history that begins with all that its pass had seen, that an accepted edit is appended there once, and
+//! that the sinks of a snapshot are those after the history that the pass then has seen, which are valid
+//! with the other parts of the instance.
 #![tactic(auto)]
 
 mod call;

@@ -12,5 +12,5 @@ mod reply;
 mod words;
 
 pub use history::{put_entries, put_length_of, write_history};
-pub use reply::put_reply;
+pub use reply::{put_cause, put_reply};
 pub use words::{put_count, put_whole, put_word};

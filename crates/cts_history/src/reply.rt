@@ -77,8 +77,9 @@ fn put_changed<K: ByteSink>(out: &mut SinkBuffer, sink: &mut K, reply: EditReply
     }
 }
 
+/// The cause that refuses an edit.
 #[tactic(auto, unfolding(crate::specs::History::cause_words))]
-fn put_cause<K: ByteSink>(out: &mut SinkBuffer, sink: &mut K, cause: EditCause)
+pub fn put_cause<K: ByteSink>(out: &mut SinkBuffer, sink: &mut K, cause: EditCause)
     ensures { Puts K.ByteSink (sink.old, out.old) (sink.new, out.new) (after_space (cause_words cause)) }
 {
     match cause {
