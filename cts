@@ -1,10 +1,14 @@
 #!/bin/sh
-# Runs the clock tree synthesiser, or under the name cts-draw the program that draws a tree. Where its program is missing, or
-# a source is newer, tools/build proves and builds it first; where that fails, the status is 125. All words and streams are
-# the program's own, but for --help or --version alone, and --unproved before others.
+# Runs the clock tree synthesiser, or under the name cts-draw the program that draws a tree, and under cts-after the one that
+# tells the instance after edits. Where its program is missing, or a source is newer, tools/build proves and builds it first;
+# where that fails, the status is 125. All words and streams are the program's own, but for --help or --version alone, and
+# --unproved before others.
 self=$0 main=cts_main
 while
-    [ "${self##*/}" != cts-draw ] || main=cts_draw_main
+    case ${self##*/} in
+    cts-draw) main=cts_draw_main ;;
+    cts-after) main=cts_after_main ;;
+    esac
     [ -L "$self" ]
 do
     to=$(readlink "$self") || exit 125

@@ -1,0 +1,5 @@
+pub mod Inputs
+pub mod Noting
+pub mod Refusals
+pub mod Unique
+pub mod GoOn

@@ -1,0 +1,6 @@
+pub mod EditParts
+pub mod EntryParts
+pub mod EntryPieces
+pub mod HistoryPieces
+pub mod EntryLoops
+pub mod Openings
