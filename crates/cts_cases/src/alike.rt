@@ -1,20 +1,11 @@
 //! One text, whoever makes it: the forms with workers beside the same forms of one thread, and the verdict on that text.
 
-use crate::{case, show};
-use cts_io::{MemSink, MemSource};
-use cts_top::{Status, run};
+use crate::runs::{Ran, Streams, over, words_of};
+use crate::show;
 use cts_work::OpenGate;
 use std::io;
 use std::sync::Wait;
 use std::thread::Threads;
-
-/// What a run comes to: its status, what was written, and the notes.
-#[derive(Drop)]
-pub(crate) struct Ran {
-    pub(crate) status: Status,
-    pub(crate) output: MemSink,
-    pub(crate) notes: MemSink,
-}
 
 /// Runs some words on a text.
 pub(crate) fn answer<R: AllocGlobal + Threads + Wait + Sync>(
@@ -22,27 +13,20 @@ pub(crate) fn answer<R: AllocGlobal + Threads + Wait + Sync>(
     words: &str,
     text: &[u8],
 ) -> io::Result<Ran> {
-    let alloc = rt.alloc();
-    let words = case::words_of(alloc, words)?;
-    let mut source = MemSource::new(text.to_vec(alloc)?, Vec::new(alloc), 1 << 20);
-    let mut output = case::much(alloc)?;
-    let mut notes = case::much(alloc)?;
-    let gate = OpenGate;
-    let outcome = run(
-        rt,
-        alloc,
-        &words,
-        &mut source,
-        &mut output,
-        &mut notes,
-        &gate,
-    );
-    let status = outcome.status;
-    Ok(Ran {
-        status,
-        output,
-        notes,
-    })
+    let words = words_of(rt.alloc(), words)?;
+    over(rt, &OpenGate, &words, text, Streams::of(1 << 20, 1 << 20))
+}
+
+/// Prints how some words end on a text, and their note.
+pub(crate) fn end<R: AllocGlobal + Threads + Wait + Sync + Print>(
+    rt: &R,
+    words: &str,
+    name: &str,
+    text: &[u8],
+) -> io::Result<()> {
+    let ran = answer(rt, words, text)?;
+    println!(rt; "{words} of {name}: {:?}", ran.status)?;
+    show::text(rt, ran.notes.bytes())
 }
 
 /// Prints how the first of the words ends, and for each of the others whether it ends so too, with the same bytes.

@@ -1,13 +1,10 @@
 //! Trees as deep as a list, of another maker: a check that goes down by calls, or that sums on past a limit, is seen.
 
+use crate::runs::{Streams, over, words_of};
 use crate::show;
-use cts_io::{MemSink, MemSource};
-use cts_num::NoMemory;
-use cts_top::run;
 use cts_work::OpenGate;
-use std::alloc::Global;
 use std::fmt::Write;
-use std::io::{self, ErrorKind};
+use std::io;
 use std::sync::Wait;
 use std::thread::Threads;
 
@@ -26,38 +23,20 @@ const WIRES: [(&str, &str); 3] = [
 
 /// Prints the verdicts on reports of trees in which every pair but the lowest has a leaf on its right.
 pub(crate) fn check<R: AllocGlobal + Threads + Wait + Sync + Print>(rt: &R) -> io::Result<()> {
-    let alloc = rt.alloc();
-    let mut words = Vec::new(alloc);
-    words.push(String::from_str(alloc, "check")?)?;
     for (wire, length) in WIRES {
-        let mut text = String::new(alloc);
+        let mut text = String::new(rt.alloc());
         write_instance(&mut text, wire)?;
         write_report(&mut text, length)?;
-        let mut source = MemSource::new(text.into_bytes(), Vec::new(alloc), 1 << 20);
-        let mut output = sink(alloc)?;
-        let mut notes = sink(alloc)?;
-        let gate = OpenGate;
-        let outcome = run(
-            rt,
-            alloc,
-            &words,
-            &mut source,
-            &mut output,
-            &mut notes,
-            &gate,
-        );
-        println!(rt; "{:?}", outcome.status)?;
-        show::text(rt, output.bytes())?;
+        judge(rt, text.as_bytes())?;
     }
     Ok(())
 }
 
-fn sink(alloc: Global) -> io::Result<MemSink> {
-    MemSink::new(alloc, 4_096, Vec::new(alloc), 4_096).map_err(no_memory)
-}
-
-fn no_memory(_: NoMemory) -> io::Error {
-    io::Error::from(ErrorKind::OutOfMemory)
+fn judge<R: AllocGlobal + Threads + Wait + Sync + Print>(rt: &R, text: &[u8]) -> io::Result<()> {
+    let words = words_of(rt.alloc(), "check")?;
+    let ran = over(rt, &OpenGate, &words, text, Streams::of(1 << 20, 1 << 20))?;
+    println!(rt; "{:?}", ran.status)?;
+    show::text(rt, ran.output.bytes())
 }
 
 /// An instance with all of its sinks at the source.

@@ -11,19 +11,25 @@
 //! - `~8+ TEXT` puts TEXT after line 8.
 //!
 //! So the lines `~ one-sink` and `~8 sink 1 3 4 5 0` are that base with another line 8. A text whose bytes matter, as
-//! one with CR LF, is written out.
+//! one with CR LF, is written out. The word `cts-draw` before all others stands for the program of that name.
 //!
-//! Last it writes some long numbers, reads an instance with as many sinks and blocks as there may be, checks trees as
-//! deep as a list, compares what one worker and many write, and hands the nearest-pair topology as many sinks as it takes
-//! and one more.
+//! A case whose line begins with `%*` puts its text to hostile use (`src/hostile.rt`): each front of it, reads and writes
+//! of a few bytes, and each read and each write failing once. It prints how many runs of each kind end as the whole
+//! text does, and how the others end.
+//!
+//! Last it writes some long numbers, reads an instance with as many sinks and blocks as there may be and scripts with a
+//! step too many, checks trees as deep as a list, compares what one worker and many write, and hands the nearest-pair
+//! topology as many sinks as it takes and one more.
 #![tactic(auto)]
 
 mod alike;
 mod case;
 mod decimals;
 mod deep;
+mod hostile;
 mod many;
 mod near;
+mod runs;
 mod show;
 mod text;
 
@@ -39,6 +45,7 @@ fn main(rt: HostRuntime) -> io::Result<()> {
     }
     decimals::write(&rt)?;
     many::read(&rt)?;
+    many::step(&rt)?;
     deep::check(&rt)?;
     alike::check(&rt)?;
     near::check(&rt)

@@ -1,8 +1,12 @@
-//! As many sinks and blocks as there may be: a reader that gives up early for want of memory is seen.
+//! As many sinks and blocks as there may be: a reader that gives up early for want of memory is seen. And one step more
+//! than there may be.
 
+use crate::alike;
 use cts_read::read_instance;
 use std::fmt::Write;
 use std::io;
+use std::sync::Wait;
+use std::thread::Threads;
 
 /// The greatest number of sinks.
 const SINKS: u32 = 65_536;
@@ -10,6 +14,9 @@ const SINKS: u32 = 65_536;
 const BUFFER_BLOCKS: u32 = 4_096;
 
 const ALL_BLOCKS: u32 = 64;
+
+/// The greatest number of steps of a script.
+const STEPS: u32 = 65_536;
 
 /// Prints how many sinks and blocks are read of an instance that has as many as there may be.
 pub(crate) fn read<R: AllocGlobal + Print>(rt: &R) -> io::Result<()> {
@@ -37,4 +44,16 @@ pub(crate) fn read<R: AllocGlobal + Print>(rt: &R) -> io::Result<()> {
         }
         Err(stop) => println!(rt; "{stop:?}"),
     }
+}
+
+/// Prints how the forms that read a script end on one step more than there may be.
+pub(crate) fn step<R: AllocGlobal + Threads + Wait + Sync + Print>(rt: &R) -> io::Result<()> {
+    let mut text = String::new(rt.alloc());
+    text.push_str("cts 1\ndie 0 0 20 20\nsource 0 0 0\nwire 1 1\nlimits 1 1 1\nbuffers 0\n")?;
+    text.push_str("sinks 1\nsink 1 3 4 5\nblocks 0\nend\ncallers 1\n")?;
+    for _ in 0..STEPS + 1 {
+        text.push_str("1 tree\n")?;
+    }
+    alike::end(rt, "edit", "65537 steps", text.as_bytes())?;
+    alike::end(rt, "replay", "65537 steps", text.as_bytes())
 }

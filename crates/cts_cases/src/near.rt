@@ -1,29 +1,18 @@
 //! As many sinks as the nearest-pair topology takes, and one more.
 
-use crate::{alike, show};
+use crate::alike;
 use std::io;
 use std::sync::Wait;
 use std::thread::Threads;
 
-/// Prints how `near` ends on a text, and its note.
-fn end<R: AllocGlobal + Threads + Wait + Sync + Print>(
-    rt: &R,
-    name: &str,
-    text: &[u8],
-) -> io::Result<()> {
-    let ran = alike::answer(rt, "near", text)?;
-    println!(rt; "near of {name}: {:?}", ran.status)?;
-    show::text(rt, ran.notes.bytes())
-}
-
 /// Prints how `near` ends on made instances, and the verdict on its report of one.
 pub(crate) fn check<R: AllocGlobal + Threads + Wait + Sync + Print>(rt: &R) -> io::Result<()> {
     let most = alike::answer(rt, "make 1 2048", b"")?;
-    end(rt, "2048 sinks", most.output.bytes())?;
+    alike::end(rt, "near", "2048 sinks", most.output.bytes())?;
     alike::judge(rt, "near", most.output.bytes())?;
     let more = alike::answer(rt, "make 1 2049", b"")?;
-    end(rt, "2049 sinks", more.output.bytes())?;
+    alike::end(rt, "near", "2049 sinks", more.output.bytes())?;
     let mut text = more.output.bytes().to_vec(rt.alloc())?;
     text.extend_from_slice(b"more\n")?;
-    end(rt, "2049 sinks and a word after them", &text)
+    alike::end(rt, "near", "2049 sinks and a word after them", &text)
 }

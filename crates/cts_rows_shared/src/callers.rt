@@ -11,6 +11,7 @@ use cts_callers::{Reply, Run, run_callers};
 use cts_design::{EditCause, EditReply};
 use cts_elmore::Figures;
 use cts_instance::Instance;
+use cts_memo::Secret;
 use cts_plain::NoTree;
 use cts_read::read_instance;
 use cts_script::{Script, make_instance, read_script};
@@ -25,13 +26,13 @@ use std::test::Fail;
 use std::thread::{Threads, join, yield_now};
 
 /// The text, where every reader takes as many bytes.
-fn short(text: &[u8]) -> &[u8]
+pub(crate) fn short(text: &[u8]) -> &[u8]
     ensures { length result.now ≤ 67108864 }
 {
     if text.len() <= 67_108_864 { text } else { b"" }
 }
 
-fn one_sink(alloc: Global) -> Result<Instance, Fail> {
+pub(crate) fn one_sink(alloc: Global) -> Result<Instance, Fail> {
     let text =
         b"cts 1\ndie 0 0 20 20\nsource 0 0 0\nwire 1 1\nlimits 100 100 100\nbuffers 0\nsinks 1\nsink 1 3 4 5\nblocks 0\nend\n";
     Ok(read_instance(alloc, short(text))?.instance)
@@ -46,7 +47,7 @@ fn first_reply(run: &Run, place: usize) -> Option<EditReply> {
 }
 
 /// The wire of a tree in nm, and its greatest doubled delay in 10^-27 s.
-fn tree_of(synthesis: &Result<(Tree, Figures), NoTree>) -> Option<(u64, u128)> {
+pub(crate) fn tree_of(synthesis: &Result<(Tree, Figures), NoTree>) -> Option<(u64, u128)> {
     match synthesis {
         Ok((_, figures)) => Some((figures.wire_total, figures.greatest)),
         Err(_) => None,
@@ -211,7 +212,7 @@ fn begin(alloc: Global) -> Result<(Desk, Hands), Fail>
     ensures share { IfOk result (λ d. AreDivisible d.1) }
 {
     let instance = make_instance(alloc, 14, 64)?;
-    Ok(Desk::start(alloc, instance)?)
+    Ok(Desk::start(alloc, instance, Secret::known())?)
 }
 
 #[test]

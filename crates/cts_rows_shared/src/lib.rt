@@ -1,4 +1,4 @@
-//! Worked rows of the crates that share objects between threads, as tests: turns, deals, memos, designs, sessions,
+//! Worked rows of the crates that share objects between threads, as tests: turns, deals, memos and their hashes, designs, sessions,
 //! workers and callers.
 //!
 //! They stand in a crate of their own, since a crate that has a test is proved twice.
@@ -17,6 +17,8 @@ mod drawing;
 #[cfg(test)]
 mod gates;
 #[cfg(test)]
+mod hashes;
+#[cfg(test)]
 mod instances;
 #[cfg(test)]
 mod leaves;
@@ -24,6 +26,8 @@ mod leaves;
 mod memos;
 #[cfg(test)]
 mod rebuilds;
+#[cfg(test)]
+mod schedules;
 #[cfg(test)]
 mod sessions;
 #[cfg(test)]

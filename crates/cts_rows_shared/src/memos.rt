@@ -138,24 +138,3 @@ fn two_threads_share_their_entries(rt: HostRuntime) -> Result<(), Fail> {
     same(&rt, "entries", closed(&rt, memo, pass).len(), 100);
     Ok(())
 }
-
-/// A full memo finds what is there, and takes no more.
-fn answers_though_full<R: Wait + Abort>(rt: &R, memo: &Memo, pass: &mut MemoPass)
-    requires own { IsPassOf memo.now pass.old }
-    ensures own { IsPassOf memo.now pass.new }
-{
-    let new = put(rt, memo, pass, 99_999_999);
-    same(rt, "a new leaf", new, PutEnd::Full);
-    same(rt, "absent", ask(rt, memo, pass, 99_999_999), None);
-    let known = put(rt, memo, pass, 77);
-    same(rt, "a known leaf", known, PutEnd::At { number: 77 });
-}
-
-#[test]
-fn a_full_memo_still_answers(rt: HostRuntime) -> Result<(), Fail> {
-    let (memo, pass) = begin(rt.alloc())?;
-    let mut pass = put_leaves(&rt, &memo, pass, 1 << 21);
-    answers_though_full(&rt, &memo, &mut pass);
-    same(&rt, "entries", closed(&rt, memo, pass).len(), 2_097_152);
-    Ok(())
-}

@@ -9,7 +9,7 @@ ghost use Rattle.cts_memo.specs.Passes.{IsPassOf};
 use crate::compare::same;
 use crate::instances::sink;
 use crate::leaves::{begin, put_leaf};
-use cts_memo::{Memo, MemoPass};
+use cts_memo::{Memo, MemoPass, PutEnd};
 use cts_merge::{Finished, Steps};
 use cts_topo::{Shape, topology};
 use cts_units::Sink;
@@ -17,6 +17,7 @@ use cts_up::UpEnd;
 use cts_work::{Gate, rebuild};
 use std::alloc::Global;
 use std::marker::Brand;
+use std::process::Abort;
 use std::sync::Wait;
 use std::sync::atomic::{AtomicU64, Ordering};
 use std::sync::ledger::{Blank, Ledger};
@@ -151,10 +152,22 @@ fn fill<R: Wait>(rt: &R, memo: &Memo, pass: &mut MemoPass)
     }
 }
 
+/// A full memo takes no new leaf, and tells the number of one that it has.
+fn is_full<R: Wait + Abort>(rt: &R, memo: &Memo, pass: &mut MemoPass)
+    requires own { IsPassOf memo.now pass.old }
+    ensures own { IsPassOf memo.now pass.new }
+{
+    let new = put_leaf(rt, memo, pass, 2_097_152, 1);
+    same(rt, "a new leaf", new, PutEnd::Full);
+    let known = put_leaf(rt, memo, pass, 77, 1);
+    same(rt, "a known leaf", known, PutEnd::At { number: 77 });
+}
+
 #[test]
 fn above_a_full_memo_nothing_is_asked(rt: HostRuntime) -> Result<(), Fail> {
     let (memo, mut pass) = begin(rt.alloc())?;
     fill(&rt, &memo, &mut pass);
+    is_full(&rt, &memo, &mut pass);
     let gate = Counter::new();
     let tree = build(&rt, rt.alloc(), &memo, &mut pass, &gate, 10)?;
     // The leaves, for which there was no room. The pair above them has no key.

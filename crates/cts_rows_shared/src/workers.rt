@@ -27,13 +27,13 @@ use std::sync::ledger::{Blank, Ledger};
 use std::test::Fail;
 use std::thread::Threads;
 
-/// A gate that counts the pieces, and keeps which of the numbers below 64 they had, and how many pairs above them
-/// were made with each number below 16.
+/// A gate that counts the pieces, and keeps which of the numbers below 64 they had, and how many nodes were published
+/// with each number below 16.
 #[derive(Drop)]
 struct Pieces {
     count: AtomicU64,
     numbers: AtomicU64,
-    above: AtomicU64,
+    published: AtomicU64,
 }
 
 impl Pieces {
@@ -41,16 +41,16 @@ impl Pieces {
         Pieces {
             count: AtomicU64::new(0),
             numbers: AtomicU64::new(0),
-            above: AtomicU64::new(0),
+            published: AtomicU64::new(0),
         }
     }
 
-    /// How many pieces came, a bit for each number, and how many pairs above them had each number, in 4 bits each,
+    /// How many pieces came, a bit for each number, and how many nodes were published with each number, in 4 bits each,
     /// the least number last.
     fn counted(&self) -> (u64, u64, u64) {
         let count = self.count.load(Ordering::SeqCst);
         let numbers = self.numbers.load(Ordering::SeqCst);
-        (count, numbers, self.above.load(Ordering::SeqCst))
+        (count, numbers, self.published.load(Ordering::SeqCst))
     }
 }
 
@@ -61,7 +61,7 @@ impl Gate for Pieces {
     }
 
     fn between(&self, number: u32) {
-        self.above
+        self.published
             .fetch_add(1u64 << (4 * (number % 16)), Ordering::SeqCst);
     }
 }
@@ -229,8 +229,41 @@ fn agree_on_line<R: Threads + Wait + Abort + Sync, G: Gate>(
     Ok(agreed(rt, alloc, gate, &params, &sinks, workers)?.is_some())
 }
 
+/// Whether two workers make the plan of sinks that one worker made before, over the same memo. The gate is that of the
+/// second time.
+fn make_again<R: Threads + Wait + Abort + Sync, G: Gate>(
+    rt: &R,
+    alloc: Global,
+    gate: &G,
+    params: &Params,
+    sinks: &[Sink],
+    shape: &Shape,
+) -> Result<bool, Fail>
+    requires params { IsParams params.now }
+    requires sinks { AreSinksInRange sinks.now }
+    requires shape { IsShapeOver (length sinks.now) shape.now }
+{
+    let (memo, pass) = Memo::start(alloc, params)?;
+    let (first, pass) = build_all(rt, alloc, &memo, pass, &OpenGate, sinks, shape, 1);
+    let (second, pass) = build_all(rt, alloc, &memo, pass, gate, sinks, shape, 2);
+    let entries = closed(rt, memo, pass).len();
+    Ok(are_same(&first?, &second?) && entries + 1 == 2 * sinks.len() as u64)
+}
+
+/// Whether workers make the plan of sixteen sinks on a line over a memo that has it.
+fn agree_again_on_line<R: Threads + Wait + Abort + Sync, G: Gate>(
+    rt: &R,
+    alloc: Global,
+    gate: &G,
+) -> Result<bool, Fail> {
+    let params = params(alloc);
+    let sinks = line(alloc, 16)?;
+    let shape = topology(alloc, &sinks)?;
+    make_again(rt, alloc, gate, &params, &sinks, &shape)
+}
+
 /// Whether workers make the plan of the instance of seed 14 with 64 sinks.
-fn agree_on_made<R: Threads + Wait + Abort + Sync, G: Gate>(
+pub(crate) fn agree_on_made<R: Threads + Wait + Abort + Sync, G: Gate>(
     rt: &R,
     alloc: Global,
     gate: &G,
@@ -261,7 +294,8 @@ fn two_workers_build_a_leaf_each(rt: HostRuntime) -> Result<(), Fail> {
     // 6 nm to the left sink and 4 nm to the right one, with 96 on both sides.
     same(&rt, "the root", root, Some(((6, 4), 96, 25)));
     same(&rt, "both came, none late", gate.counted(), (0b11, 0, 0));
-    same(&rt, "the pair above piece 0", gate.made(), 1);
+    // The leaf of piece 0 and the pair above it, and the leaf of piece 1.
+    same(&rt, "published once", gate.made(), 0x0001_0002);
     Ok(())
 }
 
@@ -270,8 +304,8 @@ fn two_workers_build_eight_pieces_of_two_sinks(rt: HostRuntime) -> Result<(), Fa
     let gate = Pieces::new();
     let agree = agree_on_line(&rt, rt.alloc(), &gate, 16, 2)?;
     same(&rt, "the same plan", agree, true);
-    // Pairs of two pieces begin at 0, 2, 4 and 6, those of four at 0 and 4, and the root at 0.
-    same(&rt, "eight pieces", gate.counted(), (8, 0xff, 0x0102_0103));
+    // Each piece has three nodes. Pairs of two pieces begin at 0, 2, 4 and 6, those of four at 0 and 4, and the root at 0.
+    same(&rt, "eight pieces", gate.counted(), (8, 0xff, 0x3435_3436));
     Ok(())
 }
 
@@ -280,8 +314,18 @@ fn sixty_four_workers_build_each_leaf(rt: HostRuntime) -> Result<(), Fail> {
     let gate = Pieces::new();
     let agree = agree_on_line(&rt, rt.alloc(), &gate, 16, 64)?;
     same(&rt, "the same plan", agree, true);
-    let pieces = (16, 0xffff, 0x0102_0103_0102_0104);
+    // Each piece is a leaf, and the pairs above them begin at 0, 2, 4 and so on.
+    let pieces = (16, 0xffff, 0x1213_1214_1213_1215);
     same(&rt, "sixteen pieces", gate.counted(), pieces);
+    Ok(())
+}
+
+#[test]
+fn a_known_tree_is_not_published_again(rt: HostRuntime) -> Result<(), Fail> {
+    let gate = Pieces::new();
+    let agree = agree_again_on_line(&rt, rt.alloc(), &gate)?;
+    same(&rt, "the same plan", agree, true);
+    same(&rt, "eight pieces, no node", gate.counted(), (8, 0xff, 0));
     Ok(())
 }
 

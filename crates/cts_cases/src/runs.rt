@@ -1,0 +1,132 @@
+//! One run over streams in memory.
+
+use cts_draw::draw;
+use cts_io::{MemSink, MemSource};
+use cts_num::NoMemory;
+use cts_top::{Status, run};
+use cts_work::Gate;
+use std::alloc::Global;
+use std::io::{self, ErrorKind};
+use std::sync::Wait;
+use std::thread::Threads;
+
+/// How many bytes a read or a write moves at most, and the call that fails, counted from 0.
+#[derive(Clone, Copy)]
+pub(crate) struct Stream {
+    pub(crate) most: usize,
+    pub(crate) failing: Option<u64>,
+}
+
+impl Stream {
+    /// A stream that moves at most so many bytes at once, and does not fail.
+    pub(crate) const fn of(most: usize) -> Stream {
+        Stream {
+            most,
+            failing: None,
+        }
+    }
+
+    /// A stream of 7 bytes at once that fails at this call.
+    pub(crate) const fn failing_at(call: u64) -> Stream {
+        Stream {
+            most: 7,
+            failing: Some(call),
+        }
+    }
+
+    fn failing(self, alloc: Global) -> io::Result<Vec<u64>> {
+        let mut calls = Vec::new(alloc);
+        if let Some(call) = self.failing {
+            calls.push(call)?;
+        }
+        Ok(calls)
+    }
+
+    fn source(self, alloc: Global, text: &[u8]) -> io::Result<MemSource> {
+        Ok(MemSource::new(text.to_vec(alloc)?, self.failing(alloc)?, self.most.max(1)))
+    }
+
+    fn sink(self, alloc: Global, room: usize) -> io::Result<MemSink> {
+        MemSink::new(alloc, room, self.failing(alloc)?, self.most.max(1)).map_err(no_memory)
+    }
+}
+
+fn no_memory(_: NoMemory) -> io::Error {
+    io::Error::from(ErrorKind::OutOfMemory)
+}
+
+/// The streams of a run, and how many bytes its output and its notes have room for.
+#[derive(Clone, Copy)]
+pub(crate) struct Streams {
+    pub(crate) input: Stream,
+    pub(crate) output: Stream,
+    pub(crate) notes: Stream,
+    pub(crate) room: usize,
+}
+
+impl Streams {
+    /// Streams that each move at most so many bytes at once.
+    pub(crate) const fn of(most: usize, room: usize) -> Streams {
+        Streams {
+            input: Stream::of(most),
+            output: Stream::of(most),
+            notes: Stream::of(most),
+            room,
+        }
+    }
+}
+
+/// What a run comes to: its status, how many reads it made, what it wrote, and its notes.
+#[derive(Drop)]
+pub(crate) struct Ran {
+    pub(crate) status: Status,
+    pub(crate) reads: u64,
+    pub(crate) output: MemSink,
+    pub(crate) notes: MemSink,
+}
+
+/// Runs the program on some words, or, where the first of them is `cts-draw`, the program of that name on the others.
+fn end<R: AllocGlobal + Threads + Wait + Sync, G: Gate>(
+    rt: &R,
+    gate: &G,
+    words: &[String],
+    input: &mut MemSource,
+    output: &mut MemSink,
+    notes: &mut MemSink,
+) -> Status {
+    match words {
+        [program, words @ ..] if program.as_str() == "cts-draw" => {
+            draw(rt.alloc(), !words.is_empty(), input, output, notes)
+        }
+        _ => run(rt, rt.alloc(), words, input, output, notes, gate).status,
+    }
+}
+
+/// Runs some words on a text.
+pub(crate) fn over<R: AllocGlobal + Threads + Wait + Sync, G: Gate>(
+    rt: &R,
+    gate: &G,
+    words: &[String],
+    text: &[u8],
+    streams: Streams,
+) -> io::Result<Ran> {
+    let mut input = streams.input.source(rt.alloc(), text)?;
+    let mut output = streams.output.sink(rt.alloc(), streams.room)?;
+    let mut notes = streams.notes.sink(rt.alloc(), streams.room)?;
+    let status = end(rt, gate, words, &mut input, &mut output, &mut notes);
+    Ok(Ran {
+        status,
+        reads: input.calls(),
+        output,
+        notes,
+    })
+}
+
+/// The words of a text.
+pub(crate) fn words_of(alloc: Global, text: &str) -> io::Result<Vec<String>> {
+    let mut words = Vec::new(alloc);
+    for word in text.split_whitespace() {
+        words.push(String::from_str(alloc, word)?)?;
+    }
+    Ok(words)
+}
