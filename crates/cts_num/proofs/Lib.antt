@@ -7,6 +7,7 @@ pub mod Lanes
 pub mod Lengths
 pub mod Pieces
 pub mod Readings
+pub mod RunNumbers
 pub mod Spelling
 pub mod Steps
 pub mod Tables

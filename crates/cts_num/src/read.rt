@@ -6,6 +6,7 @@ ghost use Rattle.cts_num.specs.Number.{digit_number};
 ghost use Rattle.cts_num.specs.Reading.{IsDecimal, IsEmptyDecimal, IsFirstBadByte, IsFirstTooFine, IsReading, IsTailFault, front_size, reading_of};
 
 use crate::powers::POWERS_OF_TEN;
+use crate::runs::run_number;
 use thiserror::Error;
 
 /// Why a text is not read as a number. A place counts the bytes of the text from 0, the point
@@ -74,6 +75,27 @@ pub fn read_front(text: &[u8], places: u32) -> (Result<u64, DecimalFault>, usize
     (scaled(number, places - (kept - point - 1)), kept)
 }
 
+/// As [`read_front`], for a number that may have many digits after its point: four to fifteen of them are read at once.
+#[inline(always)]
+pub fn read_long_front(text: &[u8], places: u32) -> (Result<u64, DecimalFault>, usize)
+    requires { places ≤ 16 }
+    ensures size { result.1 ≡ front_size places text.now }
+    ensures within { result.1 ≤ length text.now }
+    ensures reading { result.0 ≡ reading_of (take result.1 text.now) places }
+{
+    let places = places as usize;
+    let (front, point) = read_digits(text, 0, text.len(), 0);
+    if point == 0 {
+        return (Err(DecimalFault::Empty), 0);
+    }
+    if point == text.len() || text[point] != b'.' {
+        return (scaled(front, places), point);
+    }
+    let end = text.len().min(point + 1 + places);
+    let (number, kept) = read_fraction(text, point + 1, end, front);
+    (scaled(number, places - (kept - point - 1)), kept)
+}
+
 fn read_any(text: &[u8], places: usize) -> Result<u64, DecimalFault>
     requires { places ≤ 16 }
     ensures { IsReading text.now places result }
@@ -128,6 +150,27 @@ fn read_digits(text: &[u8], from: usize, to: usize, front: u64) -> (u64, usize)
         at += 1;
     }
     (number, at)
+}
+
+// As `read_digits`. A run of many digits is read at once, where its number can't reach `LIMIT`.
+#[inline(always)]
+fn read_fraction(text: &[u8], from: usize, to: usize, front: u64) -> (u64, usize)
+    requires from { from ≤ to }
+    requires to { to ≤ length text.now }
+    requires front { front ≡ min (digit_number (take from text.now)) LIMIT }
+    ensures from { from ≤ result.1 }
+    ensures to { result.1 ≤ to }
+    ensures digits { (k : ℕ) → from ≤ k → k < result.1 → IsAsciiDigit (slice_index text.now k) }
+    ensures stop { result.1 < to → ¬ IsAsciiDigit (slice_index text.now result.1) }
+    ensures number { result.0 ≡ min (digit_number (take result.1 text.now)) LIMIT }
+{
+    let count = to - from;
+    if count >= 4 && count < 16 && front < 1000 {
+        if let Some(number) = run_number(text, from, to) {
+            return (front * POWERS_OF_TEN[count] + number, to);
+        }
+    }
+    read_digits(text, from, to, front)
 }
 
 // Where the digits from `from` to before `to` end.

@@ -77,6 +77,12 @@ number_is_plain bytes places size value rest within reading end =
       printable = printable ∙ printable_after_end (drop size bytes) rest end;
     }
 
+-- such a number, by the words of its line
+pub plain_number_of : (places : ℕ) (bytes : List ℕ) (value : ℕ) (rest : List ℕ) → IsPlainNumber places bytes value rest
+    → number_of places (words_of bytes) ≡ Ok (value, words_of rest)
+unfolding number_of
+plain_number_of places bytes value rest number = rw (number.words, number.reading) refl
+
 key_in_word : (k d : ℕ) → k < 4 → is_blank (get_or (codes "sink") k d) ≡ false
 key_in_word zero d lt = refl
 key_in_word (suc zero) d lt = refl
@@ -84,7 +90,7 @@ key_in_word (suc (suc zero)) d lt = refl
 key_in_word (suc (suc (suc zero))) d lt = refl
 key_in_word (suc (suc (suc (suc k)))) d lt = absurd (omega (arith, lt))
 
-printable_empty : (bytes : List ℕ) → length bytes ≡ 0 → is_printable bytes ≡ true
+pub printable_empty : (bytes : List ℕ) → length bytes ≡ 0 → is_printable bytes ≡ true
 printable_empty [] none = refl
 printable_empty (b ∷ bs) none = absurd (omega (arith, none))
 

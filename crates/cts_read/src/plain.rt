@@ -1,11 +1,12 @@
-//! The line of a sink in its plainest form, read in one pass over its bytes.
+//! The line of a sink in its plainest form, and the numbers of such lines, read in one pass over their
+//! bytes.
 
 ghost use Rattle.std.specs.Prelude.{◌≡◌, ◌^◌, ◌<◌, ◌≤◌, ◌++◌, codes, Ok, IfSome};
 ghost use Rattle.cts_read.specs.Items.{sink_numbers};
 ghost use Rattle.cts_read.specs.Plain.{IsPlainEnd, IsPlainNumber, IsPlainOffset};
 
 use cts_instance::Version;
-use cts_num::read_front;
+use cts_num::{read_front, read_long_front};
 use cts_units::Sink;
 
 /// A sink, where the words of its line stand one space apart and no number has a fault. Other lines
@@ -41,14 +42,30 @@ fn after_key(line: &[u8]) -> Option<&[u8]>
     }
 }
 
-/// The number of the first word, and what follows it and a space.
+/// The number of the first word in units of 10^-`places`, and what follows it and a space. None where
+/// the text begins with another byte than a digit, the number has a fault, or it ends with neither the
+/// text nor a space.
 #[inline(always)]
-fn plain_number(bytes: &[u8], places: u32) -> Option<(u64, &[u8])>
+pub fn plain_number(bytes: &[u8], places: u32) -> Option<(u64, &[u8])>
     requires { places ≤ 16 }
     ensures plain { IfSome result (λ found. IsPlainNumber places bytes.now found.0 found.1.now) }
     ensures bound { IfSome result (λ found. found.0 < 10 ^ 18) }
 {
     let (Ok(value), size) = read_front(bytes, places) else {
+        return None;
+    };
+    let rest = after_word(&bytes[size..])?;
+    Some((value, rest))
+}
+
+/// As [`plain_number`], for a number that may have many digits.
+#[inline(always)]
+fn long_number(bytes: &[u8], places: u32) -> Option<(u64, &[u8])>
+    requires { places ≤ 16 }
+    ensures plain { IfSome result (λ found. IsPlainNumber places bytes.now found.0 found.1.now) }
+    ensures bound { IfSome result (λ found. found.0 < 10 ^ 18) }
+{
+    let (Ok(value), size) = read_long_front(bytes, places) else {
         return None;
     };
     let rest = after_word(&bytes[size..])?;
@@ -62,7 +79,7 @@ fn plain_offset(version: Version, bytes: &[u8]) -> Option<(u64, &[u8])>
 {
     match version {
         Version::One => Some((0, bytes)),
-        Version::Two => plain_number(bytes, 15),
+        Version::Two => long_number(bytes, 15),
     }
 }
 
