@@ -1,5 +1,5 @@
 -- The shape over a list of sinks: each sink once, its nodes, its depth.
-use Rattle.std.proofs.Common.{◌≡◌, ℕ, zero, suc, ◌+◌, ◌*◌, ◌^◌, ◌<◌, ◌≤◌, ◌==◌, cond, List, [], ◌∷◌, ◌++◌, map, length, count_by, Some, refl, sym, ap, ◌∙◌, arith}
+use Rattle.std.proofs.Common.{◌≡◌, ℕ, zero, suc, ◌+◌, ◌*◌, ◌^◌, ◌<◌, ◌≤◌, ◌==◌, true, false, cond, List, [], ◌∷◌, ◌++◌, map, length, count_by, IsSortedBy, Some, refl, sym, ap, ◌∙◌, arith}
 use Rattle.std.specs.List.{AllByRecursion}
 use Rattle.std.proofs.lemmas.List.Elements.{All-from_recursion}
 use Rattle.std.proofs.lemmas.Bool.Decides.{nat_tests}
@@ -14,8 +14,9 @@ use Rattle.cts_topo.specs.declared.pin.Pin.{Pin}
 use Rattle.cts_topo.specs.Shape.{children, leaf_sinks, IsShapeOver}
 use Rattle.cts_topo.specs.Sinks.{AreSinks}
 use Rattle.cts_topo.specs.Laws.{IsDivided, ShapesAreDivided, ShapesNameEachSink, ShapesAreShallow}
-use Rattle.cts_topo.proofs.Apart.{AreApart}
-use Rattle.cts_topo.specs.Topology.{pins_from, division, topology_of, shape_of}
+use Rattle.cts_topo.proofs.Apart.{AreApart, apart-Shuffled}
+use Rattle.cts_topo.specs.Topology.{is_before, pins_from, division, topology_of, shape_of, AddsTree}
+use Rattle.cts_topo.specs.Divisible.{IsDivisible}
 use Rattle.cts_topo.proofs.Shuffles.{Shuffled, same, skip, turn, chain, sum_by-Shuffled}
 use Rattle.cts_topo.proofs.Ranks.{count_by-cons}
 use Rattle.cts_topo.proofs.Divisions.{division-Shuffled, IsNumbered-division, size-division, leaf_sinks-division, depth-division, IsDivided-division}
@@ -120,12 +121,22 @@ shapes_name_each_sink_lem sinks are = (shape_is_over sinks are, length-shape_of 
 pub shapes_are_shallow_lem : ShapesAreShallow
 shapes_are_shallow_lem sinks are = (depth-topology_of sinks are, depth-topology_of sinks are 16 are.few)
 
+-- the pins of sinks, sorted along x and along y, can be divided
+pub divisible_pins : (sinks : List Sink) (by_x by_y : List Pin) → AreSinks sinks → Shuffled (pins_from 0 sinks) by_x
+    → IsSortedBy (is_before true) by_x → Shuffled by_x by_y → IsSortedBy (is_before false) by_y → IsDivisible true by_x by_y
+divisible_pins sinks by_x by_y are items sorted_x alike sorted_y = record {
+  some = omega (arith, length-Shuffled items, length-pins_from 0 sinks, are.some);
+  distinct = apart-Shuffled items (distinct_pins 0 sinks are.distinct);
+  sorted_along = sorted_x;
+  sorted_across = sorted_y;
+  same = alike;
+}
+
 -- what the code divides is the shape of the definition
 pub shuffled_is_shape : (sinks : List Sink) (pins : List Pin) (before nodes : List ShapeNode) → Shuffled (pins_from 0 sinks) pins
-    → before ≡ [] → ((limit : ℕ) → length pins ≤ limit → nodes ≡ before ++ labels (division limit (length before) pins))
-    → nodes ≡ shape_of sinks
+    → before ≡ [] → AddsTree 0 pins before nodes → nodes ≡ shape_of sinks
 unfolding shape_of topology_of
 shuffled_is_shape sinks pins before nodes items empty divided =
     divided (length sinks) (omega (arith, length-Shuffled items, length-pins_from 0 sinks))
-    ∙ ap (λ ns. ns ++ labels (division (length sinks) (length ns) pins)) empty
+    ∙ ap (λ ns. ns ++ labels (division (length sinks) (0 + length ns) pins)) empty
     ∙ ap labels (sym (division-Shuffled (length sinks) 0 (pins_from 0 sinks) pins items))

@@ -2,6 +2,7 @@ pub mod Shape
 pub mod Shuffled
 pub mod Sinks
 pub mod Topology
+pub mod Divisible
 pub mod Laws
 pub use Rattle.cts_units.specs.Ids
 pub use Rattle.cts_postorder.specs.BinaryTree

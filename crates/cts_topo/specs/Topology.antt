@@ -1,7 +1,7 @@
 -- The shape of the tree over a list of sinks, after the method of means and medians (Jackson, Srinivasan and Kuh, 1990):
 -- the sinks are divided in halves along the axis in which they run further, and each half again. Who goes to the left
 -- is told by counting, for each sink, those before it. Axis, halves and ties are this project's own rules.
-use Rattle.std.specs.Prelude.{ℕ, zero, suc, ◌+◌, ◌-◌, max, Bool, true, false, not, nat_le, nat_lt, nat_abs, List, [], ◌∷◌, length, filter, count_by}
+use Rattle.std.specs.Prelude.{◌≡◌, ℕ, zero, suc, ◌+◌, ◌-◌, ◌≤◌, max, Bool, true, false, not, nat_le, nat_lt, nat_abs, List, [], ◌∷◌, ◌++◌, length, filter, count_by}
 use Rattle.std.specs.declared.cmp.Ordering.{Ordering}
 use Rattle.std.specs.Ordering.{is_lt, nat_cmp, ordering_then}
 use Rattle.std.specs.Int.{div_ceil}
@@ -79,6 +79,11 @@ division zero first (p ∷ q ∷ pins) = tip (Leaf 0)
 division (suc limit) first (p ∷ q ∷ pins) =
     pair_over first (division limit first (left_part (p ∷ q ∷ pins)))
     (division limit (first + size (division limit first (left_part (p ∷ q ∷ pins)))) (right_part (p ∷ q ∷ pins)))
+
+-- a list of nodes, whose first one has this number, grows by the nodes of the tree over some pins
+abbrev pub AddsTree : ℕ → List Pin → List ShapeNode → List ShapeNode → Type 0
+AddsTree first pins old new =
+    (limit : ℕ) → length pins ≤ limit → new ≡ old ++ labels (division limit (first + length old) pins)
 
 -- the tree over a list of sinks
 unfoldable pub topology_of : List Sink → BinaryTree ShapeNode

@@ -4,13 +4,12 @@
 ghost use Rattle.std.specs.Prelude.{◌≡◌, ℕ, ◌+◌, ◌*◌, ◌%◌, ◌^◌, ◌<◌, ◌≤◌, ◌++◌, ◌∷◌, [], true, false, not, length, map, filter, vec_len, OnOk, IfOk};
 ghost use Rattle.std.specs.List.{range_with_len};
 ghost use Rattle.std.specs.List.Sorted.{IsPermutation, IsSortedBy};
-ghost use Rattle.cts_units.specs.Ids.{HasDistinctIds};
 ghost use Rattle.cts_units.specs.Limits.{max_sinks};
-ghost use Rattle.cts_postorder.specs.BinaryTree.{labels};
 ghost use Rattle.cts_topo.specs.declared.shape.ShapeNode.TheVariants.{Leaf, Pair};
 ghost use Rattle.cts_topo.specs.Shape.{IsShapeOver};
 ghost use Rattle.cts_topo.specs.Sinks.{AreSinks, IsPlaced};
-ghost use Rattle.cts_topo.specs.Topology.{is_before, compare_along, division, pins_from, shape_of, turned};
+ghost use Rattle.cts_topo.specs.Topology.{AddsTree, is_before, compare_along, pins_from, shape_of, turned};
+ghost use Rattle.cts_topo.specs.Divisible.{AreHalves, IsDivisible};
 ghost use Rattle.cts_topo.specs.Shuffled.{Shuffled};
 ghost use Rattle.cts_topo.specs.Topology.{is_wide as spec_is_wide, pin_of as spec_pin_of};
 
@@ -39,7 +38,8 @@ pub fn topology(alloc: Global, sinks: &[Sink]) -> Result<Shape, NoMemory>
     let mut spare = pins_of(alloc, sinks)?;
     let mut by_x = sorted_along(alloc, spare.as_slice(), true)?;
     let mut by_y = sorted_along(alloc, by_x.as_slice(), false)?;
-    divide(
+    add_tree(
+        0,
         true,
         by_x.as_mut_slice(),
         by_y.as_mut_slice(),
@@ -50,7 +50,7 @@ pub fn topology(alloc: Global, sinks: &[Sink]) -> Result<Shape, NoMemory>
 }
 
 /// The sinks as pins, in their order.
-fn pins_of(alloc: Global, sinks: &[Sink]) -> Result<Vec<Pin>, NoMemory>
+pub fn pins_of(alloc: Global, sinks: &[Sink]) -> Result<Vec<Pin>, NoMemory>
     requires { AreSinks sinks.now }
     ensures { IfOk result (λ pins. pins.items ≡ pins_from 0 sinks.now) }
 {
@@ -75,25 +75,23 @@ fn pin_of(sink: &Sink, place: usize) -> Pin
     }
 }
 
-/// Appends the nodes of the tree over some pins, which are sorted once along the axis that `wide` names and once
-/// across it. Both lists are left in another order.
-fn divide(
+/// Appends the nodes of the tree over some pins to a list of nodes, whose first one has the number `first`.
+///
+/// The pins are sorted once along the axis that `wide` names and once across it; `spare` has room for them. All
+/// three lists are left in another order. After `NoMemory` the list may have some of the nodes.
+pub fn add_tree(
+    first: u32,
     wide: bool,
     along: &mut [Pin],
     across: &mut [Pin],
     spare: &mut [Pin],
     nodes: &mut Vec<ShapeNode>,
 ) -> Result<(), NoMemory>
-    requires some { 0 < length along.old }
-    requires distinct { HasDistinctIds (λ p. p.id) along.old }
-    requires along { IsSortedBy (is_before wide) along.old }
-    requires across { IsSortedBy (is_before (not wide)) across.old }
-    requires same { Shuffled along.old across.old }
+    requires divisible { IsDivisible wide along.old across.old }
     requires spare { length spare.old ≡ length along.old }
-    requires room { vec_len nodes.old + 2 * length along.old ≤ 2 ^ 32 }
+    requires room { first + vec_len nodes.old + 2 * length along.old ≤ 2 ^ 32 }
     ensures count { OnOk result (vec_len nodes.new + 1 ≡ vec_len nodes.old + 2 * length along.old) }
-    ensures nodes { OnOk result ((limit : ℕ) → length along.old ≤ limit
-        → nodes.new.items ≡ nodes.old.items ++ labels (division limit (length nodes.old.items) along.old)) }
+    ensures nodes { OnOk result (AddsTree first along.old nodes.old.items nodes.new.items) }
 {
     if along.len() == 1 {
         nodes.push(ShapeNode::Leaf {
@@ -102,47 +100,59 @@ fn divide(
         return Ok(());
     }
     if is_turned(wide, along, across) {
-        return divide(!wide, across, along, spare, nodes);
+        return add_tree(first, !wide, across, along, spare, nodes);
     }
     if along.len() == 2 {
-        return push_two(along[0].sink, along[1].sink, nodes);
+        return push_two(first, along[0].sink, along[1].sink, nodes);
     }
-    let half = along.len().div_ceil(2);
-    split(across, wide, along[half], half, spare);
+    let half = halve(wide, along, across, spare);
     let (left_along, right_along) = along.split_at_mut(half);
     let (left_across, right_across) = spare.split_at_mut(half);
     let (left_spare, right_spare) = across.split_at_mut(half);
-    divide(wide, left_along, left_across, left_spare, nodes)?;
-    let left = (nodes.len() - 1) as u32;
-    divide(wide, right_along, right_across, right_spare, nodes)?;
-    let right = (nodes.len() - 1) as u32;
+    add_tree(first, wide, left_along, left_across, left_spare, nodes)?;
+    let left = first + nodes.len() as u32 - 1;
+    add_tree(first, wide, right_along, right_across, right_spare, nodes)?;
+    let right = first + nodes.len() as u32 - 1;
     nodes.push(ShapeNode::Pair { left, right })?;
     Ok(())
 }
 
+/// Parts pins that are divided along the axis that `wide` names. Copies those of `across` to `spare`, and answers
+/// the place where `along` and `spare` are parted: before it stand the pins of the left part, from it on the others.
+pub fn halve(wide: bool, along: &[Pin], across: &[Pin], spare: &mut [Pin]) -> usize
+    requires two { 2 ≤ length along.now }
+    requires divisible { IsDivisible wide along.now across.now }
+    requires axis { spec_is_wide along.now ≡ wide }
+    requires spare { length spare.old ≡ length along.now }
+    ensures within { (0 < result) × (result < length along.now) }
+    ensures room { length spare.new ≡ length along.now }
+    ensures halves { AreHalves wide along.now spare.new result }
+{
+    let half = along.len().div_ceil(2);
+    split(across, wide, along[half], half, spare);
+    half
+}
+
 /// Appends the nodes of the tree over two sinks, which stand at these places of the list of sinks. At least every other
 /// pair of a large tree is such, and a division would take far longer.
-fn push_two(left: u32, right: u32, nodes: &mut Vec<ShapeNode>) -> Result<(), NoMemory>
-    requires { vec_len nodes.old + 3 ≤ 2 ^ 32 }
+fn push_two(first: u32, left: u32, right: u32, nodes: &mut Vec<ShapeNode>) -> Result<(), NoMemory>
+    requires { first + vec_len nodes.old + 3 ≤ 2 ^ 32 }
     ensures { OnOk result (nodes.new.items ≡ nodes.old.items ++ Leaf left ∷ Leaf right
-        ∷ Pair (length nodes.old.items) (length nodes.old.items + 1) ∷ []) }
+        ∷ Pair (first + length nodes.old.items) (first + length nodes.old.items + 1) ∷ []) }
 {
-    let first = nodes.len() as u32;
+    let number = first + nodes.len() as u32;
     nodes.push(ShapeNode::Leaf { sink: left })?;
     nodes.push(ShapeNode::Leaf { sink: right })?;
     nodes.push(ShapeNode::Pair {
-        left: first,
-        right: first + 1,
+        left: number,
+        right: number + 1,
     })?;
     Ok(())
 }
 
 /// Whether the pins are divided along the other axis than that which `wide` names.
-fn is_turned(wide: bool, along: &[Pin], across: &[Pin]) -> bool
-    requires some { 0 < length along.now }
-    requires along { IsSortedBy (is_before wide) along.now }
-    requires across { IsSortedBy (is_before (not wide)) across.now }
-    requires same { Shuffled along.now across.now }
+pub fn is_turned(wide: bool, along: &[Pin], across: &[Pin]) -> bool
+    requires { IsDivisible wide along.now across.now }
     ensures { result ≡ turned wide along.now }
 {
     if wide {
@@ -183,7 +193,7 @@ fn split(pins: &[Pin], wide: bool, pivot: Pin, half: usize, target: &mut [Pin])
 }
 
 /// The pins sorted along x or along y; ties go by the other coordinate, then by id.
-fn sorted_along(alloc: Global, pins: &[Pin], wide: bool) -> Result<Vec<Pin>, NoMemory>
+pub fn sorted_along(alloc: Global, pins: &[Pin], wide: bool) -> Result<Vec<Pin>, NoMemory>
     requires { length pins.now ≤ max_sinks }
     ensures permutation { IfOk result (λ sorted. IsPermutation pins.now sorted.items) }
     ensures sorted { IfOk result (λ sorted. IsSortedBy (is_before wide) sorted.items) }

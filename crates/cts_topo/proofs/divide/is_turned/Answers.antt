@@ -1,7 +1,7 @@
 -- Either of the two lists is the one along x.
 use Rattle.std.proofs.Common.{sym, ap, ◌∙◌, arith}
-use Rattle.cts_topo.proofs.Shuffles.{turned_round, length-Shuffled}
 use Rattle.cts_topo.specs.Topology.{turned}
+use Rattle.cts_topo.proofs.Shuffles.{turned_round, length-Shuffled}
 use Rattle.cts_topo.proofs.Extents.{is_wide-Shuffled}
 use Rattle.cts_topo.proofs.divide.is_turned.Goals as goal
 
