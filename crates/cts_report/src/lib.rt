@@ -13,4 +13,4 @@ mod line;
 mod report;
 pub mod words;
 
-pub use report::{write_report, write_summary};
+pub use report::{put_head, put_stretch, put_totals, write_report, write_summary};

@@ -1,6 +1,6 @@
 //! Reports and summaries, written to a sink.
 
-ghost use Rattle.std.specs.Prelude.{◌≡◌, ◌^◌, ◌≤◌, ◌++◌, length, All, codes};
+ghost use Rattle.std.specs.Prelude.{◌≡◌, ◌+◌, ◌^◌, ◌<◌, ◌≤◌, ◌++◌, length, All, codes};
 ghost use Rattle.std.specs.List.{concat};
 ghost use Rattle.cts_io.specs.Text.{Puts, Writes};
 ghost use Rattle.cts_report.specs.Lines.{arrival_lines, capacitance, count_line, length_in_um, node_lines, time, title_line, total_lines};
@@ -31,9 +31,8 @@ pub fn write_report<K: ByteSink>(
     let version = instance.version();
     let nodes = tree.nodes();
     let mut out = SinkBuffer::new();
-    put_title(&mut out, sink, version);
-    put_count(&mut out, sink, nodes.len());
-    put_nodes(&mut out, sink, version, nodes, figures.nodes.items());
+    put_head(&mut out, sink, version, nodes.len());
+    put_stretch(&mut out, sink, version, 0, nodes, figures.nodes.items());
     put_totals(&mut out, sink, version, figures);
     out.finish(sink)
 }
@@ -55,6 +54,14 @@ pub fn write_summary<K: ByteSink>(
     out.finish(sink)
 }
 
+/// Puts what stands before the nodes of a report: its title, and how many nodes there are.
+pub fn put_head<K: ByteSink>(out: &mut SinkBuffer, sink: &mut K, version: Version, count: usize)
+    ensures { Puts K.ByteSink (sink.old, out.old) (sink.new, out.new) (title_line version ++ count_line count) }
+{
+    put_title(out, sink, version);
+    put_count(out, sink, count);
+}
+
 /// The first line of a report.
 fn put_title<K: ByteSink>(out: &mut SinkBuffer, sink: &mut K, version: Version)
     ensures { Puts K.ByteSink (sink.old, out.old) (sink.new, out.new) (title_line version) }
@@ -73,27 +80,35 @@ fn put_count<K: ByteSink>(out: &mut SinkBuffer, sink: &mut K, count: usize)
     out.put(sink, b"\n");
 }
 
-/// The lines of all nodes.
-fn put_nodes<K: ByteSink>(
+/// Puts the lines of a stretch of nodes, whose numbers are `first` and those that follow it. The lines of all nodes of a
+/// report are those of its stretches, one after another.
+pub fn put_stretch<K: ByteSink>(
     out: &mut SinkBuffer,
     sink: &mut K,
     version: Version,
+    first: usize,
     nodes: &[TreeNode],
     figures: &[NodeFigure],
 )
+    requires room { first + length nodes.now < 2 ^ 64 }
     requires long { length figures.now ≡ length nodes.now }
     requires nodes { All IsPrintableNode nodes.now }
     requires figures { All IsPrintableFigure figures.now }
     ensures { Puts K.ByteSink (sink.old, out.old) (sink.new, out.new)
-        (concat (node_lines 0 (printed_nodes version nodes.now figures.now))) }
+        (concat (node_lines first (printed_nodes version nodes.now figures.now))) }
 {
-    for number in 0..nodes.len() {
-        put_node(out, sink, version, number, &nodes[number], &figures[number]);
+    for at in 0..nodes.len() {
+        put_node(out, sink, version, first + at, &nodes[at], &figures[at]);
     }
 }
 
-/// The lines on the whole tree, and the last line.
-fn put_totals<K: ByteSink>(out: &mut SinkBuffer, sink: &mut K, version: Version, figures: &Figures)
+/// Puts what stands behind the nodes of a report: the lines on the whole tree, and the last line.
+pub fn put_totals<K: ByteSink>(
+    out: &mut SinkBuffer,
+    sink: &mut K,
+    version: Version,
+    figures: &Figures,
+)
     requires totals { HasPrintableTotals figures.now }
     requires arrivals { version ≡ Version.Two → HasPrintableArrivals figures.now }
     ensures { Puts K.ByteSink (sink.old, out.old) (sink.new, out.new)
