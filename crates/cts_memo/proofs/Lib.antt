@@ -6,5 +6,7 @@ pub mod Positions
 pub mod Numbering
 pub mod Missing
 pub mod Capacitances
+pub mod Answering
+pub mod OneAnswer
 mod Example
 pub mod Sent

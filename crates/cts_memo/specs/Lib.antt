@@ -1,6 +1,8 @@
 pub mod Keys
 pub mod Sound
 pub mod Replies
+pub mod Questions
+pub mod Calls
 pub mod TableLaws
 pub mod Tables
 pub mod Passes

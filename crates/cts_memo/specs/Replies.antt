@@ -1,19 +1,14 @@
--- Which replies a list of entries allows to a call, and the list after each of them.
+-- What answers a look-up in a list of entries, how a publication may end, and the list after it.
 use Rattle.std.specs.Prelude.{◌≡◌, ◌≢◌, ℕ, ◌<◌, ◌⊎◌, nat_lt, cond, List, [], ◌∷◌, ◌++◌, length, slice_get, Some, All}
-use Rattle.cts_units.specs.declared.params.Params.{Params}
 use Rattle.cts_merge.specs.declared.side.Finished.{Finished}
 use Rattle.cts_memo.specs.declared.key.Key.{Key}
 use Rattle.cts_memo.specs.declared.entry.MemoEntry.{MemoEntry}
-use Rattle.cts_memo.specs.declared.entry.MemoCall.{MemoCall}
-use Rattle.cts_memo.specs.declared.entry.MemoCall.TheVariants.{Ask, Put}
-use Rattle.cts_memo.specs.declared.entry.MemoReply.{MemoReply}
-use Rattle.cts_memo.specs.declared.entry.MemoReply.TheVariants.{Asked, Published}
 use Rattle.cts_memo.specs.declared.entry.Answer.{Answer}
 use Rattle.cts_memo.specs.declared.entry.Answer.TheVariants.{Have, Absent}
 use Rattle.cts_memo.specs.declared.entry.PutEnd.{PutEnd}
 use Rattle.cts_memo.specs.declared.entry.PutEnd.TheVariants.{At, Full, NoMemory}
 use Rattle.cts_memo.specs.Keys.{entry}
-use Rattle.cts_memo.specs.Sound.{IsMadeOf, max_entries}
+use Rattle.cts_memo.specs.Sound.{max_entries}
 
 -- the entry of this number has the key
 abbrev pub StandsAt : List MemoEntry → Key → ℕ → Type 0
@@ -40,23 +35,6 @@ abbrev pub after_put : List MemoEntry → Key → Finished → PutEnd → List M
 after_put seen key f (At n) = cond (nat_lt n (length seen)) seen (seen ++ entry key f ∷ [])
 after_put seen key f Full = seen
 after_put seen key f NoMemory = seen
-
--- A look-up may always be made, a publication of what is made of its key.
-abbrev pub Fits : Params → List MemoEntry → MemoCall → Type 0
-Fits params seen (Ask key) = Unit {0}
-Fits params seen (Put key f) = IsMadeOf params seen key f
-
--- the reply is of the call's kind, and allowed
-abbrev pub Allows : List MemoEntry → MemoCall → MemoReply → Type 0
-Allows seen (Ask key) (Asked answer) = IsFound seen key answer
-Allows seen (Ask key) (Published end) = ⊥
-Allows seen (Put key f) (Asked answer) = ⊥
-Allows seen (Put key f) (Published end) = IsPut seen key end
-
-abbrev pub list_after : List MemoEntry → MemoCall → MemoReply → List MemoEntry
-list_after seen (Ask key) reply = seen
-list_after seen (Put key f) (Asked answer) = seen
-list_after seen (Put key f) (Published end) = after_put seen key f end
 
 -- what a publication tells of the list after it: the entry of its number is the key with what was made of it
 abbrev pub IsPublished : List MemoEntry → Key → Finished → PutEnd → Type 0

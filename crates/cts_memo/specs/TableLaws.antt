@@ -18,14 +18,15 @@ use Rattle.cts_memo.specs.declared.key.Key.{Key}
 use Rattle.cts_memo.specs.declared.key.Key.TheVariants.{Leaf, Pair}
 use Rattle.cts_memo.specs.declared.entry.MemoEntry.{MemoEntry}
 use Rattle.cts_memo.specs.declared.entry.MemoCall.{MemoCall}
-use Rattle.cts_memo.specs.declared.entry.MemoCall.TheVariants.{Ask, Put}
+use Rattle.cts_memo.specs.declared.entry.MemoCall.TheVariants.{Ask, AskAll, Put}
 use Rattle.cts_memo.specs.declared.entry.MemoReply.{MemoReply}
-use Rattle.cts_memo.specs.declared.entry.MemoReply.TheVariants.{Asked, Published}
+use Rattle.cts_memo.specs.declared.entry.MemoReply.TheVariants.{Asked, Answered, Published}
 use Rattle.cts_memo.specs.declared.entry.PutEnd.{PutEnd}
 use Rattle.cts_memo.specs.declared.entry.PutEnd.TheVariants.{At, Full, NoMemory}
 use Rattle.cts_memo.specs.Keys.{entry}
 use Rattle.cts_memo.specs.Sound.{IsMadeOf, IsSound, EntryAt, sink_at}
-use Rattle.cts_memo.specs.Replies.{Allows, Fits, list_after, after_put}
+use Rattle.cts_memo.specs.Replies.{after_put}
+use Rattle.cts_memo.specs.Calls.{Allows, Fits, list_after}
 
 -- the list stays, or has one entry more
 abbrev Appends : List MemoEntry → List MemoEntry → Type 0
@@ -42,7 +43,9 @@ appends_put seen key f NoMemory = inl refl
 
 pub appends : (seen : List MemoEntry) (call : MemoCall) (reply : MemoReply) → Allows seen call reply → Appends seen (list_after seen call reply)
 appends seen (Ask key) reply allowed = inl refl
+appends seen (AskAll asked) reply allowed = inl refl
 appends seen (Put key f) (Asked answer) allowed = inl refl
+appends seen (Put key f) (Answered answered) allowed = inl refl
 appends seen (Put key f) (Published end) allowed = appends_put seen key f end
 
 -- an entry keeps its number in a longer list
@@ -70,6 +73,7 @@ made_stays params seen longer (Pair left right) f more made =
 
 pub fits_stays : (params : Params) (seen longer : List MemoEntry) (call : MemoCall) → IsPrefix seen longer → Fits params seen call → Fits params longer call
 fits_stays params seen longer (Ask key) more fits = tt
+fits_stays params seen longer (AskAll asked) more fits = tt
 fits_stays params seen longer (Put key f) more fits = made_stays params seen longer key f more fits
 
 -- Of what is made of a key there is one at most, so it can be told from the mere knowledge that there is one.

@@ -1,6 +1,7 @@
 //! Entries of a memo's table, its calls and its replies.
 
 use crate::key::Key;
+use crate::question::Question;
 use cts_merge::Finished;
 
 /// A subtree that is known, and what the upward pass makes of it.
@@ -11,19 +12,23 @@ pub struct MemoEntry {
 }
 
 /// What is asked of a table.
-#[derive(Clone, Copy)]
+#[derive(Drop)]
 pub enum MemoCall {
     /// Looks a key up.
     Ask(Key),
+    /// Looks up all that the questions ask for.
+    AskAll(Vec<Question>),
     /// Publishes what was made of a key.
     Put(Key, Finished),
 }
 
 /// What a table replies.
-#[derive(Clone, Copy)]
+#[derive(Drop)]
 pub enum MemoReply {
     /// To a look-up.
     Asked(Answer),
+    /// To many of them: the questions, each with its answer.
+    Answered(Vec<Question>),
     /// To a publication.
     Published(PutEnd),
 }

@@ -1,16 +1,19 @@
 //! The memo of finished subtrees, which threads share by turns.
 //!
 //! A layer above starts a [`Memo`] over an instance's parameters and splits its [`MemoPass`] between threads. By a pass it
-//! asks for the number of a subtree, which is known by its [`Key`], and puts in what is missing. An entry is what `leaf` or
-//! `merge` gives for its key (`specs/Sound.antt`); entries never change and never move, so that a number in one list is the
-//! same number in every longer one. A memo of 2^21 entries is full: it still answers, and takes no more. A memo that is closed
-//! leaves its [`Table`]. The [`laws`] say what its entries are and how many a shape lacks.
+//! asks for the number of a subtree, which is known by its [`Key`], and puts in what is missing. Many [`Question`]s, whose
+//! pairs may have parts that are asked for earlier in the list, are answered in one call. An entry is what `leaf` or `merge`
+//! gives for its key (`specs/Sound.antt`); entries never change and never move, so that a number in one list is the same
+//! number in every longer one. A memo of 2^21 entries is full: it still answers, and takes no more. A memo that is closed
+//! leaves its [`Table`]. The [`laws`] say what its entries are, how many a shape lacks, and that questions have one list of
+//! answers.
 #![tactic(auto)]
 
 mod entry;
 mod key;
 pub mod laws;
 mod memo;
+mod question;
 mod secret;
 mod seeded;
 mod table;
@@ -18,6 +21,7 @@ mod table;
 pub use entry::{Answer, MemoCall, MemoEntry, MemoReply, PutEnd};
 pub use key::Key;
 pub use memo::{Memo, MemoOut, MemoPass};
+pub use question::{Part, Query, Question};
 pub use secret::{Mixture, Secret};
 pub use seeded::Seeded;
 pub use table::Table;

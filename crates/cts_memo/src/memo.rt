@@ -9,6 +9,7 @@ ghost use Rattle.cts_turn.specs.Passes.{made_by, seen_by, share_of};
 
 use crate::entry::{Answer, MemoCall, MemoReply, PutEnd};
 use crate::key::Key;
+use crate::question::Question;
 use crate::secret::Secret;
 use crate::table::Table;
 use cts_merge::Finished;
@@ -42,6 +43,7 @@ pub struct MemoOut {
 impl Memo {
     ghost use Rattle.std.specs.Prelude.{slice_get};
     ghost use Rattle.cts_memo.specs.declared.entry.Answer.{Answer};
+    ghost use Rattle.cts_memo.specs.Questions.{AreAnswers};
     ghost use Rattle.cts_memo.specs.Replies.{IsAbsent, IsFound, IsPublished};
     ghost use Rattle.cts_memo.specs.Sound.{IsMadeOf, IsSound, NamesEntries, max_entries};
     ghost use Rattle.cts_memo.specs.Passes.{IsPassOf, IsPublication, params_of};
@@ -139,6 +141,33 @@ impl Memo {
     {
         match self.turn.call(rt, pass, MemoCall::Ask(key)) {
             MemoReply::Asked(answer) => answer,
+            MemoReply::Answered(_) => unreachable!(),
+            MemoReply::Published(_) => unreachable!(),
+        }
+    }
+
+    /// Looks up all that the questions ask for, once it is this call's turn: one call, however many they
+    /// are, since look-ups append nothing.
+    ///
+    /// The questions come back in their order, each with its key and its answer. A pair may have parts that
+    /// are asked for earlier in the list. Where no question stands earlier at a part's place, or its answer
+    /// is `Absent`, the pair has no key and is `Absent` too.
+    pub fn ask_all<R: Wait>(
+        &self,
+        rt: &R,
+        pass: &mut MemoPass,
+        questions: Vec<Question>,
+    ) -> Vec<Question>
+        requires own { IsPassOf self.now pass.old }
+        ensures own { IsPassOf self.now pass.new }
+        ensures share { share_of pass.new ≡ share_of pass.old }
+        ensures made { made_by pass.new ≡ made_by pass.old }
+        ensures goes_on { IsPrefix (seen_by pass.old) (seen_by pass.new) }
+        ensures answers { AreAnswers (seen_by pass.new) questions.items result.items }
+    {
+        match self.turn.call(rt, pass, MemoCall::AskAll(questions)) {
+            MemoReply::Answered(answered) => answered,
+            MemoReply::Asked(_) => unreachable!(),
             MemoReply::Published(_) => unreachable!(),
         }
     }
@@ -162,6 +191,7 @@ impl Memo {
         match self.turn.call(rt, pass, MemoCall::Put(key, finished)) {
             MemoReply::Published(end) => end,
             MemoReply::Asked(_) => unreachable!(),
+            MemoReply::Answered(_) => unreachable!(),
         }
     }
 

@@ -7,6 +7,7 @@ ghost use Rattle.cts_memo.specs.Sound.{IsSound};
 
 use crate::entry::{Answer, MemoCall, MemoEntry, MemoReply, PutEnd};
 use crate::key::Key;
+use crate::question::{Query, Question};
 use crate::secret::Secret;
 use crate::seeded::Seeded;
 use cts_merge::Finished;
@@ -34,6 +35,7 @@ impl Table {
     ghost use Rattle.std.specs.Prelude.{◌≡◌, slice_get, [], IfOk};
     ghost use Rattle.cts_memo.specs.Sound.{IsMadeOf};
     ghost use Rattle.cts_memo.specs.Replies.{IsFound, IsPut, after_put};
+    ghost use Rattle.cts_memo.specs.Questions.{AreAnswers, IsAnswered};
     ghost use Rattle.cts_memo.specs.Tables.{base_of, told_by};
 
     /// A table without entries, with room for so many of them, or for 2^21 where that is less.
@@ -79,6 +81,29 @@ impl Table {
         }
     }
 
+    /// Answers what is asked for behind these questions of its list.
+    fn answer(&self, before: &[Question], query: Query) -> Question
+        ensures query { result.query ≡ query }
+        ensures answered { IsAnswered (told_by self.now) before.now result }
+    {
+        let key = query.key(before);
+        let answer = match key {
+            Some(key) => self.find(key),
+            None => Answer::Absent,
+        };
+        Question { query, key, answer }
+    }
+
+    /// Answers questions, one after the other, each where it stands.
+    fn answer_all(&self, questions: &mut [Question])
+        ensures { AreAnswers (told_by self.now) questions.old questions.new }
+    {
+        for place in 0..questions.len() {
+            let query = questions[place].query;
+            questions[place] = self.answer(&questions[..place], query);
+        }
+    }
+
     /// Appends what was made of a key, unless the key is there or there is no room. What is made of a
     /// key that is there is what its entry has, so the entry stays as it is.
     fn publish(&mut self, key: Key, finished: Finished) -> PutEnd
@@ -107,7 +132,7 @@ impl Object for Table {
     ghost use Rattle.cts_units.specs.declared.params.Params.{Params};
     ghost use Rattle.cts_memo.specs.Keys.{entries_of};
     ghost use Rattle.cts_memo.specs.Sound.{IsSound};
-    ghost use Rattle.cts_memo.specs.Replies.{Allows, Fits, list_after};
+    ghost use Rattle.cts_memo.specs.Calls.{Allows, Fits, list_after};
     ghost use Rattle.cts_memo.specs.TableLaws.{appends, fits_stays, untold};
 
     type Entry = MemoEntry;
@@ -141,6 +166,10 @@ impl Object for Table {
     fn act(&mut self, call: MemoCall) -> MemoReply {
         match call {
             MemoCall::Ask(key) => MemoReply::Asked(self.find(key)),
+            MemoCall::AskAll(mut questions) => {
+                self.answer_all(&mut questions);
+                MemoReply::Answered(questions)
+            }
             MemoCall::Put(key, finished) => MemoReply::Published(self.publish(key, finished)),
         }
     }

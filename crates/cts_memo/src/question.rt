@@ -1,0 +1,112 @@
+//! Questions that are asked beside others, in one call.
+
+ghost use Rattle.std.specs.Prelude.{◌≡◌};
+ghost use Rattle.cts_memo.specs.Questions.{key_of, leaf_query, number_told, pair_key, part_number, unanswered};
+
+use crate::entry::Answer;
+use crate::key::Key;
+use cts_units::Sink;
+
+/// A part of a pair that is asked for beside others.
+#[derive(Clone, Copy)]
+pub enum Part {
+    /// The entry of this number.
+    Number(u32),
+    /// What the question at this earlier place of the list asks for.
+    Place(u32),
+}
+
+/// What one question of many asks for: a leaf, or a pair by its two parts.
+#[derive(Clone, Copy)]
+pub enum Query {
+    /// A sink's place in nm, its capacitance in zF and its wanted offset in 10^-27 s, not doubled.
+    Leaf {
+        x: i64,
+        y: i64,
+        cap: u64,
+        offset: u64,
+    },
+    /// A pair's left and right part.
+    Pair {
+        left: Part,
+        right: Part,
+    },
+}
+
+/// A question and its answer. The answer is `Absent` where the question comes to no key.
+#[derive(Clone, Copy)]
+pub struct Question {
+    pub query: Query,
+    /// The key that it comes to, or `None` where a part has no entry.
+    pub key: Option<Key>,
+    pub answer: Answer,
+}
+
+/// The key of a pair whose two parts have these numbers, or `None` where one has none.
+fn pair_key(left: Option<u32>, right: Option<u32>) -> Option<Key>
+    ensures { result ≡ pair_key left right }
+{
+    Some(Key::Pair {
+        left: left?,
+        right: right?,
+    })
+}
+
+impl Part {
+    /// The number of the part's entry, behind these questions of its list.
+    fn number(self, before: &[Question]) -> Option<u32>
+        ensures { result ≡ part_number before.now self }
+    {
+        match self {
+            Part::Number(number) => Some(number),
+            Part::Place(place) => before.get(place as usize)?.number(),
+        }
+    }
+}
+
+impl Query {
+    /// The leaf of a sink.
+    pub fn of_sink(sink: &Sink) -> Query
+        ensures { result ≡ leaf_query sink.now }
+    {
+        Query::Leaf {
+            x: sink.x,
+            y: sink.y,
+            cap: sink.cap,
+            offset: sink.offset,
+        }
+    }
+
+    /// The key that is asked for, behind these questions of the list.
+    pub(crate) fn key(self, before: &[Question]) -> Option<Key>
+        ensures { result ≡ key_of before.now self }
+    {
+        match self {
+            Query::Leaf { x, y, cap, offset } => Some(Key::Leaf { x, y, cap, offset }),
+            Query::Pair { left, right } => pair_key(left.number(before), right.number(before)),
+        }
+    }
+}
+
+impl Question {
+    /// A question that isn't answered yet.
+    pub fn new(query: Query) -> Question
+        ensures { result ≡ unanswered query }
+    {
+        Question {
+            query,
+            key: None,
+            answer: Answer::Absent,
+        }
+    }
+
+    /// The number that its answer tells.
+    fn number(&self) -> Option<u32>
+        ensures { result ≡ number_told self.now }
+    {
+        match self.answer {
+            Answer::Have { number, .. } => Some(number),
+            Answer::Absent => None,
+        }
+    }
+}
