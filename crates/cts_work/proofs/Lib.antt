@@ -10,3 +10,4 @@ pub mod Slots
 pub mod Completing
 pub mod Sent
 pub mod Numbered
+pub mod Told

@@ -172,6 +172,12 @@ module _ (sinks : List Sink) (nodes : List ShapeNode) where
   pub none_numbered : (seen : List MemoEntry) (bs : List Brought) → bs ≡ [] → AreNumbered seen sinks nodes bs
   none_numbered seen bs none = record { each = λ i d h. absurd (omega (arith, ap length none)) }
 
+  pub numbered_longer : (seen longer : List MemoEntry) (bs : List Brought) → IsPrefix seen longer → length longer ≤ max_entries
+      → AreNumbered seen sinks nodes bs → AreNumbered longer sinks nodes bs
+  numbered_longer seen longer bs more short are = record {
+    each = λ i d h. number_kept seen longer sinks (tree_at nodes i) (get_or bs i d).number more short (are.each i d h);
+  }
+
   pub numbered_push : (seen longer : List MemoEntry) (k : ℕ) (bs : List Brought) (b : Brought) → IsPrefix seen longer → length longer ≤ max_entries
       → AreNumbered seen sinks nodes bs → length bs ≡ k → HasNumber longer sinks (tree_at nodes k) b.number → AreNumbered longer sinks nodes (bs ++ b ∷ [])
   numbered_push seen longer k bs b more short are long here = record {

@@ -4,3 +4,4 @@ pub mod Work
 pub mod Pieces
 pub mod Done
 pub mod Numbered
+pub mod Told

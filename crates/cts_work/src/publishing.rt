@@ -1,31 +1,37 @@
 //! A plan is brought into the memo.
 
-ghost use Rattle.std.specs.Prelude.{◌≡◌, ◌+◌, ◌^◌, ◌<◌, ◌≤◌, ◌⊎◌, length, IfOk, OnOk};
+ghost use Rattle.std.specs.Prelude.{◌≡◌, ◌+◌, ◌^◌, ◌<◌, ◌≤◌, ◌⊎◌, List, length, IfOk, IfSome, OnOk};
 ghost use mathlib.Core.List.{IsPrefix};
 ghost use Rattle.cts_merge.specs.Merge.{IsLeaf};
 ghost use Rattle.cts_topo.specs.Shape.{IsShapeOver};
 ghost use Rattle.cts_up.specs.Plan.{IsPlan};
 ghost use Rattle.cts_up.specs.Sinks.{AreSinksInRange};
 ghost use Rattle.cts_turn.specs.Passes.{seen_by, share_of};
+ghost use Rattle.cts_memo.specs.declared.entry.MemoEntry.{MemoEntry};
 ghost use Rattle.cts_memo.specs.Keys.{leaf_key};
 ghost use Rattle.cts_memo.specs.Numbers.{AreKnown};
 ghost use Rattle.cts_memo.specs.Passes.{IsPassOf, params_of};
 ghost use Rattle.cts_memo.specs.Sound.{IsMadeOf, NamesEntries, max_entries};
 ghost use Rattle.cts_work.specs.Built.{GoesOn, IsKept, IsPairAt, tree_at};
 ghost use Rattle.cts_work.specs.Numbered.{AreNumbered, HasNumber};
+ghost use Rattle.cts_work.specs.Told.{HoldsFor, MayTell, TellsTrue};
 ghost use Rattle.cts_work.specs.Work.{IsMadeAt, IsReady};
 
 use crate::gate::Gate;
 use crate::node::{PairNumbers, keep, pair_key};
 use crate::pieces::{Piece, pieces_for};
 use crate::work::Work;
-use cts_memo::{Answer, Key, Memo, MemoPass};
+use cts_memo::{Answer, Key, Memo, MemoPass, Part, Query, Question};
 use cts_merge::Finished;
 use cts_num::NoMemory;
 use cts_topo::{Shape, ShapeNode};
 use cts_units::Sink;
 use std::alloc::Global;
 use std::sync::Wait;
+
+/// So many nodes are asked for in one call of the memo: few enough that their questions fit a near cache and that
+/// no other caller waits long, and so many that the calls cost next to nothing.
+const STRETCH: usize = 1024;
 
 /// A node that was brought into the memo.
 #[derive(Clone, Copy)]
@@ -36,8 +42,48 @@ pub(crate) struct Brought {
     pub(crate) piece: u32,
 }
 
-/// The number of what was made of a key: the key is asked for, and where it is absent, published past the
+/// What was told of a key: the answer to its question, which is `Absent` where the question came to no key
+/// since a part had no entry. `None` where there is no question, or its key was another one.
+#[inline(always)]
+fn answer_told(told: Option<&Question>, key: Key) -> Option<Answer>
+    ensures { (seen : List MemoEntry) → IfSome told.entry (λ q. TellsTrue seen q.now) → IfSome result (HoldsFor seen key) }
+{
+    let question = told?;
+    match question.key {
+        Some(own) => {
+            if own != key {
+                return None;
+            }
+            Some(question.answer)
+        }
+        None => Some(Answer::Absent),
+    }
+}
+
+/// What the memo answers for a key: what was told, or else it is asked for now.
+#[inline(always)]
+fn answer_for<R: Wait>(
+    rt: &R,
+    memo: &Memo,
+    pass: &mut MemoPass,
+    key: Key,
+    told: Option<&Question>,
+) -> Answer
+    requires own { IsPassOf memo.now pass.old }
+    requires key { NamesEntries (seen_by pass.old) key }
+    requires told { IfSome told (λ q. TellsTrue (seen_by pass.old) q.now) }
+    ensures pass { GoesOn memo.now pass.old pass.new }
+    ensures holds { HoldsFor (seen_by pass.new) key result }
+{
+    match answer_told(told, key) {
+        Some(answer) => answer,
+        None => memo.ask(rt, pass, key),
+    }
+}
+
+/// The number of what was made of a key: that of its entry, or, where it is absent, published past the
 /// gate. `None` where the memo is full.
+#[inline(always)]
 fn bring<R: Wait, G: Gate>(
     rt: &R,
     gate: &G,
@@ -45,19 +91,21 @@ fn bring<R: Wait, G: Gate>(
     memo: &Memo,
     pass: &mut MemoPass,
     key: Key,
-    finished: Finished,
+    told: Option<&Question>,
+    finished: &Finished,
 ) -> Result<Option<u32>, NoMemory>
     requires own { IsPassOf memo.now pass.old }
     requires key { NamesEntries (seen_by pass.old) key }
-    requires finished { IsMadeOf (params_of memo.now) (seen_by pass.old) key finished }
+    requires told { IfSome told (λ q. TellsTrue (seen_by pass.old) q.now) }
+    requires finished { IsMadeOf (params_of memo.now) (seen_by pass.old) key finished.now }
     ensures pass { GoesOn memo.now pass.old pass.new }
-    ensures kept { IfOk result (IsKept (seen_by pass.new) key finished) }
+    ensures kept { IfOk result (IsKept (seen_by pass.new) key finished.now) }
 {
-    match memo.ask(rt, pass, key) {
+    match answer_for(rt, memo, pass, key, told) {
         Answer::Have { number, .. } => Ok(Some(number)),
         Answer::Absent => {
             gate.between(piece);
-            keep(rt, memo, pass, key, finished)
+            keep(rt, memo, pass, key, *finished)
         }
     }
 }
@@ -70,14 +118,17 @@ fn bring_leaf<R: Wait, G: Gate>(
     memo: &Memo,
     pass: &mut MemoPass,
     sink: &Sink,
-    finished: Finished,
+    told: Option<&Question>,
+    finished: &Finished,
 ) -> Result<Option<u32>, NoMemory>
     requires own { IsPassOf memo.now pass.old }
-    requires leaf { IsLeaf sink.now finished }
+    requires told { IfSome told (λ q. TellsTrue (seen_by pass.old) q.now) }
+    requires leaf { IsLeaf sink.now finished.now }
     ensures pass { GoesOn memo.now pass.old pass.new }
-    ensures kept { IfOk result (IsKept (seen_by pass.new) (leaf_key sink.now) finished) }
+    ensures kept { IfOk result (IsKept (seen_by pass.new) (leaf_key sink.now) finished.now) }
 {
-    bring(rt, gate, piece, memo, pass, Key::of_sink(sink), finished)
+    let key = Key::of_sink(sink);
+    bring(rt, gate, piece, memo, pass, key, told, finished)
 }
 
 /// The number of a pair whose two parts have these numbers.
@@ -89,18 +140,20 @@ fn bring_pair<R: Wait, G: Gate>(
     at: PairNumbers,
     left: Brought,
     right: Brought,
-    finished: Finished,
+    told: Option<&Question>,
+    finished: &Finished,
 ) -> Result<Option<u32>, NoMemory>
     requires own { IsPassOf work.now.memo.now pass.old }
     requires here { IsPairAt work.now.nodes.now at.node at.left at.right }
     requires left { HasNumber (seen_by pass.old) work.now.sinks.now (tree_at work.now.nodes.now at.left) left.number }
     requires right { HasNumber (seen_by pass.old) work.now.sinks.now (tree_at work.now.nodes.now at.right) right.number }
-    requires made { IsMadeAt work.now at.node finished }
+    requires told { IfSome told (λ q. TellsTrue (seen_by pass.old) q.now) }
+    requires made { IsMadeAt work.now at.node finished.now }
     ensures pass { GoesOn work.now.memo.now pass.old pass.new }
     ensures number { IfOk result (HasNumber (seen_by pass.new) work.now.sinks.now (tree_at work.now.nodes.now at.node)) }
 {
     match pair_key(left.number, right.number) {
-        Some(key) => bring(rt, gate, left.piece, work.memo, pass, key, finished),
+        Some(key) => bring(rt, gate, left.piece, work.memo, pass, key, told, finished),
         None => Ok(None),
     }
 }
@@ -114,32 +167,107 @@ fn bring_node<R: Wait, G: Gate>(
     node: u32,
     piece: u32,
     before: &[Brought],
-    finished: Finished,
+    told: Option<&Question>,
+    finished: &Finished,
 ) -> Result<Brought, NoMemory>
     requires own { IsPassOf work.now.memo.now pass.old }
     requires ready { IsReady work.now }
     requires node { node < length work.now.nodes.now }
     requires long { length before.now ≡ node }
     requires before { AreNumbered (seen_by pass.old) work.now.sinks.now work.now.nodes.now before.now }
-    requires made { IsMadeAt work.now node finished }
+    requires told { IfSome told (λ q. TellsTrue (seen_by pass.old) q.now) }
+    requires made { IsMadeAt work.now node finished.now }
     ensures pass { GoesOn work.now.memo.now pass.old pass.new }
     ensures number { IfOk result (λ b. HasNumber (seen_by pass.new) work.now.sinks.now (tree_at work.now.nodes.now node) b.number) }
 {
     match work.nodes[node as usize] {
         ShapeNode::Leaf { sink } => {
             let sink = &work.sinks[sink as usize];
-            let number = bring_leaf(rt, gate, piece, work.memo, pass, sink, finished)?;
+            let number = bring_leaf(rt, gate, piece, work.memo, pass, sink, told, finished)?;
             Ok(Brought { number, piece })
         }
         ShapeNode::Pair { left, right } => {
             let (a, b) = (before[left as usize], before[right as usize]);
             let at = PairNumbers { node, left, right };
-            let number = bring_pair(rt, gate, work, pass, at, a, b, finished)?;
+            let number = bring_pair(rt, gate, work, pass, at, a, b, told, finished)?;
             Ok(Brought {
                 number,
                 piece: a.piece,
             })
         }
+    }
+}
+
+/// How a part is named in a question: by its number where it was brought before, else by its place in the
+/// stretch. A part that the memo had no room for has neither, and is named by a place that isn't there.
+fn part_named(before: &[Brought], part: u32) -> Part {
+    match before.get(part as usize) {
+        Some(brought) => match brought.number {
+            Some(number) => Part::Number(number),
+            None => Part::Place(u32::MAX),
+        },
+        None => Part::Place(part - before.len() as u32),
+    }
+}
+
+/// The question for a node of the stretch that begins after these.
+fn question_for(work: &Work<'_>, before: &[Brought], node: usize) -> Question
+    requires ready { IsReady work.now }
+    requires node { node < length work.now.nodes.now }
+{
+    Question::new(match work.nodes[node] {
+        ShapeNode::Leaf { sink } => Query::of_sink(&work.sinks[sink as usize]),
+        ShapeNode::Pair { left, right } => Query::Pair {
+            left: part_named(before, left),
+            right: part_named(before, right),
+        },
+    })
+}
+
+/// Asks for the nodes of the stretch that begins after these, in one call of the memo. The list that is
+/// handed in is used again.
+fn ask_stretch<R: Wait>(
+    rt: &R,
+    work: &Work<'_>,
+    pass: &mut MemoPass,
+    before: &[Brought],
+    mut questions: Vec<Question>,
+) -> Result<Vec<Question>, NoMemory>
+    requires own { IsPassOf work.now.memo.now pass.old }
+    requires ready { IsReady work.now }
+    requires before { length before.now ≤ length work.now.nodes.now }
+    ensures pass { GoesOn work.now.memo.now pass.old pass.new }
+    ensures told { IfOk result (λ told. MayTell (seen_by pass.new) told.items) }
+{
+    questions.clear();
+    let end = work.nodes.len().min(before.len().saturating_add(STRETCH));
+    for node in before.len()..end {
+        questions.push(question_for(work, before, node))?;
+    }
+    Ok(work.memo.ask_all(rt, pass, questions))
+}
+
+/// What is told of the stretch in which a node stands: it is asked for at the first node of the stretch.
+#[inline(always)]
+fn stretch_told<R: Wait>(
+    rt: &R,
+    work: &Work<'_>,
+    pass: &mut MemoPass,
+    node: u32,
+    before: &[Brought],
+    told: Vec<Question>,
+) -> Result<Vec<Question>, NoMemory>
+    requires own { IsPassOf work.now.memo.now pass.old }
+    requires ready { IsReady work.now }
+    requires before { length before.now ≤ length work.now.nodes.now }
+    requires told { MayTell (seen_by pass.old) told.items }
+    ensures pass { GoesOn work.now.memo.now pass.old pass.new }
+    ensures told { IfOk result (λ told. MayTell (seen_by pass.new) told.items) }
+{
+    if node as usize % STRETCH == 0 {
+        ask_stretch(rt, work, pass, before, told)
+    } else {
+        Ok(told)
     }
 }
 
@@ -175,10 +303,11 @@ fn bring_nodes<R: Wait, G: Gate>(
     ensures known { OnOk result ((length (seen_by pass.new) ≡ max_entries) ⊎ AreKnown (seen_by pass.new) work.now.sinks.now work.now.nodes.now) }
 {
     let mut before = Vec::with_capacity(alloc, plan.len())?;
+    let mut told = Vec::with_capacity(alloc, plan.len().min(STRETCH))?;
     let mut piece = 0;
     for node in 0..plan.len() as u32 {
+        told = stretch_told(rt, work, pass, node, before.as_slice(), told)?;
         piece = piece_at(pieces, piece, node);
-        let finished = plan[node as usize];
         let next = bring_node(
             rt,
             gate,
@@ -187,7 +316,8 @@ fn bring_nodes<R: Wait, G: Gate>(
             node,
             piece,
             before.as_slice(),
-            finished,
+            told.get(node as usize % STRETCH),
+            &plan[node as usize],
         )?;
         before.push(next)?;
     }
@@ -196,12 +326,13 @@ fn bring_nodes<R: Wait, G: Gate>(
 
 /// Brings a plan of a shape over sinks into the memo with whose parameters it was made.
 ///
-/// The nodes are gone through in their order by the caller alone: each is asked for, and takes its number
-/// where the memo has it; where it is absent, the gate's `between` is called with the number of its piece,
-/// outside every turn, and the node is published. The pieces are those that [`plan_all`] makes for as many
-/// workers, and a pair above them has the number of its leftmost one. Nothing is asked or published above a
-/// node that the memo had no room for. `NoMemory` comes where an allocation fails, or the table could not
-/// grow; what was published stays in the memo.
+/// The caller alone goes through the nodes in their order, in stretches of 1,024: those of a stretch are all
+/// asked for in one call of the memo, and then each takes its number where the memo has it; where it is
+/// absent, the gate's `between` is called with the number of its piece, outside every turn, and the node is
+/// published. The pieces are those that [`plan_all`] makes for as many workers, and a pair above them has the
+/// number of its leftmost one. Nothing is looked up or published above a node that the memo had no room for.
+/// `NoMemory` comes where an allocation fails, or the table could not grow; what was published stays in the
+/// memo.
 ///
 /// [`plan_all`]: crate::plan_all
 pub fn publish_plan<R: Wait, G: Gate>(

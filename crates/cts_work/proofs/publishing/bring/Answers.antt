@@ -7,14 +7,14 @@ use Rattle.cts_work.proofs.publishing.bring.Goals as goal
 
 pub keep-requires-clause-key : goal.keep-requires-clause-key
 keep-requires-clause-key g c =
-    names_stay (seen_by c.args.pass.now) (seen_by c.ask.new.pass) c.args.key c.ask.ensures.goes_on c.requires.key
+    names_stay (seen_by c.args.pass.now) (seen_by c.answer_for.new.pass) c.args.key c.answer_for.ensures.pass.goes_on c.requires.key
 
 pub keep-requires-clause-finished : goal.keep-requires-clause-finished
 keep-requires-clause-finished g c =
-    made_stays (params_of c.args.memo.now) (seen_by c.args.pass.now) (seen_by c.ask.new.pass) c.args.key c.args.finished
-    c.ask.ensures.goes_on c.requires.finished
+    made_stays (params_of c.args.memo.now) (seen_by c.args.pass.now) (seen_by c.answer_for.new.pass) c.args.key c.args.finished.now
+    c.answer_for.ensures.pass.goes_on c.requires.finished
 
 pub returns-in-Have-clause-kept : goal.returns-in-Have-clause-kept
 returns-in-Have-clause-kept g c =
-    found_kept (params_of c.args.memo.now) (seen_by c.args.pass.now) (seen_by c.ask.new.pass) c.args.key c.args.finished _ c.in-Have.number
-    (sound_for c.args.memo.now c.ask.new.pass c.ask.ensures.own) c.ask.ensures.goes_on c.requires.finished c.in-Have.ensures.found
+    found_kept (params_of c.args.memo.now) (seen_by c.args.pass.now) (seen_by c.answer_for.new.pass) c.args.key c.args.finished.now _ c.in-Have.number
+    (sound_for c.args.memo.now c.answer_for.new.pass c.answer_for.ensures.pass.own) c.answer_for.ensures.pass.goes_on c.requires.finished c.in-Have.ensures.holds

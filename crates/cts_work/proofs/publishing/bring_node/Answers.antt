@@ -16,7 +16,7 @@ bounds-work-sink g c =
 
 pub bring_leaf-requires-clause-leaf : goal.bring_leaf-requires-clause-leaf
 bring_leaf-requires-clause-leaf g c = λ κs within.
-    leaf_made c.args.work.now c.args.node c.in-Leaf.sink _ c.args.finished
+    leaf_made c.args.work.now c.args.node c.in-Leaf.sink _ c.args.finished.now
     (leaf_within (length c.args.work.now.sinks.now) c.args.work.now.nodes.now c.requires.ready.shape c.args.node _ _ c.requires.node (c.in-Leaf.is))
     (tip_at c.args.work.now.nodes.now c.args.node c.requires.node _ c.in-Leaf.sink c.in-Leaf.is) c.requires.made
 
@@ -66,5 +66,5 @@ returns-in_ok-number-in-Leaf-clause-number g c =
     let within = leaf_within (length sinks) c.args.work.now.nodes.now c.requires.ready.shape c.args.node _ c.in-Leaf.sink c.requires.node (c.in-Leaf.is) in
     subst (λ t. HasNumber (seen_by c.bring_leaf.new.pass) sinks t c.in_ok-number-in-Leaf.number)
     (sym (tip_at c.args.work.now.nodes.now c.args.node c.requires.node _ c.in-Leaf.sink c.in-Leaf.is))
-    (leaf_number (params_of c.args.work.now.memo.now) (seen_by c.bring_leaf.new.pass) sinks c.in-Leaf.sink _ c.args.finished
+    (leaf_number (params_of c.args.work.now.memo.now) (seen_by c.bring_leaf.new.pass) sinks c.in-Leaf.sink _ c.args.finished.now
     c.in_ok-number-in-Leaf.number within (sound_for c.args.work.now.memo.now c.bring_leaf.new.pass pass.own) c.in_ok-number-in-Leaf.ensures.kept)

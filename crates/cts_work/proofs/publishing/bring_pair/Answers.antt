@@ -18,8 +18,8 @@ pub bring-requires-clause-finished : goal.bring-requires-clause-finished
 bring-requires-clause-finished g c = λ κs within.
     made_of_two (params_of c.args.work.now.memo.now) (seen_by c.args.pass.now) c.args.work.now.sinks.now _ _ (Pair c.args.at.left c.args.at.right) _ _
     c.requires.left c.requires.right c.in-Some.key c.in-Some.ensures.key (sound_for c.args.work.now.memo.now c.args.pass.now c.requires.own)
-    c.args.finished
-    (subst (λ t. IsFinished (params_of c.args.work.now.memo.now) c.args.work.now.sinks.now t c.args.finished) c.requires.here c.requires.made)
+    c.args.finished.now
+    (subst (λ t. IsFinished (params_of c.args.work.now.memo.now) c.args.work.now.sinks.now t c.args.finished.now) c.requires.here c.requires.made)
 
 pub returns-in-Some-clause-number : goal.returns-in-Some-clause-number
 returns-in-Some-clause-number g c =
@@ -30,7 +30,7 @@ returns-in-Some-clause-number g c =
     IfOk-weaker c.bring.result _ _
     (λ n kept. subst (λ t. HasNumber (seen_by c.bring.new.pass) sinks t n) (sym c.requires.here)
     (pair_number_kept (params_of c.args.work.now.memo.now) (seen_by c.bring.new.pass) sinks _ _ (Pair c.args.at.left c.args.at.right)
-    c.args.left.number c.args.right.number a b c.in-Some.key c.in-Some.ensures.key c.args.finished n
+    c.args.left.number c.args.right.number a b c.in-Some.key c.in-Some.ensures.key c.args.finished.now n
     (sound_for c.args.work.now.memo.now c.bring.new.pass pass.own) kept))
     c.bring.ensures.kept
 
