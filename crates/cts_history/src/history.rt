@@ -8,7 +8,7 @@ ghost use Rattle.cts_script.specs.Text.{after_space, count_line};
 ghost use Rattle.cts_history.specs.History.{IsPrintable, IsPrintableReply, caller_text, edit_words, entry_line, history_text, numbered};
 
 use crate::reply::put_replies;
-use crate::words::{put_capacitance, put_coordinate, put_count, put_whole, put_word};
+use crate::words::{put_capacitance, put_coordinate, put_labelled};
 use cts_callers::Reply;
 use cts_design::{Edit, Entry};
 use cts_io::{ByteSink, SinkBuffer, WriteEnd};
@@ -40,8 +40,7 @@ pub fn write_history<K: ByteSink>(
 pub fn put_length_of<K: ByteSink>(out: &mut SinkBuffer, sink: &mut K, entries: usize)
     ensures { Puts K.ByteSink (sink.old, out.old) (sink.new, out.new) (count_line (codes "history") entries) }
 {
-    out.put(sink, b"history");
-    put_whole(out, sink, entries as u64);
+    put_labelled(out, sink, b"history ", entries as u64);
     out.put(sink, b"\n");
 }
 
@@ -58,12 +57,9 @@ pub fn put_entries<K: ByteSink>(out: &mut SinkBuffer, sink: &mut K, history: &[E
 fn put_entry<K: ByteSink>(out: &mut SinkBuffer, sink: &mut K, version: u64, entry: Entry)
     ensures { Puts K.ByteSink (sink.old, out.old) (sink.new, out.new) (entry_line version entry) }
 {
-    out.put(sink, b"entry");
-    put_whole(out, sink, version);
-    put_word(out, sink, b"caller");
-    put_count(out, sink, entry.caller);
-    put_word(out, sink, b"line");
-    put_count(out, sink, entry.line);
+    put_labelled(out, sink, b"entry ", version);
+    put_labelled(out, sink, b" caller ", u64::from(entry.caller));
+    put_labelled(out, sink, b" line ", u64::from(entry.line));
     put_edit(out, sink, entry.edit);
     out.put(sink, b"\n");
 }
@@ -74,25 +70,21 @@ fn put_edit<K: ByteSink>(out: &mut SinkBuffer, sink: &mut K, edit: Edit)
 {
     match edit {
         Edit::Add { id, x, y, cap } => {
-            put_word(out, sink, b"add");
-            put_count(out, sink, id);
+            put_labelled(out, sink, b" add ", u64::from(id));
             put_coordinate(out, sink, x);
             put_coordinate(out, sink, y);
             put_capacitance(out, sink, cap);
         }
         Edit::Remove { id } => {
-            put_word(out, sink, b"remove");
-            put_count(out, sink, id);
+            put_labelled(out, sink, b" remove ", u64::from(id));
         }
         Edit::Move { id, x, y } => {
-            put_word(out, sink, b"move");
-            put_count(out, sink, id);
+            put_labelled(out, sink, b" move ", u64::from(id));
             put_coordinate(out, sink, x);
             put_coordinate(out, sink, y);
         }
         Edit::SetCap { id, cap } => {
-            put_word(out, sink, b"cap");
-            put_count(out, sink, id);
+            put_labelled(out, sink, b" cap ", u64::from(id));
             put_capacitance(out, sink, cap);
         }
     }
@@ -114,10 +106,8 @@ fn put_caller<K: ByteSink>(out: &mut SinkBuffer, sink: &mut K, caller: u64, repl
     requires { All IsPrintableReply replies.now }
     ensures { Puts K.ByteSink (sink.old, out.old) (sink.new, out.new) (caller_text caller replies.now) }
 {
-    out.put(sink, b"caller");
-    put_whole(out, sink, caller);
-    put_word(out, sink, b"replies");
-    put_whole(out, sink, replies.len() as u64);
+    put_labelled(out, sink, b"caller ", caller);
+    put_labelled(out, sink, b" replies ", replies.len() as u64);
     out.put(sink, b"\n");
     put_replies(out, sink, replies);
 }

@@ -6,7 +6,7 @@ ghost use Rattle.cts_io.specs.Text.{Puts};
 ghost use Rattle.cts_script.specs.Text.{after_space};
 ghost use Rattle.cts_history.specs.History.{IsPrintableReply, cause_words, changed_words, no_tree_words, reply_line, reply_words, tree_words};
 
-use crate::words::{put_count, put_delay, put_length, put_word};
+use crate::words::{put_count, put_delay, put_labelled, put_length, put_word};
 use cts_callers::Reply;
 use cts_design::{EditCause, EditReply};
 use cts_io::{ByteSink, SinkBuffer};
@@ -64,14 +64,12 @@ fn put_changed<K: ByteSink>(out: &mut SinkBuffer, sink: &mut K, reply: EditReply
 {
     match reply {
         EditReply::Accepted { version } => {
-            put_word(out, sink, b"accepted");
-            put_count(out, sink, version);
+            put_labelled(out, sink, b" accepted ", u64::from(version));
         }
         EditReply::Refused { cause, version } => {
             put_word(out, sink, b"refused");
             put_cause(out, sink, cause);
-            put_word(out, sink, b"at");
-            put_count(out, sink, version);
+            put_labelled(out, sink, b" at ", u64::from(version));
         }
         EditReply::NoMemory => {}
     }
@@ -99,8 +97,7 @@ fn put_tree<K: ByteSink>(out: &mut SinkBuffer, sink: &mut K, version: u32, skew:
     ensures { Puts K.ByteSink (sink.old, out.old) (sink.new, out.new)
         (flat_map after_space (tree_words version skew wire)) }
 {
-    put_word(out, sink, b"tree");
-    put_count(out, sink, version);
+    put_labelled(out, sink, b" tree ", u64::from(version));
     put_word(out, sink, b"skew");
     put_delay(out, sink, skew);
     put_word(out, sink, b"wire");
@@ -114,16 +111,12 @@ fn put_no_tree<K: ByteSink>(out: &mut SinkBuffer, sink: &mut K, version: u32, wh
 {
     match why {
         NoTree::Beyond { node } => {
-            put_word(out, sink, b"no tree beyond at node");
-            put_count(out, sink, node);
-            put_word(out, sink, b"at");
-            put_count(out, sink, version);
+            put_labelled(out, sink, b" no tree beyond at node ", u64::from(node));
+            put_labelled(out, sink, b" at ", u64::from(version));
         }
         NoTree::Cut { node } => {
-            put_word(out, sink, b"no tree cut at node");
-            put_count(out, sink, node);
-            put_word(out, sink, b"at");
-            put_count(out, sink, version);
+            put_labelled(out, sink, b" no tree cut at node ", u64::from(node));
+            put_labelled(out, sink, b" at ", u64::from(version));
         }
         NoTree::NoMemory => {}
     }

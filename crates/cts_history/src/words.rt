@@ -1,13 +1,12 @@
-//! Words and numbers of a line, each after a space.
+//! Words and numbers of a line, each after a space or a label.
 
-ghost use Rattle.std.specs.Prelude.{◌^◌, ◌<◌, ◌≤◌};
+ghost use Rattle.std.specs.Prelude.{◌^◌, ◌<◌, ◌≤◌, ◌++◌};
 ghost use Rattle.cts_io.specs.Text.{Puts};
 ghost use Rattle.cts_num.specs.Decimal.{decimal_text};
 ghost use Rattle.cts_script.specs.Text.{after_space, coordinate};
 ghost use Rattle.cts_history.specs.History.{length_in_um, time, whole};
 
 use cts_io::{ByteSink, SinkBuffer};
-use cts_num::decimal;
 
 /// A word as it is.
 #[inline]
@@ -19,16 +18,25 @@ pub fn put_word<K: ByteSink>(out: &mut SinkBuffer, sink: &mut K, word: &[u8])
 }
 
 /// A number of units of 10^-`places`.
-#[inline]
+#[inline(always)]
 fn put_number<K: ByteSink>(out: &mut SinkBuffer, sink: &mut K, places: u32, value: u128)
     requires value { value < 10 ^ 38 }
     requires places { places ≤ 16 }
     ensures { Puts K.ByteSink (sink.old, out.old) (sink.new, out.new) (after_space (decimal_text places value)) }
 {
-    put_word(out, sink, decimal(value, places).bytes());
+    out.put_labelled(sink, b" ", value, places);
+}
+
+/// A label, and then a whole number.
+#[inline(always)]
+pub fn put_labelled<K: ByteSink>(out: &mut SinkBuffer, sink: &mut K, label: &[u8], number: u64)
+    ensures { Puts K.ByteSink (sink.old, out.old) (sink.new, out.new) (label.now ++ whole number) }
+{
+    out.put_labelled(sink, label, u128::from(number), 0);
 }
 
 /// A whole number.
+#[inline]
 pub fn put_whole<K: ByteSink>(out: &mut SinkBuffer, sink: &mut K, number: u64)
     ensures { Puts K.ByteSink (sink.old, out.old) (sink.new, out.new) (after_space (whole number)) }
 {
@@ -36,6 +44,7 @@ pub fn put_whole<K: ByteSink>(out: &mut SinkBuffer, sink: &mut K, number: u64)
 }
 
 /// A whole number, as those of lines, callers, ids and versions are.
+#[inline]
 pub fn put_count<K: ByteSink>(out: &mut SinkBuffer, sink: &mut K, number: u32)
     ensures { Puts K.ByteSink (sink.old, out.old) (sink.new, out.new) (after_space (whole number)) }
 {
@@ -43,6 +52,7 @@ pub fn put_count<K: ByteSink>(out: &mut SinkBuffer, sink: &mut K, number: u32)
 }
 
 /// A coordinate in nm, which is not below 0.
+#[inline]
 pub fn put_coordinate<K: ByteSink>(out: &mut SinkBuffer, sink: &mut K, z: i64)
     ensures { Puts K.ByteSink (sink.old, out.old) (sink.new, out.new) (after_space (coordinate z)) }
 {
@@ -50,6 +60,7 @@ pub fn put_coordinate<K: ByteSink>(out: &mut SinkBuffer, sink: &mut K, z: i64)
 }
 
 /// A capacitance in zF.
+#[inline]
 pub fn put_capacitance<K: ByteSink>(out: &mut SinkBuffer, sink: &mut K, cap: u64)
     ensures { Puts K.ByteSink (sink.old, out.old) (sink.new, out.new) (after_space (decimal_text 6 cap)) }
 {
@@ -57,6 +68,7 @@ pub fn put_capacitance<K: ByteSink>(out: &mut SinkBuffer, sink: &mut K, cap: u64
 }
 
 /// A length in nm.
+#[inline]
 pub fn put_length<K: ByteSink>(out: &mut SinkBuffer, sink: &mut K, nm: u64)
     ensures { Puts K.ByteSink (sink.old, out.old) (sink.new, out.new) (after_space (length_in_um nm)) }
 {
@@ -64,6 +76,7 @@ pub fn put_length<K: ByteSink>(out: &mut SinkBuffer, sink: &mut K, nm: u64)
 }
 
 /// A doubled delay in 10^-27 s.
+#[inline]
 pub fn put_delay<K: ByteSink>(out: &mut SinkBuffer, sink: &mut K, delay: u128)
     requires { delay ≤ 10 ^ 37 }
     ensures { Puts K.ByteSink (sink.old, out.old) (sink.new, out.new) (after_space (time delay)) }

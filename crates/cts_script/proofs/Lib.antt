@@ -1,5 +1,7 @@
 pub mod Draws
 pub mod Limits
+pub mod PlainSteps
+pub mod PlainReplays
 pub mod StepLists
 pub mod ReplayLists
 pub mod Lists

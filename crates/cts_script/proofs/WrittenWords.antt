@@ -47,7 +47,7 @@ word_not_blank b h =
     let tab : eqb b 9 ≡ false = ne_eqb b 9 (λ e. omega (arith, h.low, e)) in
     rw (space, tab) refl
 
-words_not_blank : (w : List ℕ) → IsWord w → All (λ x. is_blank x ≡ false) w
+pub words_not_blank : (w : List ℕ) → IsWord w → All (λ x. is_blank x ≡ false) w
 words_not_blank w h i d inside = word_not_blank _ (h.each i d inside)
 
 pub words_of-body : (key : List ℕ) (words : List (List ℕ)) → IsWord key → AreWords words → words_of (body_of key words) ≡ key ∷ words

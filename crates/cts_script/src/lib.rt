@@ -11,6 +11,7 @@
 mod generator;
 pub mod laws;
 mod make;
+mod plain;
 mod read;
 mod replay;
 mod script;

@@ -5,6 +5,7 @@ ghost use Rattle.cts_read.specs.Grammar.{Finds, Gives, Refuses, item_at, left_in
 ghost use Rattle.cts_read.specs.Lines.{words_of};
 ghost use Rattle.cts_script.specs.Replays.{AreReplayed, IsReplayed, alone_fault, alone_of, mover_of, moved_by, moving_of, replay_at, replay_line, replay_of, replay_step_at, replay_steps_at, stepped, with_line};
 
+use crate::plain::plain_step;
 use crate::script::Act;
 use crate::step::{ScriptLine, callers_of, is_digits, limited, line_of};
 use cts_instance::{Fault, Item};
@@ -114,8 +115,22 @@ fn stepped(said: ScriptLine) -> Option<ReplayAct>
 }
 
 /// What a line after the first one asks for, where so many steps came before it; none at the end.
-#[tactic(auto, unfolding(crate::specs::Replays::replay_line))]
+#[tactic(auto, using(crate::proofs::PlainReplays::replay_of_step))]
 fn replay_line(before: u32, line: &[u8]) -> Result<Option<ReplayAct>, Cause>
+    ensures read { result ≡ replay_line before line.now }
+    ensures room { IfOk result (λ act. IfSome act (λ _. before < 65536)) }
+    ensures within { IfOk result (λ act. IfSome act IsReplayed) }
+{
+    match plain_step(1, before, line) {
+        Some(said) => Ok(stepped(said)),
+        None => any_replay_line(before, line),
+    }
+}
+
+/// As [`replay_line`], word by word.
+#[inline(never)]
+#[tactic(auto, unfolding(crate::specs::Replays::replay_line))]
+fn any_replay_line(before: u32, line: &[u8]) -> Result<Option<ReplayAct>, Cause>
     ensures read { result ≡ replay_line before line.now }
     ensures room { IfOk result (λ act. IfSome act (λ _. before < 65536)) }
     ensures within { IfOk result (λ act. IfSome act IsReplayed) }

@@ -1,10 +1,13 @@
 //! The lines of a script.
 
-ghost use Rattle.std.specs.Prelude.{◌≡◌, ◌^◌, ◌<◌, ◌≤◌, IfOk, IfSome};
+ghost use Rattle.std.specs.Prelude.{◌≡◌, ◌^◌, ◌<◌, ◌≤◌, ◌&&◌, pos, IfOk, IfSome};
+ghost use Rattle.cts_edit.specs.declared.edit.Edit.TheVariants as edit;
 ghost use Rattle.cts_read.specs.Grammar.{Finds, number_of, refuse};
 ghost use Rattle.cts_read.specs.Lines.{words_of};
-ghost use Rattle.cts_script.specs.Steps.{IsAct, IsCallerCount, IsLine, act_of, add_of, callers_fault, callers_of, cap_of, is_digits, kind_at, kind_of, limited, line_of, move_of, numbers_after, remove_of, said_by, step_of};
+ghost use Rattle.cts_script.specs.Steps.{IsAct, IsCallerCount, IsLine, act_of, add_of, callers_fault, callers_of, cap_of, is_cap, is_coordinate, is_digits, is_id, kind_at, kind_of, limited, line_of, move_of, numbers_after, remove_of, said_by, step_of, where_within};
+ghost use Rattle.cts_script.specs.declared.script.Act.TheVariants.{Change};
 
+use crate::plain::plain_step;
 use crate::script::{Act, ScriptStep};
 use cts_edit::Edit;
 use cts_instance::{Fault, Item};
@@ -124,6 +127,69 @@ fn kind_at(words: &[u8]) -> Result<(StepKind, &[u8]), Cause>
     }
 }
 
+/// A sink of this id, place in nm and capacitance in zF is added; none where one is past its limit.
+#[inline]
+pub fn added(id: u64, x: u64, y: u64, cap: u64) -> Option<Act>
+    ensures read { result ≡ where_within (is_id id && is_coordinate x && is_coordinate y && is_cap cap)
+        (Change (edit.Add id (pos x) (pos y) cap)) }
+    ensures within { IfSome result IsAct }
+{
+    if id <= LAST_ID && x <= FARTHEST && y <= FARTHEST && cap <= MAX_CAPACITANCE {
+        Some(Act::Change(Edit::Add {
+            id: id as u32,
+            x: x as i64,
+            y: y as i64,
+            cap,
+        }))
+    } else {
+        None
+    }
+}
+
+/// The sink of this id is removed; none where it is past the limit.
+#[inline]
+pub fn removed(id: u64) -> Option<Act>
+    ensures read { result ≡ where_within (is_id id) (Change (edit.Remove id)) }
+    ensures within { IfSome result IsAct }
+{
+    if id <= LAST_ID {
+        Some(Act::Change(Edit::Remove { id: id as u32 }))
+    } else {
+        None
+    }
+}
+
+/// The sink of this id is moved to a place in nm; none where one is past its limit.
+#[inline]
+pub fn moved(id: u64, x: u64, y: u64) -> Option<Act>
+    ensures read { result ≡ where_within (is_id id && is_coordinate x && is_coordinate y)
+        (Change (edit.Move id (pos x) (pos y))) }
+    ensures within { IfSome result IsAct }
+{
+    if id <= LAST_ID && x <= FARTHEST && y <= FARTHEST {
+        Some(Act::Change(Edit::Move {
+            id: id as u32,
+            x: x as i64,
+            y: y as i64,
+        }))
+    } else {
+        None
+    }
+}
+
+/// The sink of this id gets a capacitance in zF; none where one is past its limit.
+#[inline]
+pub fn loaded(id: u64, cap: u64) -> Option<Act>
+    ensures read { result ≡ where_within (is_id id && is_cap cap) (Change (edit.SetCap id cap)) }
+    ensures within { IfSome result IsAct }
+{
+    if id <= LAST_ID && cap <= MAX_CAPACITANCE {
+        Some(Act::Change(Edit::SetCap { id: id as u32, cap }))
+    } else {
+        None
+    }
+}
+
 /// The id, the place in nm and the capacitance in zF of a sink that is added; none where one is past
 /// its limit.
 #[tactic(auto, unfolding(crate::specs::Steps::add_of))]
@@ -135,16 +201,7 @@ fn add_of(words: &[u8]) -> Result<Option<Act>, Cause>
     let (x, rest) = number(3, rest)?;
     let (y, rest) = number(3, rest)?;
     let (cap, _) = number(6, rest)?;
-    if id <= LAST_ID && x <= FARTHEST && y <= FARTHEST && cap <= MAX_CAPACITANCE {
-        Ok(Some(Act::Change(Edit::Add {
-            id: id as u32,
-            x: x as i64,
-            y: y as i64,
-            cap,
-        })))
-    } else {
-        Ok(None)
-    }
+    Ok(added(id, x, y, cap))
 }
 
 /// The id of a sink that is removed; none where it is past the limit.
@@ -154,11 +211,7 @@ fn remove_of(words: &[u8]) -> Result<Option<Act>, Cause>
     ensures within { IfOk result (λ act. IfSome act IsAct) }
 {
     let (id, _) = number(0, words)?;
-    if id <= LAST_ID {
-        Ok(Some(Act::Change(Edit::Remove { id: id as u32 })))
-    } else {
-        Ok(None)
-    }
+    Ok(removed(id))
 }
 
 /// The id of a sink that is moved, and its place in nm; none where one is past its limit.
@@ -170,15 +223,7 @@ fn move_of(words: &[u8]) -> Result<Option<Act>, Cause>
     let (id, rest) = number(0, words)?;
     let (x, rest) = number(3, rest)?;
     let (y, _) = number(3, rest)?;
-    if id <= LAST_ID && x <= FARTHEST && y <= FARTHEST {
-        Ok(Some(Act::Change(Edit::Move {
-            id: id as u32,
-            x: x as i64,
-            y: y as i64,
-        })))
-    } else {
-        Ok(None)
-    }
+    Ok(moved(id, x, y))
 }
 
 /// The id of a sink and its new capacitance in zF; none where one is past its limit.
@@ -189,11 +234,7 @@ fn cap_of(words: &[u8]) -> Result<Option<Act>, Cause>
 {
     let (id, rest) = number(0, words)?;
     let (cap, _) = number(6, rest)?;
-    if id <= LAST_ID && cap <= MAX_CAPACITANCE {
-        Ok(Some(Act::Change(Edit::SetCap { id: id as u32, cap })))
-    } else {
-        Ok(None)
-    }
+    Ok(loaded(id, cap))
 }
 
 /// What a step of a kind asks for; none where one of its numbers is past its limit.
@@ -261,8 +302,20 @@ pub fn is_digits(word: &[u8]) -> bool
 
 /// What a line after the first one says, where there are so many callers and so many steps came before
 /// it.
-#[tactic(auto, unfolding(crate::specs::Steps::line_of, crate::specs::Steps::said_by))]
 pub fn line_of(callers: u32, before: u32, line: &[u8]) -> Result<ScriptLine, Cause>
+    ensures read { result ≡ line_of callers before line.now }
+    ensures within { IfOk result (IsLine before) }
+{
+    match plain_step(callers, before, line) {
+        Some(said) => Ok(said),
+        None => any_line(callers, before, line),
+    }
+}
+
+/// As [`line_of`], word by word.
+#[inline(never)]
+#[tactic(auto, unfolding(crate::specs::Steps::line_of, crate::specs::Steps::said_by))]
+fn any_line(callers: u32, before: u32, line: &[u8]) -> Result<ScriptLine, Cause>
     ensures read { result ≡ line_of callers before line.now }
     ensures within { IfOk result (IsLine before) }
 {

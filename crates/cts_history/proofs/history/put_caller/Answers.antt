@@ -6,5 +6,5 @@ use Rattle.cts_history.proofs.history.put_caller.Goals as goal
 pub returns : goal.returns
 unfolding caller_text line_of
 returns g c =
-    (c.put.ensures ▸ (c.put_whole.ensures ▸ (c.put_word.ensures ▸ (c.put_whole-2.ensures ▸ puts_nothing _ _))) ▸ c.put-2.ensures)
+    ((c.put_labelled.ensures ▸ (c.put_labelled-2.ensures ▸ puts_nothing _ _)) ▸ c.put.ensures)
     ▸ c.put_replies.ensures

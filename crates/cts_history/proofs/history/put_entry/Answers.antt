@@ -6,6 +6,6 @@ use Rattle.cts_history.proofs.history.put_entry.Goals as goal
 pub returns : goal.returns
 unfolding entry_line line_of
 returns g c =
-    c.put.ensures
-    ▸ (c.put_whole.ensures ▸ (c.put_word.ensures ▸ (c.put_count.ensures ▸ (c.put_word-2.ensures ▸ (c.put_count-2.ensures ▸ c.put_edit.ensures)))))
-    ▸ c.put-2.ensures
+    (c.put_labelled.ensures
+    ▸ ((rw c.from.ensures at c.put_labelled-2.ensures) ▸ ((rw c.from-2.ensures at c.put_labelled-3.ensures) ▸ c.put_edit.ensures)))
+    ▸ c.put.ensures

@@ -4,4 +4,4 @@ use Rattle.cts_history.proofs.history.put_length_of.Goals as goal
 
 pub returns : goal.returns
 unfolding line_of
-returns g c = c.put.ensures ▸ (c.put_whole.ensures ▸ puts_nothing _ _) ▸ c.put-2.ensures
+returns g c = (c.put_labelled.ensures ▸ puts_nothing _ _) ▸ c.put.ensures

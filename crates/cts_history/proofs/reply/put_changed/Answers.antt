@@ -2,12 +2,12 @@ use Rattle.cts_io.proofs.Chains.{◌▸◌, puts_nothing}
 use Rattle.cts_history.proofs.reply.put_changed.Goals as goal
 
 pub returns-in-Accepted : goal.returns-in-Accepted
-returns-in-Accepted g c = rw c.in-Accepted.is (c.put_word.ensures ▸ (c.put_count.ensures ▸ puts_nothing _ _))
+returns-in-Accepted g c = rw c.in-Accepted.is ((rw c.from.ensures at c.put_labelled.ensures) ▸ puts_nothing _ _)
 
 pub returns-in-Refused : goal.returns-in-Refused
 returns-in-Refused g c =
     rw c.in-Refused.is
-    (c.put_word-in-Refused.ensures ▸ (c.put_cause.ensures ▸ (c.put_word-in-Refused-2.ensures ▸ (c.put_count-in-Refused.ensures ▸ puts_nothing _ _))))
+    (c.put_word.ensures ▸ (c.put_cause.ensures ▸ ((rw c.from-in-Refused.ensures at c.put_labelled-in-Refused.ensures) ▸ puts_nothing _ _)))
 
 pub returns-in-NoMemory : goal.returns-in-NoMemory
 returns-in-NoMemory g c = rw c.in-NoMemory.is (puts_nothing _ _)

@@ -6,5 +6,5 @@ put_delay-requires g c = c.requires
 
 pub returns : goal.returns
 returns g c =
-    c.put_word.ensures ▸ (c.put_count.ensures ▸ (c.put_word-2.ensures ▸ (c.put_delay.ensures ▸ (c.put_word-3.ensures
-    ▸ (c.put_length.ensures ▸ puts_nothing _ _)))))
+    (rw c.from.ensures at c.put_labelled.ensures) ▸ (c.put_word.ensures ▸ (c.put_delay.ensures ▸ (c.put_word-2.ensures
+    ▸ (c.put_length.ensures ▸ puts_nothing _ _))))
