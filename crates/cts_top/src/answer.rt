@@ -22,6 +22,7 @@ use cts_merge::Steps;
 use cts_notes::put_numbered;
 use cts_plain::{NoTree, synthesise};
 use cts_report::{write_report, write_summary};
+use cts_report_workers::write_report_by;
 use cts_tree::Tree;
 use cts_work::Gate;
 use std::alloc::Global;
@@ -133,6 +134,55 @@ pub fn answer_synthesis<K: ByteSink>(
     }
 }
 
+/// As [`write_tree`], with so many workers for a report.
+fn write_tree_by<R: Threads + Sync, K: ByteSink>(
+    rt: &R,
+    alloc: Global,
+    workers: u32,
+    sink: &mut K,
+    telling: Telling,
+    instance: &Instance,
+    tree: &Tree,
+    figures: &Figures,
+) -> Result<(), WriteEnd>
+    requires printable { IsPrintable tree.now figures.now }
+    requires few { workers ≤ 64 }
+    ensures { Writes K.held K.faults sink.old sink.new (told_by telling instance.now.version tree.now figures.now) result }
+{
+    match telling {
+        Telling::Report => write_report_by(rt, alloc, workers, sink, instance, tree, figures),
+        Telling::Summary => write_summary(sink, tree, figures),
+    }
+}
+
+/// As [`answer_synthesis`], with so many workers for a report.
+fn answer_synthesis_by<R: Threads + Sync, K: ByteSink>(
+    rt: &R,
+    alloc: Global,
+    workers: u32,
+    sink: &mut K,
+    telling: Telling,
+    instance: &Instance,
+    synthesis: Result<(Tree, Figures), NoTree>,
+) -> Result<Answer, Stop>
+    requires printable { IfOk synthesis (λ r. IsPrintable r.0 r.1) }
+    requires few { workers ≤ 64 }
+    ensures answers { (topology : Topology) → IsSynthesisedBy (ComesOver topology instance.now) instance.now synthesis
+        → Answers (TellsComing (ComesOver topology instance.now) (told_by telling) instance.now) K.held K.faults sink.old sink.new result }
+    ensures told { TellsEnd synthesis (status_of result) }
+{
+    instance_is_valid(instance);
+    match synthesis {
+        Ok((tree, figures)) => {
+            let written = write_tree_by(
+                rt, alloc, workers, sink, telling, instance, &tree, &figures,
+            );
+            ended(written, Answer::Text)
+        }
+        Err(end) => answer_no_tree(sink, instance, end),
+    }
+}
+
 /// Writes the text for the synthesis of an instance by one thread.
 pub fn answer_instance<K: ByteSink>(
     alloc: Global,
@@ -163,5 +213,6 @@ pub fn answer_by_workers<R: Threads + Wait + Sync, K: ByteSink, G: Gate>(
     ensures memo { IfSome result.1 (IsMemoOf instance.now) }
 {
     let (synthesis, memo) = synthesise_by_workers(rt, alloc, gate, instance, workers);
-    (answer_synthesis(sink, telling, instance, synthesis), memo)
+    let answer = answer_synthesis_by(rt, alloc, workers, sink, telling, instance, synthesis);
+    (answer, memo)
 }

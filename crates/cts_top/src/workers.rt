@@ -2,6 +2,7 @@
 
 ghost use Rattle.std.specs.Prelude.{◌≡◌, ◌≤◌, ◌⊎◌, length, IfOk, IfSome, OnOk};
 ghost use Rattle.cts_topo.specs.Shape.{IsShapeOver};
+ghost use Rattle.cts_topo.specs.Sinks.{AreSinks};
 ghost use Rattle.cts_topo.specs.Topology.{shape_of};
 ghost use Rattle.cts_up.specs.Ends.{Ends};
 ghost use Rattle.cts_up.specs.Plan.{IsPlan};
@@ -21,8 +22,10 @@ use cts_memo::{Memo, MemoPass, Secret, Table};
 use cts_merge::Finished;
 use cts_num::NoMemory;
 use cts_plain::{NoTree, finish};
-use cts_topo::{Shape, topology};
+use cts_topo::Shape;
+use cts_topo_workers::topology_by;
 use cts_tree::Tree;
+use cts_units::Sink;
 use cts_up::UpEnd;
 use cts_work::{Gate, plan_all, publish_plan};
 use std::alloc::Global;
@@ -166,6 +169,7 @@ fn make_over<R: Threads + Wait + Sync, G: Gate>(
     gate: &G,
     instance: &Instance,
     shape: &Shape,
+    secret: Secret,
     workers: u32,
 ) -> Result<Made, NoMemory>
     requires definition { shape.now ≡ shape_of instance.now.sinks }
@@ -176,13 +180,33 @@ fn make_over<R: Threads + Wait + Sync, G: Gate>(
     ensures memo { IfOk result (λ made. IsMemoOf instance.now made.1) }
 {
     let sinks = instance.sinks();
-    let secret = Secret::of_sinks(sinks);
     let nodes = shape.nodes().len();
     let (memo, pass) = Memo::start_with_room(alloc, instance.params(), secret, nodes)?;
     match plan_all(rt, alloc, &memo, gate, sinks, shape, workers) {
         Ok(plan) => finish_beside(rt, alloc, gate, memo, pass, instance, shape, &plan, workers),
         Err(end) => without_plan(instance, shape, memo, pass, end),
     }
+}
+
+/// The shape over sinks, by so many workers, and the secret of the memo, which a thread of its own makes meanwhile.
+fn make_shape<R: Threads + Sync>(
+    rt: &R,
+    alloc: Global,
+    sinks: &[Sink],
+    workers: u32,
+) -> (Result<Shape, NoMemory>, Secret)
+    requires { AreSinks sinks.now }
+    ensures definition { IfOk result.0 (λ shape. shape ≡ shape_of sinks.now) }
+    ensures shape { IfOk result.0 (IsShapeOver (length sinks.now)) }
+{
+    let mix = move || Secret::of_sinks(sinks);
+    let divide = move || -> Result<Shape, NoMemory>
+        requires { AreSinks sinks.now }
+        ensures definition { IfOk result (λ shape. shape ≡ shape_of sinks.entry.now) }
+        ensures shape { IfOk result (IsShapeOver (length sinks.entry.now)) }
+    { topology_by(rt, alloc, sinks, workers) };
+    let (secret, shape) = join(rt, mix, divide);
+    (shape, secret)
 }
 
 /// What the synthesis of an instance comes to.
@@ -198,8 +222,9 @@ fn make<R: Threads + Wait + Sync, G: Gate>(
     ensures synthesised { IfOk result (λ made. IsSynthesised instance.now made.0) }
     ensures memo { IfOk result (λ made. IsMemoOf instance.now made.1) }
 {
-    let shape = topology(alloc, instance.sinks())?;
-    make_over(rt, alloc, gate, instance, &shape, workers)
+    let (shape, secret) = make_shape(rt, alloc, instance.sinks(), workers);
+    let shape = shape?;
+    make_over(rt, alloc, gate, instance, &shape, secret, workers)
 }
 
 /// The table of a synthesis, unless memory ran out for it.
