@@ -1,5 +1,5 @@
 //! Worked rows of the crates that share objects between threads, as tests: turns, deals, memos and their hashes, designs, sessions,
-//! workers and callers.
+//! shapes by workers, workers and callers.
 //!
 //! They stand in a crate of their own, since a crate that has a test is proved twice.
 #![tactic(auto)]
@@ -25,11 +25,15 @@ mod leaves;
 #[cfg(test)]
 mod memos;
 #[cfg(test)]
+mod questions;
+#[cfg(test)]
 mod rebuilds;
 #[cfg(test)]
 mod schedules;
 #[cfg(test)]
 mod sessions;
+#[cfg(test)]
+mod shapes;
 #[cfg(test)]
 mod turns;
 #[cfg(test)]

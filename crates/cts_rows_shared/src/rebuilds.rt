@@ -25,12 +25,12 @@ use std::test::Fail;
 
 /// A gate that counts the nodes that are made.
 #[derive(Drop)]
-struct Counter {
+pub(crate) struct Counter {
     made: AtomicU64,
 }
 
 impl Counter {
-    fn new() -> Counter {
+    pub(crate) fn new() -> Counter {
         Counter {
             made: AtomicU64::new(0),
         }
@@ -87,7 +87,7 @@ fn plan_of<R: Wait>(
 
 /// What is told of a tree over two sinks: the wires to both in nm, the greatest doubled delay in 10^-27 s, the
 /// load in zF, and how many nodes were made by then.
-type Built = ((u64, u64), u128, u64, u64);
+pub(crate) type Built = ((u64, u64), u128, u64, u64);
 
 /// What is told of the root of a plan over two sinks.
 fn built(plan: &[Finished], gate: &Counter) -> Option<Built> {
@@ -103,7 +103,7 @@ fn built(plan: &[Finished], gate: &Counter) -> Option<Built> {
 }
 
 /// Builds the tree of a sink at 0 nm with 5 zF and one at 10 nm with this capacitance.
-fn build<R: Wait>(
+pub(crate) fn build<R: Wait>(
     rt: &R,
     alloc: Global,
     memo: &Memo,

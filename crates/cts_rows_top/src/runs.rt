@@ -30,7 +30,7 @@ fn source(alloc: Global, text: &[u8]) -> Result<MemSource, Fail> {
 }
 
 fn sink(alloc: Global) -> Result<MemSink, Fail> {
-    Ok(MemSink::new(alloc, 1 << 20, Vec::new(alloc), 4_096)?)
+    Ok(MemSink::new(alloc, 1 << 22, Vec::new(alloc), 4_096)?)
 }
 
 fn outcome<R: AllocGlobal + Threads + Wait + Sync, G: Gate>(

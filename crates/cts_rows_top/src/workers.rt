@@ -1,11 +1,14 @@
-//! Runs by more than one worker: a gate holds the first two pieces until both have been begun.
+//! Runs by more than one worker: a gate holds the first two pieces until both have been begun; and a report is long enough
+//! for several workers.
 
 use crate::runs::{ends, ran, text_of};
 use cts_top::Status;
-use cts_work::Gate;
+use cts_work::{Gate, OpenGate};
 use std::process::Abort;
+use std::sync::Wait;
 use std::sync::atomic::{AtomicU64, Ordering};
 use std::test::Fail;
+use std::thread::Threads;
 
 /// How often a piece looks whether the other one has been begun.
 const TURNS: u32 = 100_000_000;
@@ -63,4 +66,26 @@ fn two_workers_begin_two_pieces(rt: HostRuntime) -> Result<(), Fail> {
     let notes = beside.notes.bytes().len();
     writes(&rt, beside.output.bytes(), notes, alone.bytes());
     Ok(())
+}
+
+/// Compares what workers write for an instance with what one thread writes.
+fn compare_report<R: AllocGlobal + Abort + Threads + Wait + Sync>(
+    rt: &R,
+    line: &str,
+    instance: &[u8],
+    alone: &[u8],
+) -> Result<(), Fail> {
+    let beside = ran(rt, &OpenGate, line, instance)?;
+    let notes = beside.notes.bytes().len();
+    writes(rt, beside.output.bytes(), notes, alone);
+    Ok(())
+}
+
+/// 8,399 nodes are two stretches and the front of a third.
+#[test]
+fn stretches_of_a_report_are_written_in_order(rt: HostRuntime) -> Result<(), Fail> {
+    let made = text_of(&rt, "make 21 4200", b"")?;
+    let alone = text_of(&rt, "synth 1", made.bytes())?;
+    compare_report(&rt, "synth 2", made.bytes(), alone.bytes())?;
+    compare_report(&rt, "synth 4", made.bytes(), alone.bytes())
 }
