@@ -60,7 +60,7 @@ fn answer_told(told: Option<&Question>, key: Key) -> Option<Answer>
     }
 }
 
-/// What the memo answers for a key: what was told, or else it is asked for now.
+/// What the memo answers for a key: what was told, or else what it tells when it is asked.
 #[inline(always)]
 fn answer_for<R: Wait>(
     rt: &R,
