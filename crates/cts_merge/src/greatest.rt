@@ -71,8 +71,11 @@ pub fn snake(wire: Wire, load: u64, delta: u128) -> u64
 pub(crate) fn near_snake(wire: Wire, load: u64, delta: u128) -> u64 {
     let c = nearest_u64_to_f64(wire.c);
     let load = nearest_u64_to_f64(load);
-    let quotient = near_float(delta) / nearest_u64_to_f64(wire.r);
-    saturating_f64_to_u64(((load * load + c * quotient).sqrt() - load) / c)
+    // Quotients take longest, and these two don't wait for the delay.
+    let ratio = c / nearest_u64_to_f64(wire.r);
+    let unit = 1.0 / c;
+    let root = (load * load + ratio * near_float(delta)).sqrt();
+    saturating_f64_to_u64((root - load) * unit)
 }
 
 // With q = delta / r the delay of a length L is at most delta exactly where (c·L + load)² is at most
