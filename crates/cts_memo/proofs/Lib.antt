@@ -1,3 +1,4 @@
+pub mod LeafPoints
 pub mod SameKeys
 pub mod Maps
 pub mod Publications

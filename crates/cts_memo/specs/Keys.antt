@@ -1,7 +1,9 @@
 -- Keys of subtrees, and the entries that have them.
-use Rattle.std.specs.Prelude.{Bool, false, ◌==◌, ◌&&◌, List, map}
+use Rattle.std.specs.Prelude.{Bool, false, ◌==◌, ◌&&◌, ◌^◌, ◌<◌, List, map}
 use Rattle.std.specs.Ordering.{int_eq}
+use Rattle.cts_geom.specs.Regions.{IsRegionInRange}
 use Rattle.cts_units.specs.declared.params.Sink.{Sink}
+use Rattle.cts_merge.specs.declared.side.Side.{Side}
 use Rattle.cts_merge.specs.declared.side.Finished.{Finished}
 use Rattle.cts_memo.specs.declared.key.Key.{Key}
 use Rattle.cts_memo.specs.declared.key.Key.TheVariants.{Leaf, Pair}
@@ -10,6 +12,11 @@ use Rattle.cts_memo.specs.declared.entry.MemoEntry.{MemoEntry}
 -- the key of a sink's leaf: the id has no part in it
 abbrev pub leaf_key : Sink → Key
 leaf_key sink = Leaf sink.x sink.y sink.cap sink.offset
+
+-- a side whose numbers may be those of a sink: coordinates, and a doubled offset of which one half has 64 bits
+pub record IsNarrow (side : Side) : Type 0 where
+  pub region : IsRegionInRange side.region
+  pub greatest : side.greatest < 2 ^ 65
 
 -- whether two keys are one
 abbrev pub same_key : Key → Key → Bool

@@ -18,6 +18,11 @@ use Rattle.cts_memo.specs.Replies.{IsFound}
 abbrev pub leaf_query : Sink → Query
 leaf_query sink = Leaf sink.x sink.y sink.cap sink.offset
 
+-- what asks for a key
+abbrev pub query_for : Key → Query
+query_for (key.Leaf x y cap offset) = Leaf x y cap offset
+query_for (key.Pair left right) = Pair (Number left) (Number right)
+
 -- a question that isn't answered yet
 abbrev pub unanswered : Query → Question
 unanswered query = record { query = query; key = None; answer = Absent }

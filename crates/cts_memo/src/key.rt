@@ -1,5 +1,6 @@
 //! What a subtree is known by.
 
+use cts_merge::Finished;
 use cts_units::Sink;
 
 /// What a subtree is known by: a leaf by its sink's place, capacitance and wanted offset, a pair by the
@@ -22,7 +23,9 @@ pub enum Key {
 
 impl Key {
     ghost use Rattle.std.specs.Prelude.{◌≡◌};
-    ghost use Rattle.cts_memo.specs.Keys.{leaf_key};
+    ghost use Rattle.cts_merge.specs.Merge.{IsLeaf};
+    ghost use Rattle.cts_units.specs.declared.params.Sink.{Sink};
+    ghost use Rattle.cts_memo.specs.Keys.{IsNarrow, leaf_key};
 
     /// The key of a sink's leaf.
     pub fn of_sink(sink: &Sink) -> Key
@@ -33,6 +36,21 @@ impl Key {
             y: sink.y,
             cap: sink.cap,
             offset: sink.offset,
+        }
+    }
+
+    /// The key of the leaf that a finished node is: the place of its sink is the point of its region.
+    pub fn of_leaf(leaf: &Finished) -> Key
+        requires narrow { IsNarrow leaf.now.side }
+        ensures { (sink : Sink) → IsLeaf sink leaf.now → result ≡ leaf_key sink }
+    {
+        let side = &leaf.side;
+        let (u, v) = (side.region.u1, side.region.v1);
+        Key::Leaf {
+            x: (u + v) / 2,
+            y: (u - v) / 2,
+            cap: side.load,
+            offset: (side.greatest / 2) as u64,
         }
     }
 }

@@ -1,7 +1,7 @@
 //! Questions that are asked beside others, in one call.
 
 ghost use Rattle.std.specs.Prelude.{◌≡◌};
-ghost use Rattle.cts_memo.specs.Questions.{key_of, leaf_query, number_told, pair_key, part_number, unanswered};
+ghost use Rattle.cts_memo.specs.Questions.{key_of, leaf_query, number_told, pair_key, part_number, query_for, unanswered};
 
 use crate::entry::Answer;
 use crate::key::Key;
@@ -65,6 +65,19 @@ impl Part {
 }
 
 impl Query {
+    /// What asks for a key.
+    pub fn of_key(key: Key) -> Query
+        ensures { result ≡ query_for key }
+    {
+        match key {
+            Key::Leaf { x, y, cap, offset } => Query::Leaf { x, y, cap, offset },
+            Key::Pair { left, right } => Query::Pair {
+                left: Part::Number(left),
+                right: Part::Number(right),
+            },
+        }
+    }
+
     /// The leaf of a sink.
     pub fn of_sink(sink: &Sink) -> Query
         ensures { result ≡ leaf_query sink.now }

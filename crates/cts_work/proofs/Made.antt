@@ -19,8 +19,11 @@ use Rattle.cts_merge.specs.Side.{IsMergeable}
 use Rattle.cts_up.specs.declared.end.UpEnd.{UpEnd}
 use Rattle.cts_up.specs.declared.end.UpEnd.TheVariants.{Beyond, NoMemory}
 use Rattle.cts_up.specs.Plan.{IsBeyondPair, IsFinished, IsPlan, sink_of}
+use Rattle.cts_up.specs.Sinks.{IsSinkInRange}
+use Rattle.cts_up.proofs.Leaves.{LeafOf, leaf_of, sink_has}
 use Rattle.cts_up.proofs.Sides.{sides_merge}
 use Rattle.cts_up.proofs.Unique.{finished_not_beyond, finished_one}
+use Rattle.cts_memo.specs.Keys.{IsNarrow}
 use Rattle.cts_memo.specs.Passes.{params_of}
 use Rattle.cts_work.specs.declared.work.Work.{Work}
 use Rattle.cts_work.specs.Built.{IsPairAt, tree_at}
@@ -118,6 +121,15 @@ module _ (work : Work) where
   pub made_merges : (k : ℕ) (f : Finished) → IsReady work → IsMadeAt work k f → IsMergeable f.side
   made_merges k f ready made =
       sides_merge (params_of work.memo.now) work.sinks.now (tree_at work.nodes.now k) f made (params_within work.memo.now) ready.sinks
+
+  -- a leaf's numbers are those of a sink
+  pub leaf_narrow : (k s : ℕ) (f : Finished) → tree_at work.nodes.now k ≡ tip (Leaf s) → IsReady work → IsMadeAt work k f → IsNarrow f.side
+  unfolding IsFinished
+  leaf_narrow k s f here ready made =
+      let leaf : LeafOf work.sinks.now (Leaf s) f =
+      leaf_of work.sinks.now (Leaf s) f (subst (λ t. IsFinished (params_of work.memo.now) work.sinks.now t f) here made) in
+      let sink : IsSinkInRange leaf.sink = sink_has IsSinkInRange work.sinks.now (Leaf s) leaf.sink ready.sinks.each leaf.named in
+      record { region = (made_merges k f ready made).region; greatest = omega (arith, leaf.leaf.greatest, sink.offset) }
 
   -- a leaf is what its sink gives
   module _ (k s : ℕ) (d : Sink) (f : Finished) (within : s < length work.sinks.now) (here : tree_at work.nodes.now k ≡ tip (Leaf s)) where

@@ -8,7 +8,7 @@ ghost use Rattle.cts_up.specs.Plan.{IsPlan};
 ghost use Rattle.cts_up.specs.Sinks.{AreSinksInRange};
 ghost use Rattle.cts_turn.specs.Passes.{seen_by, share_of};
 ghost use Rattle.cts_memo.specs.declared.entry.MemoEntry.{MemoEntry};
-ghost use Rattle.cts_memo.specs.Keys.{leaf_key};
+ghost use Rattle.cts_memo.specs.Keys.{IsNarrow, leaf_key};
 ghost use Rattle.cts_memo.specs.Numbers.{AreKnown};
 ghost use Rattle.cts_memo.specs.Passes.{IsPassOf, params_of};
 ghost use Rattle.cts_memo.specs.Sound.{IsMadeOf, NamesEntries, max_entries};
@@ -110,7 +110,8 @@ fn bring<R: Wait, G: Gate>(
     }
 }
 
-/// The number of the leaf of a sink.
+/// The number of the leaf of a sink. Its key is read off what it is made of, since the sinks of a plan's leaves stand
+/// far apart in their list.
 fn bring_leaf<R: Wait, G: Gate>(
     rt: &R,
     gate: &G,
@@ -123,11 +124,12 @@ fn bring_leaf<R: Wait, G: Gate>(
 ) -> Result<Option<u32>, NoMemory>
     requires own { IsPassOf memo.now pass.old }
     requires told { IfSome told (λ q. TellsTrue (seen_by pass.old) q.now) }
+    requires narrow { IsNarrow finished.now.side }
     requires leaf { IsLeaf sink.now finished.now }
     ensures pass { GoesOn memo.now pass.old pass.new }
     ensures kept { IfOk result (IsKept (seen_by pass.new) (leaf_key sink.now) finished.now) }
 {
-    let key = Key::of_sink(sink);
+    let key = Key::of_leaf(finished);
     bring(rt, gate, piece, memo, pass, key, told, finished)
 }
 
@@ -211,12 +213,18 @@ fn part_named(before: &[Brought], part: u32) -> Part {
 }
 
 /// The question for a node of the stretch that begins after these.
-fn question_for(work: &Work<'_>, before: &[Brought], node: usize) -> Question
+fn question_for(
+    work: &Work<'_>,
+    plan: &[Finished],
+    before: &[Brought],
+    node: usize,
+) -> Question
     requires ready { IsReady work.now }
+    requires plan { IsPlan (params_of work.now.memo.now) work.now.sinks.now work.now.nodes.now plan.now }
     requires node { node < length work.now.nodes.now }
 {
     Question::new(match work.nodes[node] {
-        ShapeNode::Leaf { sink } => Query::of_sink(&work.sinks[sink as usize]),
+        ShapeNode::Leaf { .. } => Query::of_key(Key::of_leaf(&plan[node])),
         ShapeNode::Pair { left, right } => Query::Pair {
             left: part_named(before, left),
             right: part_named(before, right),
@@ -229,12 +237,14 @@ fn question_for(work: &Work<'_>, before: &[Brought], node: usize) -> Question
 fn ask_stretch<R: Wait>(
     rt: &R,
     work: &Work<'_>,
+    plan: &[Finished],
     pass: &mut MemoPass,
     before: &[Brought],
     mut questions: Vec<Question>,
 ) -> Result<Vec<Question>, NoMemory>
     requires own { IsPassOf work.now.memo.now pass.old }
     requires ready { IsReady work.now }
+    requires plan { IsPlan (params_of work.now.memo.now) work.now.sinks.now work.now.nodes.now plan.now }
     requires before { length before.now ≤ length work.now.nodes.now }
     ensures pass { GoesOn work.now.memo.now pass.old pass.new }
     ensures told { IfOk result (λ told. MayTell (seen_by pass.new) told.items) }
@@ -242,7 +252,7 @@ fn ask_stretch<R: Wait>(
     questions.clear();
     let end = work.nodes.len().min(before.len().saturating_add(STRETCH));
     for node in before.len()..end {
-        questions.push(question_for(work, before, node))?;
+        questions.push(question_for(work, plan, before, node))?;
     }
     Ok(work.memo.ask_all(rt, pass, questions))
 }
@@ -252,6 +262,7 @@ fn ask_stretch<R: Wait>(
 fn stretch_told<R: Wait>(
     rt: &R,
     work: &Work<'_>,
+    plan: &[Finished],
     pass: &mut MemoPass,
     node: u32,
     before: &[Brought],
@@ -259,13 +270,14 @@ fn stretch_told<R: Wait>(
 ) -> Result<Vec<Question>, NoMemory>
     requires own { IsPassOf work.now.memo.now pass.old }
     requires ready { IsReady work.now }
+    requires plan { IsPlan (params_of work.now.memo.now) work.now.sinks.now work.now.nodes.now plan.now }
     requires before { length before.now ≤ length work.now.nodes.now }
     requires told { MayTell (seen_by pass.old) told.items }
     ensures pass { GoesOn work.now.memo.now pass.old pass.new }
     ensures told { IfOk result (λ told. MayTell (seen_by pass.new) told.items) }
 {
     if node as usize % STRETCH == 0 {
-        ask_stretch(rt, work, pass, before, told)
+        ask_stretch(rt, work, plan, pass, before, told)
     } else {
         Ok(told)
     }
@@ -306,7 +318,7 @@ fn bring_nodes<R: Wait, G: Gate>(
     let mut told = Vec::with_capacity(alloc, plan.len().min(STRETCH))?;
     let mut piece = 0;
     for node in 0..plan.len() as u32 {
-        told = stretch_told(rt, work, pass, node, before.as_slice(), told)?;
+        told = stretch_told(rt, work, plan, pass, node, before.as_slice(), told)?;
         piece = piece_at(pieces, piece, node);
         let next = bring_node(
             rt,

@@ -8,13 +8,13 @@ use Rattle.cts_work.proofs.publishing.bring_leaf.Goals as goal
 
 pub bring-requires-clause-key : goal.bring-requires-clause-key
 bring-requires-clause-key g c = λ κs within.
-    leaf_names (seen_by c.args.pass.now) c.args.sink.now c.of_sink-key.result c.of_sink-key.ensures
+    leaf_names (seen_by c.args.pass.now) c.args.sink.now c.of_leaf-key.result (c.of_leaf-key.ensures c.args.sink.now c.requires.leaf)
 
 pub bring-requires-clause-finished : goal.bring-requires-clause-finished
 bring-requires-clause-finished g c = λ κs within.
-    leaf_of_key (params_of c.args.memo.now) (seen_by c.args.pass.now) c.args.sink.now c.of_sink-key.result c.args.finished.now c.of_sink-key.ensures c.requires.leaf
+    leaf_of_key (params_of c.args.memo.now) (seen_by c.args.pass.now) c.args.sink.now c.of_leaf-key.result c.args.finished.now (c.of_leaf-key.ensures c.args.sink.now c.requires.leaf) c.requires.leaf
 
 pub returns-clause-kept : goal.returns-clause-kept
 returns-clause-kept g c =
-    IfOk-weaker c.bring.result _ _ (λ n kept. subst (λ k. IsKept (seen_by c.bring.new.pass) k c.args.finished.now n) c.of_sink-key.ensures kept)
+    IfOk-weaker c.bring.result _ _ (λ n kept. subst (λ k. IsKept (seen_by c.bring.new.pass) k c.args.finished.now n) (c.of_leaf-key.ensures c.args.sink.now c.requires.leaf) kept)
     c.bring.ensures.kept

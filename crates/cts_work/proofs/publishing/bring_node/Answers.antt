@@ -7,7 +7,7 @@ use Rattle.cts_work.proofs.Builts.{sound_for}
 use Rattle.cts_work.proofs.Nodes.{tip_at, pair_at_number, child_within}
 use Rattle.cts_work.proofs.Numbered.{leaf_number}
 use Rattle.cts_work.proofs.Parts.{starts_first}
-use Rattle.cts_work.proofs.Made.{leaf_made}
+use Rattle.cts_work.proofs.Made.{leaf_made, leaf_narrow}
 use Rattle.cts_work.proofs.publishing.bring_node.Goals as goal
 
 pub bounds-work-sink : goal.bounds-work-sink
@@ -19,6 +19,11 @@ bring_leaf-requires-clause-leaf g c = λ κs within.
     leaf_made c.args.work.now c.args.node c.in-Leaf.sink _ c.args.finished.now
     (leaf_within (length c.args.work.now.sinks.now) c.args.work.now.nodes.now c.requires.ready.shape c.args.node _ _ c.requires.node (c.in-Leaf.is))
     (tip_at c.args.work.now.nodes.now c.args.node c.requires.node _ c.in-Leaf.sink c.in-Leaf.is) c.requires.made
+
+pub bring_leaf-requires-clause-narrow : goal.bring_leaf-requires-clause-narrow
+bring_leaf-requires-clause-narrow g c = λ κs within.
+    leaf_narrow c.args.work.now c.args.node c.in-Leaf.sink c.args.finished.now
+    (tip_at c.args.work.now.nodes.now c.args.node c.requires.node _ c.in-Leaf.sink c.in-Leaf.is) c.requires.ready c.requires.made
 
 pub bounds-before-left : goal.bounds-before-left
 bounds-before-left g c =
