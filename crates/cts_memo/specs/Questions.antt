@@ -1,7 +1,6 @@
 -- Questions that are asked beside others, the keys that they come to, and what answers them.
 use Rattle.std.specs.Prelude.{◌≡◌, ℕ, List, map, take, slice_get, Option, Some, None, MatchOption}
 use Rattle.std.specs.Option.{option_and_then}
-use Rattle.cts_units.specs.declared.params.Sink.{Sink}
 use Rattle.cts_memo.specs.declared.key.Key.{Key}
 use Rattle.cts_memo.specs.declared.key.Key.TheVariants as key
 use Rattle.cts_memo.specs.declared.entry.MemoEntry.{MemoEntry}
@@ -13,10 +12,6 @@ use Rattle.cts_memo.specs.declared.question.Query.{Query}
 use Rattle.cts_memo.specs.declared.question.Query.TheVariants.{Leaf, Pair}
 use Rattle.cts_memo.specs.declared.question.Question.{Question}
 use Rattle.cts_memo.specs.Replies.{IsFound}
-
--- what asks for a sink's leaf: the id has no part in it
-abbrev pub leaf_query : Sink → Query
-leaf_query sink = Leaf sink.x sink.y sink.cap sink.offset
 
 -- what asks for a key
 abbrev pub query_for : Key → Query

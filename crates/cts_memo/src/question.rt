@@ -1,11 +1,10 @@
 //! Questions that are asked beside others, in one call.
 
 ghost use Rattle.std.specs.Prelude.{◌≡◌};
-ghost use Rattle.cts_memo.specs.Questions.{key_of, leaf_query, number_told, pair_key, part_number, query_for, unanswered};
+ghost use Rattle.cts_memo.specs.Questions.{key_of, number_told, pair_key, part_number, query_for, unanswered};
 
 use crate::entry::Answer;
 use crate::key::Key;
-use cts_units::Sink;
 
 /// A part of a pair that is asked for beside others.
 #[derive(Clone, Copy)]
@@ -75,18 +74,6 @@ impl Query {
                 left: Part::Number(left),
                 right: Part::Number(right),
             },
-        }
-    }
-
-    /// The leaf of a sink.
-    pub fn of_sink(sink: &Sink) -> Query
-        ensures { result ≡ leaf_query sink.now }
-    {
-        Query::Leaf {
-            x: sink.x,
-            y: sink.y,
-            cap: sink.cap,
-            offset: sink.offset,
         }
     }
 

@@ -4,7 +4,6 @@
 ghost use Rattle.cts_memo.specs.Passes.{IsPassOf};
 
 use crate::compare::same;
-use crate::instances::sink;
 use crate::leaves::{begin, key_at};
 use crate::rebuilds::{Counter, build};
 use cts_memo::{Answer, Key, Memo, MemoPass, Part, Query, Question};
@@ -15,7 +14,7 @@ use std::test::Fail;
 
 /// A question for a leaf on the x axis.
 fn leaf(x: i64, cap: u64) -> Question {
-    Question::new(Query::of_sink(&sink(0, x, 0, cap)))
+    Question::new(Query::of_key(key_at(x, cap)))
 }
 
 /// A question for a pair.
