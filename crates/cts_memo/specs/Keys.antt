@@ -1,5 +1,5 @@
 -- Keys of subtrees, and the entries that have them.
-use Rattle.std.specs.Prelude.{Bool, false, ◌==◌, ◌&&◌, List, map}
+use Rattle.std.specs.Prelude.{Bool, false, ◌==◌, ◌&&◌, ℕ, List, map, Option, Some, None}
 use Rattle.std.specs.Ordering.{int_eq}
 use Rattle.cts_units.specs.declared.params.Sink.{Sink}
 use Rattle.cts_merge.specs.declared.side.Finished.{Finished}
@@ -10,6 +10,12 @@ use Rattle.cts_memo.specs.declared.entry.MemoEntry.{MemoEntry}
 -- the key of a sink's leaf: the id has no part in it
 abbrev pub leaf_key : Sink → Key
 leaf_key sink = Leaf sink.x sink.y sink.cap sink.offset
+
+-- the key of a pair by the numbers of its two parts
+abbrev pub pair_key : Option ℕ → Option ℕ → Option Key
+pair_key (Some left) (Some right) = Some (Pair left right)
+pair_key (Some left) None = None
+pair_key None right = None
 
 -- whether two keys are one
 abbrev pub same_key : Key → Key → Bool

@@ -22,7 +22,7 @@ pub enum Key {
 
 impl Key {
     ghost use Rattle.std.specs.Prelude.{◌≡◌};
-    ghost use Rattle.cts_memo.specs.Keys.{leaf_key};
+    ghost use Rattle.cts_memo.specs.Keys.{leaf_key, pair_key};
 
     /// The key of a sink's leaf.
     pub fn of_sink(sink: &Sink) -> Key
@@ -34,5 +34,15 @@ impl Key {
             cap: sink.cap,
             offset: sink.offset,
         }
+    }
+
+    /// The key of a pair whose two parts have these numbers, or `None` where one has none.
+    pub fn of_pair(left: Option<u32>, right: Option<u32>) -> Option<Key>
+        ensures { result ≡ pair_key left right }
+    {
+        Some(Key::Pair {
+            left: left?,
+            right: right?,
+        })
     }
 }
