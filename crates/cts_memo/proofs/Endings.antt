@@ -1,17 +1,19 @@
--- How a publication ends, as a fact on the list after it.
-use Rattle.std.proofs.Common.{◌≡◌, ℕ, ◌<◌, inl, inr, cond, List, [], ◌∷◌, ◌++◌, length, get_or, slice_get, Some, refl, ap, ◌∙◌, subst, arith, length-append, lt-ltb, le-ltb}
+-- How a publication or a look-up ends, as a fact on the list after it.
+use Rattle.std.proofs.Common.{◌≡◌, ◌↔◌, ℕ, ◌<◌, inl, inr, cond, List, [], ◌∷◌, ◌++◌, length, get_or, slice_get, Some, refl, ap, ◌∙◌, subst, arith, length-append, lt-ltb, le-ltb}
 use Rattle.std.proofs.Math.Seq.{get_or-append_seam}
 use Rattle.std.proofs.lemmas.Option.{slice_get_within, get_or_from_slice_get, slice_get-get_or}
 use Rattle.cts_merge.specs.declared.side.Finished.{Finished}
 use Rattle.cts_memo.specs.declared.key.Key.{Key}
 use Rattle.cts_memo.specs.declared.entry.MemoEntry.{MemoEntry}
+use Rattle.cts_memo.specs.declared.entry.Answer.{Answer}
+use Rattle.cts_memo.specs.declared.entry.Answer.TheVariants.{Have, Absent}
 use Rattle.cts_memo.specs.declared.entry.PutEnd.{PutEnd}
 use Rattle.cts_memo.specs.declared.entry.PutEnd.TheVariants.{At, Full, NoMemory}
 use Rattle.cts_memo.specs.Keys.{entry}
 use Rattle.cts_memo.specs.Sound.{IsMadeOf, IsSound, max_entries}
 use Rattle.cts_units.specs.declared.params.Params.{Params}
 use Rattle.cts_memo.proofs.Publications.{made_of_all, made_one}
-use Rattle.cts_memo.specs.Replies.{IsAbsent, IsPut, IsPublished, StandsAt, after_put}
+use Rattle.cts_memo.specs.Replies.{IsAbsent, IsFound, IsPut, IsPublished, StandsAt, after_put}
 
 -- the last of a list and one entry more
 pub last_stands : (seen : List MemoEntry) (e : MemoEntry) → slice_get (seen ++ e ∷ []) (length seen) ≡ Some e
@@ -25,6 +27,11 @@ stands_absent seen key n stands absent =
     let e = entry key (stands.0) in
     let here : get_or seen n e ≡ e = get_or_from_slice_get seen n e e (stands.1) in
     absent n e (slice_get_within seen n e (stands.1)) (ap (λ x. x.key) here)
+
+-- the answer to a look-up is absent where the key is
+pub absent_answer : (seen : List MemoEntry) (key : Key) (answer : Answer) → IsFound seen key answer → (answer ≡ Absent) ↔ IsAbsent seen key
+absent_answer seen key (Have n f) found = (λ is. absurd (cc is), λ absent. absurd (stands_absent seen key n (f, found) absent))
+absent_answer seen key Absent found = (λ is. found, λ absent. refl)
 
 module _ (params : Params) (met : List MemoEntry) (key : Key) (f : Finished) (sound : IsSound params met) (made : IsMadeOf params met key f) where
   -- the entry of a key that is there has what is made of the key

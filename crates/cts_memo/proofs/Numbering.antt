@@ -1,5 +1,5 @@
 -- The numbers that subtrees have in a list of entries, and what the entries of these numbers are.
-use Rattle.std.proofs.Common.{◌≡◌, ℕ, List, slice_get, Option, Some, None, refl, sym, ◌∙◌, subst}
+use Rattle.std.proofs.Common.{◌≡◌, ℕ, ◌⊎◌, List, slice_get, Option, Some, None, refl, sym, ◌∙◌, subst, inl, inr}
 use Rattle.std.specs.Option.{MatchOption, option_and_then}
 use mathlib.Core.List.{IsPrefix}
 use Rattle.cts_units.specs.declared.params.Sink.{Sink}
@@ -8,9 +8,10 @@ use Rattle.cts_postorder.specs.BinaryTree.{tip, fork}
 use Rattle.cts_merge.specs.declared.side.Finished.{Finished}
 use Rattle.cts_merge.specs.Merge.{IsLeaf, IsMerged}
 use Rattle.cts_up.specs.Plan.{IsFinished, sink_of}
+use Rattle.cts_memo.specs.declared.key.Key.{Key}
 use Rattle.cts_memo.specs.declared.key.Key.TheVariants.{Pair}
 use Rattle.cts_memo.specs.declared.entry.MemoEntry.{MemoEntry}
-use Rattle.cts_memo.specs.Keys.{leaf_key, same_key}
+use Rattle.cts_memo.specs.Keys.{leaf_key, pair_key, same_key}
 use Rattle.cts_memo.specs.Sound.{EntryAt, IsMadeOf, IsSound, sink_at}
 use Rattle.cts_memo.specs.Numbers.{number_of, pair_number, position_of}
 use Rattle.cts_memo.specs.Laws.{NumbersStay, NumberedIsFinished}
@@ -30,6 +31,17 @@ some_entry seen n P p = by (slice_get seen n) refl p
     by : (o : Option MemoEntry) → slice_get seen n ≡ o → MatchOption (slice_get seen n) ⊥ P → (e : MemoEntry) × (slice_get seen n ≡ Some e) × P e
     by None is p = absurd (subst (λ o. MatchOption o ⊥ P) is p)
     by (Some e) is p = (e, is, subst (λ o. MatchOption o ⊥ P) is p)
+
+-- where a pair has a key both its parts have a number, and else one of them has none
+pub key_parts : (a b : Option ℕ) (key : Key) → pair_key a b ≡ Some key → (i : ℕ) × (j : ℕ) × (a ≡ Some i) × (b ≡ Some j) × (key ≡ Pair i j)
+key_parts None b key is = absurd (cc is)
+key_parts (Some i) None key is = absurd (cc is)
+key_parts (Some i) (Some j) key is = (i, j, refl, refl, cc is)
+
+pub part_missing : (a b : Option ℕ) → pair_key a b ≡ None → (a ≡ None) ⊎ (b ≡ None)
+part_missing None b none = inl refl
+part_missing (Some i) None none = inr refl
+part_missing (Some i) (Some j) none = absurd (cc none)
 
 -- where a pair has a number both its parts have one
 pub pair_parts : (seen : List MemoEntry) (a b : Option ℕ) (n : ℕ) → pair_number seen a b ≡ Some n

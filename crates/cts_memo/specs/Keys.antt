@@ -1,5 +1,5 @@
 -- Keys of subtrees, and the entries that have them.
-use Rattle.std.specs.Prelude.{Bool, false, ◌==◌, ◌&&◌, ◌^◌, ◌<◌, List, map}
+use Rattle.std.specs.Prelude.{Bool, false, ◌==◌, ◌&&◌, ℕ, ◌^◌, ◌<◌, List, map, Option, Some, None}
 use Rattle.std.specs.Ordering.{int_eq}
 use Rattle.cts_geom.specs.Regions.{IsRegionInRange}
 use Rattle.cts_units.specs.declared.params.Sink.{Sink}
@@ -12,6 +12,12 @@ use Rattle.cts_memo.specs.declared.entry.MemoEntry.{MemoEntry}
 -- the key of a sink's leaf: the id has no part in it
 abbrev pub leaf_key : Sink → Key
 leaf_key sink = Leaf sink.x sink.y sink.cap sink.offset
+
+-- the key of a pair by the numbers of its two parts
+abbrev pub pair_key : Option ℕ → Option ℕ → Option Key
+pair_key (Some left) (Some right) = Some (Pair left right)
+pair_key (Some left) None = None
+pair_key None right = None
 
 -- a side whose numbers may be those of a sink: coordinates, and a doubled offset of which one half has 64 bits
 pub record IsNarrow (side : Side) : Type 0 where

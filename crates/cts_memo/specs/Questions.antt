@@ -11,6 +11,7 @@ use Rattle.cts_memo.specs.declared.question.Part.TheVariants.{Number, Place}
 use Rattle.cts_memo.specs.declared.question.Query.{Query}
 use Rattle.cts_memo.specs.declared.question.Query.TheVariants.{Leaf, Pair}
 use Rattle.cts_memo.specs.declared.question.Question.{Question}
+use Rattle.cts_memo.specs.Keys.{pair_key}
 use Rattle.cts_memo.specs.Replies.{IsFound}
 
 -- what asks for a key
@@ -34,12 +35,6 @@ number_told question = number_in question.answer
 abbrev pub part_number : List Question → Part → Option ℕ
 part_number before (Number n) = Some n
 part_number before (Place place) = option_and_then number_told (slice_get before place)
-
--- the key of a pair by the numbers of its two parts
-abbrev pub pair_key : Option ℕ → Option ℕ → Option Key
-pair_key (Some left) (Some right) = Some (key.Pair left right)
-pair_key (Some left) None = None
-pair_key None right = None
 
 -- the key that a question comes to behind those before it
 abbrev pub key_of : List Question → Query → Option Key

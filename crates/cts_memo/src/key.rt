@@ -25,7 +25,7 @@ impl Key {
     ghost use Rattle.std.specs.Prelude.{◌≡◌};
     ghost use Rattle.cts_merge.specs.Merge.{IsLeaf};
     ghost use Rattle.cts_units.specs.declared.params.Sink.{Sink};
-    ghost use Rattle.cts_memo.specs.Keys.{IsNarrow, leaf_key};
+    ghost use Rattle.cts_memo.specs.Keys.{IsNarrow, leaf_key, pair_key};
 
     /// The key of a sink's leaf.
     pub fn of_sink(sink: &Sink) -> Key
@@ -52,5 +52,15 @@ impl Key {
             cap: side.load,
             offset: (side.greatest / 2) as u64,
         }
+    }
+
+    /// The key of a pair whose two parts have these numbers, or `None` where one has none.
+    pub fn of_pair(left: Option<u32>, right: Option<u32>) -> Option<Key>
+        ensures { result ≡ pair_key left right }
+    {
+        Some(Key::Pair {
+            left: left?,
+            right: right?,
+        })
     }
 }

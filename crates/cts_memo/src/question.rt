@@ -1,7 +1,7 @@
 //! Questions that are asked beside others, in one call.
 
 ghost use Rattle.std.specs.Prelude.{◌≡◌};
-ghost use Rattle.cts_memo.specs.Questions.{key_of, number_told, pair_key, part_number, query_for, unanswered};
+ghost use Rattle.cts_memo.specs.Questions.{key_of, number_told, part_number, query_for, unanswered};
 
 use crate::entry::Answer;
 use crate::key::Key;
@@ -41,16 +41,6 @@ pub struct Question {
     pub answer: Answer,
 }
 
-/// The key of a pair whose two parts have these numbers, or `None` where one has none.
-fn pair_key(left: Option<u32>, right: Option<u32>) -> Option<Key>
-    ensures { result ≡ pair_key left right }
-{
-    Some(Key::Pair {
-        left: left?,
-        right: right?,
-    })
-}
-
 impl Part {
     /// The number of the part's entry, behind these questions of its list.
     fn number(self, before: &[Question]) -> Option<u32>
@@ -83,7 +73,7 @@ impl Query {
     {
         match self {
             Query::Leaf { x, y, cap, offset } => Some(Key::Leaf { x, y, cap, offset }),
-            Query::Pair { left, right } => pair_key(left.number(before), right.number(before)),
+            Query::Pair { left, right } => Key::of_pair(left.number(before), right.number(before)),
         }
     }
 }

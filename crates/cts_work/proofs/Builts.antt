@@ -13,6 +13,7 @@ use Rattle.cts_turn.proofs.Prefixes.{prefix_whole}
 use Rattle.cts_up.specs.Plan.{IsFinished, IsBeyondPair}
 use Rattle.cts_up.proofs.Unique.{finished_one}
 use Rattle.cts_memo.specs.declared.key.Key.{Key}
+use Rattle.cts_memo.specs.declared.key.Key.TheVariants.{Pair}
 use Rattle.cts_memo.specs.declared.entry.MemoEntry.{MemoEntry}
 use Rattle.cts_memo.specs.declared.entry.MemoCall.{MemoCall}
 use Rattle.cts_memo.specs.declared.entry.MemoReply.{MemoReply}
@@ -25,15 +26,15 @@ use Rattle.cts_up.proofs.Sides.{sides_merge}
 use Rattle.cts_memo.specs.Passes.{IsPassOf, params_of}
 use Rattle.cts_turn.specs.declared.turn.Pass.{Pass}
 use Rattle.cts_turn.specs.Passes.{seen_by}
-use Rattle.cts_memo.specs.Keys.{entry, leaf_key}
+use Rattle.cts_memo.specs.Keys.{entry, leaf_key, pair_key}
 use Rattle.cts_memo.specs.Numbers.{number_of, pair_number, position_of}
 use Rattle.cts_memo.specs.Replies.{IsAbsent}
 use Rattle.cts_memo.specs.Sound.{EntryAt, IsMadeOf, IsSound, NamesEntries, max_entries}
 use Rattle.cts_memo.proofs.Publications.{made_of_all}
 use Rattle.cts_memo.proofs.Positions.{absent_position, stands_position}
-use Rattle.cts_memo.proofs.Numbering.{leaf_of, number_stays, numbered_finished, pair_is, some_entry, entry_is, is_entry}
+use Rattle.cts_memo.proofs.Numbering.{leaf_of, number_stays, numbered_finished, key_parts, pair_is, some_entry, entry_is, is_entry}
 use Rattle.cts_work.specs.declared.node.Built.{Built}
-use Rattle.cts_work.specs.Built.{IsBuilt, IsBuiltLeaf, IsKept, IsPairKey}
+use Rattle.cts_work.specs.Built.{IsBuilt, IsBuiltLeaf, IsKept}
 use Rattle.cts_work.proofs.Noted.{noted_stays}
 
 -- a leaf that was looked up
@@ -143,28 +144,31 @@ module _ (params : Params) (sinks : List Sink) where
       noted = tt;
     }
 
-    module _ (key : Key) (is_key : IsPairKey a.number b.number key) where
+    module _ (key : Key) (is_key : pair_key a.number b.number ≡ Some key) where
+      abbrev parts : (i : ℕ) × (j : ℕ) × (a.number ≡ Some i) × (b.number ≡ Some j) × (key ≡ Pair i j)
+      parts = key_parts a.number b.number key is_key
+
       -- the number of the pair is the position of its key
       pub number_is : number_of seen sinks (fork l r m) ≡ position_of seen key
       unfolding number_of
       number_is =
-          pair_is seen (number_of seen sinks l) (number_of seen sinks r) (is_key.0) (is_key.1) (left.number ∙ is_key.2) (right.number ∙ is_key.3)
-          ∙ ap (position_of seen) (sym (is_key.4))
+          pair_is seen (number_of seen sinks l) (number_of seen sinks r) (parts.0) (parts.1) (left.number ∙ parts.2) (right.number ∙ parts.3)
+          ∙ ap (position_of seen) (sym (parts.4))
 
       pub names_entries : NamesEntries seen key
       names_entries =
-          let x = numbered_entry seen l a (is_key.0) sound left (is_key.2) in
-          let y = numbered_entry seen r b (is_key.1) sound right (is_key.3) in
-          subst (NamesEntries seen) (sym (is_key.4))
-          (slice_get_within seen (is_key.0) (x.0) (x.1), slice_get_within seen (is_key.1) (y.0) (y.1))
+          let x = numbered_entry seen l a (parts.0) sound left (parts.2) in
+          let y = numbered_entry seen r b (parts.1) sound right (parts.3) in
+          subst (NamesEntries seen) (sym (parts.4))
+          (slice_get_within seen (parts.0) (x.0) (x.1), slice_get_within seen (parts.1) (y.0) (y.1))
 
       pub made_of : (f : Finished) → IsMerged params a.finished.side b.finished.side f → IsMadeOf params seen key f
       made_of f merged =
-          let x = numbered_entry seen l a (is_key.0) sound left (is_key.2) in
-          let y = numbered_entry seen r b (is_key.1) sound right (is_key.3) in
-          subst (λ k. IsMadeOf params seen k f) (sym (is_key.4))
-          (is_entry seen (is_key.0) (λ p. EntryAt seen (is_key.1) (λ q. IsMerged params p.finished.side q.finished.side f)) (x.0) (x.1)
-          (is_entry seen (is_key.1) (λ q. IsMerged params x.0.finished.side q.finished.side f) (y.0) (y.1)
+          let x = numbered_entry seen l a (parts.0) sound left (parts.2) in
+          let y = numbered_entry seen r b (parts.1) sound right (parts.3) in
+          subst (λ k. IsMadeOf params seen k f) (sym (parts.4))
+          (is_entry seen (parts.0) (λ p. EntryAt seen (parts.1) (λ q. IsMerged params p.finished.side q.finished.side f)) (x.0) (x.1)
+          (is_entry seen (parts.1) (λ q. IsMerged params x.0.finished.side q.finished.side f) (y.0) (y.1)
           (subst (λ (p : Finished × Finished). IsMerged params p.0.side p.1.side f) (λ k. (sym (x.2) k, sym (y.2) k)) merged)))
 
       -- the pair where it was looked up

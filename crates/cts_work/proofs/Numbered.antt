@@ -23,15 +23,15 @@ use Rattle.cts_up.proofs.Unique.{finished_one}
 use Rattle.cts_memo.specs.declared.key.Key.{Key}
 use Rattle.cts_memo.specs.declared.key.Key.TheVariants as keys
 use Rattle.cts_memo.specs.declared.entry.MemoEntry.{MemoEntry}
-use Rattle.cts_memo.specs.Keys.{entry, leaf_key}
+use Rattle.cts_memo.specs.Keys.{entry, leaf_key, pair_key}
 use Rattle.cts_memo.specs.Numbers.{AreKnown, number_of, pair_number, position_of}
 use Rattle.cts_memo.specs.Sound.{EntryAt, IsMadeOf, IsSound, NamesEntries, max_entries, sink_at}
 use Rattle.cts_memo.specs.TableLaws.{made_stays}
 use Rattle.cts_memo.proofs.Positions.{absent_position, stands_position}
 use Rattle.cts_memo.proofs.Publications.{made_of_all, made_one}
-use Rattle.cts_memo.proofs.Numbering.{is_entry, number_stays, numbered_finished, pair_is, some_entry}
+use Rattle.cts_memo.proofs.Numbering.{is_entry, key_parts, number_stays, numbered_finished, pair_is, some_entry}
 use Rattle.cts_work.specs.declared.publishing.Brought.{Brought}
-use Rattle.cts_work.specs.Built.{IsKept, IsPairKey, tree_at}
+use Rattle.cts_work.specs.Built.{IsKept, tree_at}
 use Rattle.cts_work.specs.Numbered.{AreNumbered, HasNumber}
 
 -- what was found of a key is what was made of it
@@ -122,20 +122,23 @@ module _ (params : Params) (seen : List MemoEntry) (sinks : List Sink) (l r : Bi
     full = λ e. elim none [ inl is ↦ left.full is | inr is ↦ right.full is ];
   }
 
-  module _ (key : Key) (is_key : IsPairKey a b key) where
+  module _ (key : Key) (is_key : pair_key a b ≡ Some key) where
+    abbrev parts : (i : ℕ) × (j : ℕ) × (a ≡ Some i) × (b ≡ Some j) × (key ≡ keys.Pair i j)
+    parts = key_parts a b key is_key
+
     abbrev i : ℕ
-    i = is_key.0
+    i = parts.0
 
     abbrev j : ℕ
-    j = is_key.1
+    j = parts.1
 
     -- a pair whose key was published
     pub pair_number_kept : (f : Finished) (number : Option ℕ) → IsSound params seen → IsKept seen key f number → HasNumber seen sinks (fork l r m) number
     unfolding number_of
     pair_number_kept f number sound kept = record {
       is =
-          pair_is seen (number_of seen sinks l) (number_of seen sinks r) i j (left.is ∙ is_key.2) (right.is ∙ is_key.3)
-          ∙ ap (position_of seen) (sym (is_key.4)) ∙ kept_position params seen key f number sound kept;
+          pair_is seen (number_of seen sinks l) (number_of seen sinks r) i j (left.is ∙ parts.2) (right.is ∙ parts.3)
+          ∙ ap (position_of seen) (sym (parts.4)) ∙ kept_position params seen key f number sound kept;
       full = kept_full seen key f number kept;
     }
 
@@ -143,17 +146,17 @@ module _ (params : Params) (seen : List MemoEntry) (sinks : List Sink) (l r : Bi
       first : (e : MemoEntry) × (slice_get seen i ≡ Some e) × IsFinished params sinks l e.finished
       first =
           some_entry seen i (λ e. IsFinished params sinks l e.finished)
-          (numbered_finished params seen sinks l i sound (left.is ∙ is_key.2))
+          (numbered_finished params seen sinks l i sound (left.is ∙ parts.2))
 
       second : (e : MemoEntry) × (slice_get seen j ≡ Some e) × IsFinished params sinks r e.finished
       second =
           some_entry seen j (λ e. IsFinished params sinks r e.finished)
-          (numbered_finished params seen sinks r j sound (right.is ∙ is_key.3))
+          (numbered_finished params seen sinks r j sound (right.is ∙ parts.3))
 
       -- its key names two entries
       pub names_two : NamesEntries seen key
       names_two =
-          subst (NamesEntries seen) (sym (is_key.4))
+          subst (NamesEntries seen) (sym (parts.4))
           (slice_get_within seen i (first.0) (first.1), slice_get_within seen j (second.0) (second.1))
 
       -- and what the pair is made of is made of them
@@ -162,7 +165,7 @@ module _ (params : Params) (seen : List MemoEntry) (sinks : List Sink) (l r : Bi
       made_of_two f whole =
           let one : first.0.finished ≡ whole.0 = finished_one params sinks l first.0.finished (whole.0) (first.2) (whole.2) in
           let two : second.0.finished ≡ whole.1 = finished_one params sinks r second.0.finished (whole.1) (second.2) (whole.3) in
-          subst (λ k. IsMadeOf params seen k f) (sym (is_key.4))
+          subst (λ k. IsMadeOf params seen k f) (sym (parts.4))
           (is_entry seen i (λ p. EntryAt seen j (λ q. IsMerged params p.finished.side q.finished.side f)) (first.0) (first.1)
           (is_entry seen j (λ q. IsMerged params first.0.finished.side q.finished.side f) (second.0) (second.1)
           (subst (λ (p : Finished × Finished). IsMerged params p.0.side p.1.side f) (λ k. (sym one k, sym two k)) (whole.4))))

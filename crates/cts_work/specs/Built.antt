@@ -14,7 +14,6 @@ use Rattle.cts_up.specs.Plan.{IsFinished}
 use Rattle.cts_turn.specs.declared.turn.Pass.{Pass}
 use Rattle.cts_turn.specs.Passes.{seen_by, share_of}
 use Rattle.cts_memo.specs.declared.key.Key.{Key}
-use Rattle.cts_memo.specs.declared.key.Key.TheVariants as keys
 use Rattle.cts_memo.specs.declared.entry.MemoEntry.{MemoEntry}
 use Rattle.cts_memo.specs.declared.entry.MemoCall.{MemoCall}
 use Rattle.cts_memo.specs.declared.entry.MemoReply.{MemoReply}
@@ -63,7 +62,3 @@ tree_at nodes k = slice_index_or (trees_of children nodes) k (tip (Leaf 0))
 -- the tree at number k is the pair of those at its children's numbers
 abbrev pub IsPairAt : List ShapeNode → ℕ → ℕ → ℕ → Type 0
 IsPairAt nodes k left right = tree_at nodes k ≡ fork (tree_at nodes left) (tree_at nodes right) (Pair left right)
-
--- the key of a pair of parts with these numbers
-abbrev pub IsPairKey : Option ℕ → Option ℕ → Key → Type 0
-IsPairKey a b key = (i : ℕ) × (j : ℕ) × (a ≡ Some i) × (b ≡ Some j) × (key ≡ keys.Pair i j)

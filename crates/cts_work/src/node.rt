@@ -1,17 +1,16 @@
 //! One node over the memo.
 
-ghost use Rattle.std.specs.Prelude.{◌≡◌, ◌+◌, ◌≤◌, ◌∷◌, [], ◌⊎◌, List, Some, None, IfOk, IfErr, IfSome, IfNone, option_copied};
-ghost use Rattle.cts_merge.specs.Merge.{IsBeyond, IsLeaf, IsMerged};
+ghost use Rattle.std.specs.Prelude.{◌≡◌, ◌+◌, ◌≤◌, List, Some, IfOk, IfErr, IfSome, option_copied};
+ghost use Rattle.cts_merge.specs.Merge.{IsBeyond, IsMerged};
 ghost use Rattle.cts_merge.specs.Side.{IsMergeable};
-ghost use Rattle.cts_topo.specs.Sinks.{IsPlaced};
 ghost use Rattle.cts_up.specs.Sinks.{IsSinkInRange};
 ghost use Rattle.cts_turn.specs.Passes.{seen_by};
-ghost use Rattle.cts_memo.specs.Keys.{entry};
+ghost use Rattle.cts_memo.specs.Keys.{pair_key};
 ghost use Rattle.cts_memo.specs.Passes.{IsPassOf, params_of};
 ghost use Rattle.cts_memo.specs.declared.entry.MemoEntry.{MemoEntry};
 ghost use Rattle.cts_memo.specs.Replies.{IsAbsent, IsFound};
-ghost use Rattle.cts_memo.specs.Sound.{IsMadeOf, NamesEntries, max_entries};
-ghost use Rattle.cts_work.specs.Built.{GoesOn, IsBuiltLeaf, IsKept, IsPairAt, IsPairKey};
+ghost use Rattle.cts_memo.specs.Sound.{IsMadeOf, NamesEntries};
+ghost use Rattle.cts_work.specs.Built.{GoesOn, IsBuiltLeaf, IsKept, IsPairAt};
 ghost use Rattle.cts_work.specs.Known.{MayKnow};
 ghost use Rattle.cts_work.specs.Work.{EndsAt, IsBuiltAt, IsReady, missing_at};
 
@@ -171,20 +170,6 @@ pub(crate) struct PairNumbers {
     pub(crate) right: u32,
 }
 
-/// The key of a pair whose two parts have these numbers in the memo, or `None` where one has none.
-pub(crate) fn pair_key(left: Option<u32>, right: Option<u32>) -> Option<Key>
-    ensures key { IfSome result (IsPairKey left right) }
-    ensures none { IfNone result ((left ≡ None) ⊎ (right ≡ None)) }
-{
-    match left {
-        Some(left) => match right {
-            Some(right) => Some(Key::Pair { left, right }),
-            None => None,
-        },
-        None => None,
-    }
-}
-
 /// A pair whose key is absent: made and published.
 fn make_pair<L: Ledger, R: Wait, G: Gate>(
     worker: &Worker<'_, '_, R, G>,
@@ -201,7 +186,7 @@ fn make_pair<L: Ledger, R: Wait, G: Gate>(
     requires here { IsPairAt work.now.nodes.now at.node at.left at.right }
     requires a { IsBuiltAt work.now (seen_by pass.old) at.left a.now }
     requires b { IsBuiltAt work.now (seen_by pass.old) at.right b.now }
-    requires key { IsPairKey a.now.number b.now.number key }
+    requires key { pair_key a.now.number b.now.number ≡ Some key }
     requires absent { IsAbsent (seen_by pass.old) key }
     ensures pass { GoesOn work.now.memo.now pass.old pass.new }
     ensures built { IfOk result (IsBuiltAt work.now (seen_by pass.new) at.node) }
@@ -238,7 +223,7 @@ fn ask_pair<L: Ledger, R: Wait, G: Gate>(
     requires here { IsPairAt work.now.nodes.now at.node at.left at.right }
     requires a { IsBuiltAt work.now (seen_by pass.old) at.left a.now }
     requires b { IsBuiltAt work.now (seen_by pass.old) at.right b.now }
-    requires key { IsPairKey a.now.number b.now.number key }
+    requires key { pair_key a.now.number b.now.number ≡ Some key }
     requires known { MayKnow (seen_by pass.old) (option_copied worker.now.known) }
     ensures pass { GoesOn work.now.memo.now pass.old pass.new }
     ensures built { IfOk result (IsBuiltAt work.now (seen_by pass.new) at.node) }
@@ -278,7 +263,7 @@ pub(crate) fn build_pair<L: Ledger, R: Wait, G: Gate>(
     ensures ends { IfErr result (EndsAt work.now at.node) }
     ensures merges { steps.new ≤ steps.old + missing_at work.now (seen_by pass.old) at.node }
 {
-    match pair_key(a.number, b.number) {
+    match Key::of_pair(a.number, b.number) {
         Some(key) => ask_pair(worker, work, pass, at, a, b, key, cursor, steps),
         None => match merge_sides(work.memo, &a.finished, &b.finished, steps) {
             Ok(finished) => Ok(Built {

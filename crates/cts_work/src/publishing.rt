@@ -18,7 +18,7 @@ ghost use Rattle.cts_work.specs.Told.{HoldsFor, MayTell, TellsTrue};
 ghost use Rattle.cts_work.specs.Work.{IsMadeAt, IsReady};
 
 use crate::gate::Gate;
-use crate::node::{PairNumbers, keep, pair_key};
+use crate::node::{PairNumbers, keep};
 use crate::pieces::{Piece, pieces_for};
 use crate::work::Work;
 use cts_memo::{Answer, Key, Memo, MemoPass, Part, Query, Question};
@@ -154,7 +154,7 @@ fn bring_pair<R: Wait, G: Gate>(
     ensures pass { GoesOn work.now.memo.now pass.old pass.new }
     ensures number { IfOk result (HasNumber (seen_by pass.new) work.now.sinks.now (tree_at work.now.nodes.now at.node)) }
 {
-    match pair_key(left.number, right.number) {
+    match Key::of_pair(left.number, right.number) {
         Some(key) => bring(rt, gate, left.piece, work.memo, pass, key, told, finished),
         None => Ok(None),
     }

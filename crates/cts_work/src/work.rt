@@ -6,7 +6,7 @@ use cts_topo::ShapeNode;
 use cts_units::Sink;
 
 /// The nodes of a shape over sinks, which are built over a memo.
-#[derive(Clone, Copy)]
+#[derive(Drop)]
 pub(crate) struct Work<'a> {
     pub(crate) memo: &'a Memo,
     pub(crate) sinks: &'a [Sink],
@@ -15,7 +15,7 @@ pub(crate) struct Work<'a> {
 
 /// A worker or caller, with its number, the gate at which it can be watched, and what it knows of a tree
 /// that it built before.
-#[derive(Clone, Copy)]
+#[derive(Drop)]
 pub(crate) struct Worker<'a, 'k, R, G> {
     pub(crate) rt: &'a R,
     pub(crate) gate: &'a G,

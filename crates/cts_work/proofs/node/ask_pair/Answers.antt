@@ -5,6 +5,7 @@ use Rattle.cts_topo.specs.declared.shape.ShapeNode.TheVariants.{Pair}
 use Rattle.cts_work.specs.Built.{IsBuilt}
 use Rattle.cts_work.proofs.Builts.{sound_for, built_stays, names_entries, have_pair}
 use Rattle.cts_work.proofs.Misses.{missing_earlier}
+use Rattle.cts_work.proofs.Nodes.{goes_further}
 use Rattle.cts_work.proofs.node.ask_pair.Goals as goal
 
 pub look_up-requires-clause-key : goal.look_up-requires-clause-key
@@ -39,3 +40,13 @@ pub returns-in-Absent-clause-merges : goal.returns-in-Absent-clause-merges
 returns-in-Absent-clause-merges g c =
     missing_earlier (seen_by c.args.pass.now) (seen_by c.look_up.new.pass) c.args.work.now.sinks.now _ c.args.steps.now c.make_pair.new.steps
     c.look_up.ensures.pass.goes_on c.make_pair.ensures.merges
+
+pub look_up-requires-clause-known : goal.look_up-requires-clause-known
+look_up-requires-clause-known g c κs within = c.requires.known
+
+pub returns-in-Have-clause-pass : goal.returns-in-Have-clause-pass
+returns-in-Have-clause-pass g c = c.look_up.ensures.pass
+
+pub returns-in-Absent-clause-pass : goal.returns-in-Absent-clause-pass
+returns-in-Absent-clause-pass g c =
+    goes_further c.args.work.now.memo.now c.args.pass.now c.look_up.new.pass c.make_pair.new.pass c.look_up.ensures.pass c.make_pair.ensures.pass

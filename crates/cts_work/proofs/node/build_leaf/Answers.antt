@@ -11,6 +11,7 @@ use Rattle.cts_memo.specs.Keys.{leaf_key}
 use Rattle.cts_memo.specs.Passes.{params_of}
 use Rattle.cts_memo.specs.Sound.{IsMadeOf, NamesEntries, sink_at}
 use Rattle.cts_work.proofs.Builts.{have_leaf, kept_leaf}
+use Rattle.cts_work.proofs.Nodes.{goes_further}
 use Rattle.cts_work.proofs.node.build_leaf.Goals as goal
 
 leaf_names : (seen : List MemoEntry) (sink : Sink) (key : Key) → key ≡ leaf_key sink → NamesEntries seen key
@@ -58,3 +59,17 @@ publish-requires-clause-finished g c κs within =
 
 pub returns-in_err-number-clause-built : goal.returns-in_err-number-clause-built
 returns-in_err-number-clause-built g c = IfOk-from_err _ _ (c.from_residual.ensures.0)
+
+pub look_up-answer-requires-clause-known : goal.look_up-answer-requires-clause-known
+look_up-answer-requires-clause-known g c κs within = c.requires.known
+
+pub returns-in-Have-clause-pass : goal.returns-in-Have-clause-pass
+returns-in-Have-clause-pass g c = c.look_up-answer.ensures.pass
+
+pub returns-in_err-number-clause-pass : goal.returns-in_err-number-clause-pass
+returns-in_err-number-clause-pass g c =
+    goes_further c.args.memo.now c.args.pass.now c.look_up-answer.new.pass c.publish.new.pass c.look_up-answer.ensures.pass c.publish.ensures.pass
+
+pub returns-clause-pass : goal.returns-clause-pass
+returns-clause-pass g c =
+    goes_further c.args.memo.now c.args.pass.now c.look_up-answer.new.pass c.publish.new.pass c.look_up-answer.ensures.pass c.publish.ensures.pass

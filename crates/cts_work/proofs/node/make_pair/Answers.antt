@@ -7,6 +7,7 @@ use Rattle.cts_memo.proofs.Positions.{absent_position}
 use Rattle.cts_work.specs.Built.{IsBuilt}
 use Rattle.cts_work.proofs.Builts.{sound_for, params_within, mergeable, built_stays, names_entries, made_of, kept_pair, number_is, pair_beyond}
 use Rattle.cts_work.proofs.Misses.{one_merge}
+use Rattle.cts_work.proofs.Nodes.{stands_still}
 use Rattle.cts_work.proofs.node.make_pair.Goals as goal
 
 pub merge_sides-requires-clause-a : goal.merge_sides-requires-clause-a
@@ -77,3 +78,6 @@ returns-in-Err-clause-merges g c =
     _ _ (Pair c.args.at.left c.args.at.right) c.args.a.now c.args.b.now c.requires.a c.requires.b c.args.key c.requires.key
     ∙ absent_position (seen_by c.args.pass.now) c.args.key c.requires.absent)
     c.merge_sides.ensures.tick
+
+pub returns-in-Err-clause-pass : goal.returns-in-Err-clause-pass
+returns-in-Err-clause-pass g c = stands_still c.args.work.now.memo.now c.args.pass.now c.requires.own

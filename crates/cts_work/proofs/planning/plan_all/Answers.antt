@@ -1,5 +1,9 @@
-use Rattle.std.proofs.Common.{length, sym, ◌∙◌, subst}
+use Rattle.std.proofs.Common.{List, length, sym, ◌∙◌, subst, IfOk, IfErr}
+use Rattle.cts_topo.specs.declared.shape.ShapeNode.{ShapeNode}
 use Rattle.cts_topo.specs.Shape.{IsShapeOver}
+use Rattle.cts_up.specs.Ends.{Ends}
+use Rattle.cts_up.specs.Plan.{IsPlan}
+use Rattle.cts_memo.specs.Passes.{params_of}
 use Rattle.cts_work.proofs.Divisions.{whole_in_order, whole_pieces}
 use Rattle.cts_work.proofs.planning.plan_all.Goals as goal
 
@@ -20,3 +24,25 @@ plan_of-requires-clause-order g c =
     whole_in_order c.nodes-nodes.result.now (length c.args.sinks.now)
     (subst (IsShapeOver (length c.args.sinks.now)) (sym c.nodes-nodes.ensures.nodes) c.requires.shape) c.args.workers c.requires.some c.requires.few
     c.deref-2.result.now (c.deref-2.ensures.value ∙ c.in_ok-pieces.ensures)
+
+pub make_pieces-requires-clause-ready : goal.make_pieces-requires-clause-ready
+make_pieces-requires-clause-ready g c κs within = record {
+  sinks = c.requires.sinks;
+  shape = subst (IsShapeOver (length c.args.sinks.now)) (sym c.nodes-nodes.ensures.nodes) c.requires.shape;
+}
+
+pub plan_of-requires-clause-ready : goal.plan_of-requires-clause-ready
+plan_of-requires-clause-ready g c = record {
+  sinks = c.requires.sinks;
+  shape = subst (IsShapeOver (length c.args.sinks.now)) (sym c.nodes-nodes.ensures.nodes) c.requires.shape;
+}
+
+pub returns-clause-plan : goal.returns-clause-plan
+returns-clause-plan g c =
+    subst (λ (ns : List ShapeNode). IfOk c.plan_of.result (λ plan. IsPlan (params_of c.args.memo.now) c.args.sinks.now ns plan.items))
+    c.nodes-nodes.ensures.nodes c.plan_of.ensures.plan
+
+pub returns-clause-ends : goal.returns-clause-ends
+returns-clause-ends g c =
+    subst (λ (ns : List ShapeNode). IfErr c.plan_of.result (Ends (params_of c.args.memo.now) c.args.sinks.now ns))
+    c.nodes-nodes.ensures.nodes c.plan_of.ensures.ends

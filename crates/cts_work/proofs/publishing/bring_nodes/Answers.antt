@@ -127,3 +127,39 @@ returns-clause-known g c =
       length-trees_of children c.args.work.now.nodes.now,
     ))
     c.loop-node.invariant.before
+
+pub returns-clause-pass : goal.returns-clause-pass
+returns-clause-pass g c = c.loop-node.invariant.pass
+
+pub returns-in_err-before-clause-pass : goal.returns-in_err-before-clause-pass
+returns-in_err-before-clause-pass g c = stands_still c.args.work.now.memo.now c.args.pass.now c.requires.own
+
+pub returns-in_err-told-clause-pass : goal.returns-in_err-told-clause-pass
+returns-in_err-told-clause-pass g c = stands_still c.args.work.now.memo.now c.args.pass.now c.requires.own
+
+pub returns-in_err-told-2-clause-pass : goal.returns-in_err-told-2-clause-pass
+returns-in_err-told-2-clause-pass g c =
+    goes_further c.args.work.now.memo.now c.args.pass.now c.loop-node.pass c.stretch_told.new.pass c.loop-node.invariant.pass c.stretch_told.ensures.pass
+
+pub returns-in_err-next-clause-pass : goal.returns-in_err-next-clause-pass
+returns-in_err-next-clause-pass g c =
+    let memo = c.args.work.now.memo.now in
+    goes_further memo c.args.pass.now c.stretch_told.new.pass c.bring_node.new.pass
+    (goes_further memo c.args.pass.now c.loop-node.pass c.stretch_told.new.pass c.loop-node.invariant.pass c.stretch_told.ensures.pass)
+    c.bring_node.ensures.pass
+
+pub returns-in_err-push-clause-pass : goal.returns-in_err-push-clause-pass
+returns-in_err-push-clause-pass g c =
+    let memo = c.args.work.now.memo.now in
+    goes_further memo c.args.pass.now c.stretch_told.new.pass c.bring_node.new.pass
+    (goes_further memo c.args.pass.now c.loop-node.pass c.stretch_told.new.pass c.loop-node.invariant.pass c.stretch_told.ensures.pass)
+    c.bring_node.ensures.pass
+
+pub stretch_told-requires-clause-own : goal.stretch_told-requires-clause-own
+stretch_told-requires-clause-own g c = c.loop-node.invariant.pass.own
+
+pub stretch_told-requires-clause-told : goal.stretch_told-requires-clause-told
+stretch_told-requires-clause-told g c = c.loop-node.invariant.told
+
+pub bring_node-requires-clause-own : goal.bring_node-requires-clause-own
+bring_node-requires-clause-own g c κs within = c.stretch_told.ensures.pass.own
