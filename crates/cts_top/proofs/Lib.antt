@@ -11,6 +11,7 @@ pub mod NearTold
 pub mod Serving
 pub mod Forms
 pub mod Editing
+pub mod Edited
 pub mod TrunkWords
 pub mod TrunkKinds
 pub mod TautTrunk

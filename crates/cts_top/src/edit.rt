@@ -5,6 +5,7 @@ ghost use Rattle.std.specs.Io.KnownBytes.{IsAtEnd};
 ghost use Rattle.cts_callers.specs.Legal.{IsLegal};
 ghost use Rattle.cts_callers.specs.Turns.{lists_of};
 ghost use Rattle.cts_history.specs.History.{IsPrintable};
+ghost use Rattle.cts_instance.specs.Validity.{IsValid, with_sinks};
 ghost use Rattle.cts_io.specs.Faults.{Rose};
 ghost use Rattle.cts_script.specs.Steps.{IsCallerCount};
 ghost use Rattle.cts_session.specs.Desks.{version_of};
@@ -74,6 +75,33 @@ fn read_source<S: ByteSource>(
     Ok(read?)
 }
 
+/// What a run of callers leaves, with the instance after all its edits.
+fn with_version(alloc: Global, run: Run) -> Result<Edited, NoMemory>
+    requires { IsValid (with_sinks run.instance run.sinks.items) }
+    ensures version { IfOk result (λ e. e.version ≡ with_sinks run.instance run.sinks.items) }
+    ensures history { IfOk result (λ e. e.history ≡ run.history) }
+    ensures replies { IfOk result (λ e. e.replies ≡ run.replies) }
+    ensures synthesis { IfOk result (λ e. e.synthesis ≡ run.synthesis) }
+    ensures table { IfOk result (λ e. e.table ≡ run.table) }
+{
+    let Run {
+        instance,
+        history,
+        sinks,
+        replies,
+        synthesis,
+        table,
+    } = run;
+    let version = instance.with_sinks(alloc, sinks)?;
+    Ok(Edited {
+        version,
+        history,
+        replies,
+        synthesis,
+        table,
+    })
+}
+
 /// The run of the callers of these scripts beside each other.
 fn run_scripts<R: Threads + Wait + Sync, G: Gate>(
     rt: &R,
@@ -91,22 +119,8 @@ fn run_scripts<R: Threads + Wait + Sync, G: Gate>(
     ensures memo { IfOk result (λ e. IsMemoOf e.version e.table) }
 {
     instance_is_valid(&instance);
-    let Run {
-        instance,
-        history,
-        sinks,
-        replies,
-        synthesis,
-        table,
-    } = run_callers(rt, alloc, gate, instance, scripts)?;
-    let version = instance.with_sinks(alloc, sinks)?;
-    Ok(Edited {
-        version,
-        history,
-        replies,
-        synthesis,
-        table,
-    })
+    let left = run_callers(rt, alloc, gate, instance, scripts)?;
+    with_version(alloc, left)
 }
 
 /// Writes a history with the replies to its callers, and then the text for the synthesis of the version
