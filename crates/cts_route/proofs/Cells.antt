@@ -1,6 +1,7 @@
 -- Numbers of points, column after column.
 use Rattle.std.proofs.Common.{◌≡◌, ℕ, zero, suc, ◌+◌, ◌*◌, ◌/◌, ◌%◌, ◌<◌, ◌≤◌, sym, ap, ◌∙◌, arith}
 use Rattle.std.proofs.Math.Nat.{mul-le-mul_left}
+use Rattle.std.proofs.lemmas.Nat.{mul-le}
 use Rattle.cts_route.proofs.Unique.{by_order}
 
 -- the columns before a point and the points before it in its column
@@ -10,6 +11,13 @@ column_below i j k l h low less =
   where
     succ_le : {a b : ℕ} → a < b → a + 1 ≤ b
     succ_le less = omega arith
+
+pub cell_inside : (i j w h : ℕ) → i < w → j < h → i * h + j < w * h
+cell_inside i j w h column row = let lt = column_below i j w 0 h row column in omega (arith, lt)
+
+-- 132 columns of 132 points
+pub few_cells : (w h : ℕ) → w ≤ 132 → h ≤ 132 → w * h ≤ 17424
+few_cells w h few_columns few_rows = mul-le w h 132 132 few_columns few_rows
 
 pub cell_one : (i j k l h : ℕ) → j < h → l < h → i * h + j ≡ k * h + l → (i ≡ k) × (j ≡ l)
 cell_one i j k l h low less same =

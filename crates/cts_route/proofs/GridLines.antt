@@ -1,8 +1,8 @@
 -- The lines of a grid are few and near, and those of its window make a search.
-use Rattle.std.proofs.Common.{Vec, Global, ◌≡◌, ℕ, ◌+◌, ◌*◌, ◌/◌, ◌%◌, ◌^◌, ◌≤◌, inl, inr, cond, ℤ, pos, neg_ℤ, ◌*ℤ◌, ◌≤ℤ◌, List, [], ◌∷◌, length, refl, ap, ◌∙◌, subst, arith, length-append}
+use Rattle.std.proofs.Common.{Vec, Global, ◌≡◌, ℕ, ◌+◌, ◌*◌, ◌/◌, ◌%◌, ◌^◌, ◌≤◌, inl, inr, cond, ℤ, pos, neg_ℤ, ◌*ℤ◌, ◌≤ℤ◌, w64, FitsSigned, to_z, of_z, List, [], ◌∷◌, length, refl, ap, ◌∙◌, subst, arith, length-append}
 use Rattle.std.specs.Prelude.{All, count_by}
 use Rattle.std.specs.List.{Contains, flat_map}
-use Rattle.std.proofs.lemmas.Int.{ints}
+use Rattle.std.proofs.lemmas.Int.{ints, to_z-of_z}
 use Rattle.std.proofs.lemmas.List.Sums.{sum_by-cons, count_by-le-length}
 use Rattle.std.proofs.lemmas.List.Elements.{Contains-append_cases, All-head, All-tail}
 use Rattle.cts_geom.specs.declared.bounds.Die.{Die}
@@ -207,3 +207,12 @@ few_more a b lines le = omega arith
 
 pub few_blocks : (blocks : List Block) → length blocks ≤ 64 → All IsBlockInRange blocks → AreBlocksInRange blocks
 few_blocks blocks few each = record { each = each; count = let le = count_by-le-length (λ (block : Block). stops_wires block.kind) blocks in omega (arith, le, few) }
+
+-- a line between two others, as all three are read
+pub read_between : (low at high p : ℤ) → FitsSigned w64 low → FitsSigned w64 at → FitsSigned w64 high → at ≡ p → low ≤ℤ p → p ≤ℤ high
+    → (to_z w64 (of_z w64 low) ≤ℤ to_z w64 (of_z w64 at)) × (to_z w64 (of_z w64 at) ≤ℤ to_z w64 (of_z w64 high))
+read_between low at high p fits_low fits_at fits_high is above below =
+    let l = to_z-of_z w64 low fits_low in
+    let m = to_z-of_z w64 at fits_at in
+    let h = to_z-of_z w64 high fits_high in
+    (omega (arith, ints, l, m), omega (arith, ints, m, h))

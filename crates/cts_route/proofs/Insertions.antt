@@ -1,11 +1,22 @@
 -- A line that is added to lines in ascending order.
-use Rattle.std.proofs.Common.{◌≡◌, ℕ, zero, suc, ◌+◌, ◌<◌, ◌≤◌, ◌⊎◌, inl, inr, ℤ, pos, ◌<ℤ◌, List, [], ◌∷◌, length, slice_index_or, refl, sym, ap, ◌∙◌, subst, arith}
+use Rattle.std.proofs.Common.{◌≡◌, ◌≢◌, ℕ, zero, suc, ◌+◌, ◌<◌, ◌≤◌, ◌⊎◌, inl, inr, true, false, ℤ, pos, ◌≤ℤ◌, ◌<ℤ◌, w64, FitsSigned, to_z, of_z, List, [], ◌∷◌, length, slice_index_or, refl, sym, ap, ◌∙◌, subst, arith}
 use Rattle.std.specs.List.{Contains, insert}
-use Rattle.std.proofs.lemmas.Int.{ints}
+use Rattle.std.specs.Int.Signed.{lt_z}
+use Rattle.std.proofs.lemmas.Int.{ints, to_z-of_z}
 use Rattle.std.proofs.lemmas.List.Edits.{length-insert, get_or-insert_below, get_or-insert_at, get_or-insert_above}
 use Rattle.std.proofs.lemmas.List.Elements.{Contains-get_or}
 use Rattle.cts_route.specs.LineLists.{line_at, IsAscending, IsRoom, IsInserted}
 use Rattle.cts_route.proofs.Unique.{by_order}
+
+-- ---- what a comparison of two numbers of 64 bits tells
+pub less_told : (a b : ℤ) → FitsSigned w64 a → FitsSigned w64 b → lt_z (to_z w64 (of_z w64 a)) (to_z w64 (of_z w64 b)) ≡ true → a <ℤ b
+less_told a b fits_a fits_b e = let less : lt_z a b ≡ true = simp to_z-of_z at e in omega (arith, ints, less)
+
+pub not_less_told : (a b : ℤ) → FitsSigned w64 a → FitsSigned w64 b → lt_z (to_z w64 (of_z w64 a)) (to_z w64 (of_z w64 b)) ≡ false → b ≤ℤ a
+not_less_told a b fits_a fits_b e = let not_less : lt_z a b ≡ false = simp to_z-of_z at e in omega (arith, ints, not_less)
+
+pub strictly_below : (a b : ℤ) → a ≢ b → b ≤ℤ a → b <ℤ a
+strictly_below a b apart le = omega (arith, ints)
 
 -- ---- members by number
 pub contains_at : (lines : List ℤ) (k : ℕ) → k < length lines → Contains lines (line_at lines k)

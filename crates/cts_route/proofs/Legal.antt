@@ -1,11 +1,12 @@
 -- The way of a route over its corners: its steps run along the axes, no point of it is outside the die or inside a block
 -- that stops wires, and it is as long as the path.
-use Rattle.std.proofs.Common.{◌≡◌, ◌≢◌, ℕ, suc, ◌+◌, ℤ, pos, ◌*ℤ◌, ◌≤ℤ◌, ◌⊎◌, inl, inr, List, [], ◌∷◌, ◌++◌, refl, sym, ap, subst, ◌∙◌, arith}
+use Rattle.std.proofs.Common.{◌≡◌, ◌≢◌, ℕ, suc, ◌+◌, ℤ, pos, ◌*ℤ◌, ◌≤ℤ◌, ◌<ℤ◌, ◌⊎◌, inl, inr, List, [], ◌∷◌, ◌++◌, refl, sym, ap, subst, ◌∙◌, arith}
 use Rattle.std.specs.List.{All, Contains, flat_map}
 use Rattle.std.proofs.lemmas.Int.{ints, by_lt_z}
 use Rattle.std.proofs.lemmas.List.Elements.{All-append, All-cons, All-nil}
 use Rattle.cts_geom.specs.declared.bounds.Die.{Die}
 use Rattle.cts_geom.specs.declared.points.Half.{Half}
+use Rattle.cts_geom.specs.Coordinate.{int_abs_diff}
 use Rattle.cts_geom.specs.Points.{manhattan_of}
 use Rattle.cts_block.specs.declared.blocks.Block.{Block}
 use Rattle.cts_block.specs.declared.blocks.Kind.{Kind}
@@ -51,11 +52,28 @@ ahead_further West p q r h k = (omega (arith, ints, h.0, k.0), h.1 ∙ k.1)
 ahead_further North p q r h k = (h.0 ∙ k.0, omega (arith, ints, h.1, k.1))
 ahead_further South p q r h k = (h.0 ∙ k.0, omega (arith, ints, h.1, k.1))
 
+-- of three coordinates in a row the distances add up
+add_up : (a b c : ℤ) → a <ℤ b → b <ℤ c → int_abs_diff a c ≡ int_abs_diff a b + int_abs_diff b c
+add_up a b c h k = omega (arith, ints)
+
+add_down : (a b c : ℤ) → b <ℤ a → c <ℤ b → int_abs_diff a c ≡ int_abs_diff a b + int_abs_diff b c
+add_down a b c h k = omega (arith, ints)
+
+add_level : (a b c : ℤ) → a ≡ b → b ≡ c → int_abs_diff a c ≡ int_abs_diff a b + int_abs_diff b c
+add_level a b c h k = omega (arith, ints)
+
+sums_add : (x y a b c d : ℕ) → x ≡ a + c → y ≡ b + d → x + y ≡ (a + b) + (c + d)
+sums_add x y a b c d e f = omega arith
+
 lengths_add : (d : Direction) (p q r : Half) → IsAhead d p q → IsAhead d q r → manhattan_of p r ≡ manhattan_of p q + manhattan_of q r
-lengths_add East p q r h k = omega (arith, ints, h.0, h.1, k.0, k.1)
-lengths_add West p q r h k = omega (arith, ints, h.0, h.1, k.0, k.1)
-lengths_add North p q r h k = omega (arith, ints, h.0, h.1, k.0, k.1)
-lengths_add South p q r h k = omega (arith, ints, h.0, h.1, k.0, k.1)
+lengths_add East p q r h k = sums_add _ _ _ _ _ _ (add_up p.x q.x r.x h.0 k.0) (add_level p.y q.y r.y h.1 k.1)
+lengths_add West p q r h k = sums_add _ _ _ _ _ _ (add_down p.x q.x r.x h.0 k.0) (add_level p.y q.y r.y h.1 k.1)
+lengths_add North p q r h k = sums_add _ _ _ _ _ _ (add_level p.x q.x r.x h.0 k.0) (add_up p.y q.y r.y h.1 k.1)
+lengths_add South p q r h k = sums_add _ _ _ _ _ _ (add_level p.x q.x r.x h.0 k.0) (add_down p.y q.y r.y h.1 k.1)
+
+-- a step in two parts, and the way from its end
+sum_through : (whole front back rest len : ℕ) → whole ≡ front + back → back + rest ≡ len → whole + rest ≡ front + len
+sum_through whole front back rest len e f = omega arith
 
 -- a coordinate between a and c is between a and b or between b and c
 parted : (a b c z : ℤ) → IsWithin a c z → IsWithin a b z ⊎ IsWithin b c z
@@ -131,7 +149,7 @@ module _ (P : Half → Type 0) where
       λ q on. elim (on_parts s.direction p n x q s.ahead r.first on) [ inl front ↦ s.free q front | inr back ↦ r.along.0 q back ],
       r.along.1,
     );
-    long = omega (arith, lengths_add s.direction p n x s.ahead r.first, r.long);
+    long = sum_through (manhattan_of p x) (manhattan_of p n) (manhattan_of n x) (path_length (x ∷ [])) len (lengths_add s.direction p n x s.ahead r.first) r.long;
   }
   straight p n s (x ∷ y ∷ xs) len r = record {
     first = ahead_further s.direction p n x s.ahead r.first;
@@ -140,7 +158,7 @@ module _ (P : Half → Type 0) where
       λ q on. elim (on_parts s.direction p n x q s.ahead r.first on) [ inl front ↦ s.free q front | inr back ↦ r.along.0 q back ],
       r.along.1,
     );
-    long = omega (arith, lengths_add s.direction p n x s.ahead r.first, r.long);
+    long = sum_through (manhattan_of p x) (manhattan_of p n) (manhattan_of n x) (path_length (x ∷ y ∷ xs)) len (lengths_add s.direction p n x s.ahead r.first) r.long;
   }
 
   -- round a corner

@@ -9,7 +9,7 @@ use Rattle.cts_geom.specs.Coordinate.{int_abs_diff}
 use Rattle.cts_geom.specs.Points.{manhattan_of}
 use Rattle.cts_route.specs.declared.wall.Wall.{Wall}
 use Rattle.cts_route.specs.LineLists.{line_at}
-use Rattle.cts_route.specs.Windows.{point_at, AreOrdered, IsStepLength, IsEastLength, IsNorthLength, AreEasts, AreNorths, IsGraphOf, AreShortLines}
+use Rattle.cts_route.specs.Windows.{point_at, AreOrdered, IsStepLength, IsEastLength, IsNorthLength, AreEasts, AreNorths, IsGraphUpTo, IsGraphOf, AreShortLines}
 use Rattle.cts_route.specs.declared.graph.Graph.{Graph}
 use Rattle.cts_route.specs.Search.{IsGraph}
 use Rattle.cts_route.proofs.Unique.{by_order}
@@ -172,6 +172,15 @@ pub no_norths : (walls : List Wall) (xs ys : List ℤ) (lens : List ℕ) → len
 no_norths walls xs ys lens e = record { count = ap length e; each = λ c lt. absurd (omega arith) }
 
 -- ---- the graph
+pub no_steps : (walls : List Wall) (xs ys : List ℤ) (graph : Graph) → graph.height ≡ length ys → graph.east.items ≡ [] → graph.north.items ≡ []
+    → IsGraphUpTo walls xs ys (0 * length ys) graph
+no_steps walls xs ys graph same no_east no_north =
+    record {
+      height = same;
+      easts = record { count = let e = ap length no_east in omega (arith, e); each = λ c lt. absurd (omega arith) };
+      norths = record { count = let e = ap length no_north in omega (arith, e); each = λ c lt. absurd (omega arith) };
+    }
+
 pub graph_steps : (walls : List Wall) (xs ys : List ℤ) (graph : Graph) (count : ℕ) → count ≡ length xs * length ys → graph.height ≡ length ys
     → AreEasts walls xs ys count graph.east.items → AreNorths walls xs ys count graph.north.items → IsGraphOf walls xs ys graph
 graph_steps walls xs ys graph count e height easts norths =

@@ -1,7 +1,7 @@
 -- A sweep over all points, point by point.
-use Rattle.std.proofs.Common.{◌≡◌, ℕ, ◌+◌, ◌<◌, ◌≤◌, Bool, true, false, Option, Some, None, is_some, List, refl, sym, ap, ◌∙◌, subst, below_more, arith}
+use Rattle.std.proofs.Common.{◌≡◌, ℕ, ◌+◌, ◌<◌, ◌≤◌, ◌⊎◌, inl, inr, Bool, true, false, Option, Some, None, is_some, List, refl, sym, ap, ◌∙◌, subst, below_more, arith}
 use Rattle.std.specs.Bool.{OnTrue, OnFalse}
-use Rattle.std.specs.Option.{IfNone}
+use Rattle.std.specs.Option.{OnSome, IfNone}
 use Rattle.cts_route.specs.declared.direction.Direction.{Direction}
 use Rattle.cts_route.specs.declared.direction.Direction.TheVariants.{East, West, North, South}
 use Rattle.cts_route.specs.declared.graph.Graph.{Graph}
@@ -26,6 +26,22 @@ from_true false P e h = cc
 pub from_none : (r : Option ℕ) (b : Bool) (P : Type 0) → b ≡ is_some r → b ≡ false → IfNone r P → P
 from_none None b P e f h = h
 from_none (Some x) b P e f h = cc
+
+pub from_some : (r : Option ℕ) (b : Bool) (P : Type 0) → b ≡ is_some r → b ≡ true → OnSome r P → P
+from_some None b P e f h = cc
+from_some (Some x) b P e f h = h
+
+-- a step that makes a path shorter, or changes nothing
+pub not_longer : (r : Option ℕ) (before after : List ℕ) → OnSome r (total after < total before) → IfNone r (after ≡ before) → total after ≤ total before
+not_longer None before after shorter kept = let e = ap total kept in omega (arith, e)
+not_longer (Some x) before after shorter kept = omega (arith, shorter)
+
+-- of four steps down, none of which leads up, one leads down
+pub shorter_by_one : (a b c d e : ℕ) → b ≤ a → c ≤ b → d ≤ c → e ≤ d → (b < a) ⊎ ((c < b) ⊎ ((d < c) ⊎ (e < d))) → e < a
+shorter_by_one a b c d e p q r s (inl f) = omega arith
+shorter_by_one a b c d e p q r s (inr (inl f)) = omega arith
+shorter_by_one a b c d e p q r s (inr (inr (inl f))) = omega arith
+shorter_by_one a b c d e p q r s (inr (inr (inr f))) = omega arith
 
 pub settled_all : (graph : Graph) (c : ℕ) (labels l1 l2 l3 : List ℕ) → l1 ≡ labels → l2 ≡ l1 → l3 ≡ l2
     → IsSettledAt graph labels East c → IsSettledAt graph l1 West c → IsSettledAt graph l2 North c → IsSettledAt graph l3 South c

@@ -1,7 +1,8 @@
-use Rattle.std.proofs.Common.{◌≡◌, ℕ, ◌*◌, List, length, sym, ap, subst, arith}
+use Rattle.std.proofs.Common.{◌≡◌, ℕ, ◌*◌, List, length, refl, sym, ap, subst, arith}
 use Rattle.cts_route.specs.declared.wall.Wall.{Wall}
 use Rattle.cts_route.specs.Windows.{IsGraphOf, IsGraphUpTo, AreWallsBeside}
-use Rattle.cts_route.proofs.Steps.{graph_steps, graph_is}
+use Rattle.cts_route.proofs.Steps.{no_steps, graph_steps, graph_is}
+use Rattle.cts_route.proofs.Cells.{few_cells}
 use Rattle.cts_route.proofs.Ahead.{leads_ahead}
 use Rattle.cts_route.proofs.Beside.{beside_from_between}
 use Rattle.cts_route.proofs.window.graph_of.Goals as goal
@@ -26,3 +27,12 @@ loop-column-preserved c =
     c.requires.xs.ascending c.span_of.ensures c.in_ok-gather_between.ensures) in
     subst (λ (n : ℕ). IsGraphUpTo c.args.walls.now c.args.xs.now c.args.ys.now n c.push_column.new.graph) (omega arith)
     (c.in_ok-push_column.ensures c.args.walls.now near c.loop-column.invariant)
+
+pub overflow_mul-cells : goal.overflow_mul-cells
+overflow_mul-cells c = let few = few_cells (length c.args.xs.now) (length c.args.ys.now) c.requires.xs.count c.requires.ys.count in omega (arith, few)
+
+pub loop-column-init : goal.loop-column-init
+loop-column-init c =
+    no_steps c.args.walls.now c.args.xs.now c.args.ys.now
+    (record { east = c.in_ok-with_capacity.field-0; north = c.in_ok-with_capacity-2.field-0; height = length c.args.ys.now })
+    refl c.in_ok-with_capacity.ensures.items c.in_ok-with_capacity-2.ensures.items

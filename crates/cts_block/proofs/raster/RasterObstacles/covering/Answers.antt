@@ -37,3 +37,21 @@ returns-clause-none c =
     let row : IsHalfIn (band_of in'.rows c.in_ok-row.row) c.args.point.y = half_in _ _ _ c.in_ok-row.ensures.low c.in_ok-row.ensures.high
     (omega (arith, ints, c.rounded_down-2.ensures.low)) (omega (arith, ints, c.rounded_down-2.ensures.high)) in
     rw (← c.self.view_is) (none_in_cell c.around.result in'.blocks c.index-items-row.result c.args.point _ _ cell column row (rw (c.items-cell.ensures) at c.around.ensures.none))
+
+pub bounds-items-column : goal.bounds-items-column
+bounds-items-column c = rw (c.items.ensures, c.self.invariant.columns_are.count) c.in_ok-column.ensures.within
+
+pub bounds-items-row : goal.bounds-items-row
+bounds-items-row c =
+    let column = rw c.items.ensures at c.index-items-column.is in
+    let cells = c.self.invariant.columns_are.column c.in_ok-column.column c.index-items-column.result c.in_ok-column.ensures.within in
+    rw (c.items-2.ensures, column, cells.count) c.in_ok-row.ensures.within
+
+pub returns-in_err-column-clause-found : goal.returns-in_err-column-clause-found
+returns-in_err-column-clause-found c = rw c.from_residual.ensures tt
+
+pub returns-in_err-row-clause-found : goal.returns-in_err-row-clause-found
+returns-in_err-row-clause-found c = rw c.from_residual-in_err-row.ensures tt
+
+pub around-requires : goal.around-requires
+around-requires c = c.requires

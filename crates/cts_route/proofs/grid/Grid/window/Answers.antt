@@ -5,8 +5,30 @@ use Rattle.cts_route.specs.declared.wall.Wall.{Wall}
 use Rattle.cts_route.specs.LineLists.{AreLinesBetween}
 use Rattle.cts_route.specs.Walks.{LeadsAhead}
 use Rattle.cts_route.specs.Windows.{AreShortLines, IsGraphOf}
-use Rattle.cts_route.proofs.GridLines.{same_between, short_lines, few_more}
+use Rattle.cts_route.proofs.GridLines.{same_between, short_lines, few_more, read_between}
 use Rattle.cts_route.proofs.grid.Grid.window.Goals as goal
+
+pub lines_between-requires : goal.lines_between-requires
+lines_between-requires c =
+    let sx : FitsSigned w64 c.halves-start.result.x = search rules in
+    let gx : FitsSigned w64 c.halves-goal.result.x = search rules in
+    let lx : FitsSigned w64 c.args.frame.now.low.x = search rules in
+    let hx : FitsSigned w64 c.args.frame.now.high.x = search rules in
+    record {
+      first = read_between _ _ _ (point_of c.args.from).x lx sx hx c.halves-start.ensures.x c.requires.frame.from_in.west c.requires.frame.from_in.east;
+      second = read_between _ _ _ (point_of c.args.to).x lx gx hx c.halves-goal.ensures.x c.requires.frame.to_in.west c.requires.frame.to_in.east;
+    }
+
+pub lines_between-requires-2 : goal.lines_between-requires-2
+lines_between-requires-2 c =
+    let sy : FitsSigned w64 c.halves-start.result.y = search rules in
+    let gy : FitsSigned w64 c.halves-goal.result.y = search rules in
+    let ly : FitsSigned w64 c.args.frame.now.low.y = search rules in
+    let hy : FitsSigned w64 c.args.frame.now.high.y = search rules in
+    record {
+      first = read_between _ _ _ (point_of c.args.from).y ly sy hy c.halves-start.ensures.y c.requires.frame.from_in.south c.requires.frame.from_in.north;
+      second = read_between _ _ _ (point_of c.args.to).y ly gy hy c.halves-goal.ensures.y c.requires.frame.to_in.south c.requires.frame.to_in.north;
+    }
 
 pub graph_of-requires-clause-xs : goal.graph_of-requires-clause-xs
 graph_of-requires-clause-xs c =
