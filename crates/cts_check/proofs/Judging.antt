@@ -1,5 +1,5 @@
 -- What a told tree gives to the rules, and what they give back.
-use Rattle.std.proofs.Common.{◌≡◌, ℕ, ◌<◌, List, [], ◌∷◌, map, length, slice_get, Option, Some, None, MatchOption, refl, ap, subst, ◌∙◌, arith}
+use Rattle.std.proofs.Common.{◌≡◌, ℕ, ◌<◌, ◌≤◌, List, [], ◌∷◌, map, length, slice_get, Option, Some, None, MatchOption, refl, ap, subst, ◌∙◌, arith}
 use Rattle.std.specs.List.{All}
 use Rattle.std.proofs.lemmas.Int.{ints}
 use Rattle.std.proofs.lemmas.List.{length-map, length-take-le, get_or-take}
@@ -30,6 +30,9 @@ pub told_is : (tree : List TreeNode) (nodes before : List ReportNode) (listed si
     → nodes ≡ before → listed ≡ sinks → tree ≡ told_nodes sinks (seen_nodes before)
 told_is tree nodes before listed sinks is nodes_are sinks_are =
     is ∙ ap (λ ns. told_nodes listed (seen_nodes ns)) nodes_are ∙ ap (λ qs. told_nodes qs (seen_nodes before)) sinks_are
+
+pub told_few : (sinks : List Sink) (nodes : List PrintedNode) → length nodes ≤ 131071 → length (told_nodes sinks nodes) ≤ 131071
+told_few sinks nodes few = omega (arith, length-map nodes (told_node sinks), few)
 
 pub tellable : (form : Form) (nodes : List ReportNode) → All (IsPrintedNode form) (seen_nodes nodes) → All IsSeenNode nodes
     → All IsTellable nodes

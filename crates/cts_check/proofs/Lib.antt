@@ -22,3 +22,4 @@ pub mod LegalSteps
 pub mod NodesAt
 pub mod UpperEnds
 pub mod Lengths
+mod SeenSpots

@@ -21,6 +21,13 @@ pub record AreNamedTo (sinks : List Sink) (ids : List NamedSink) (count : ℕ) :
   pub place_is : (k : ℕ) (d : NamedSink) → k < count → (get_or ids k d).place ≡ k
   pub names : (k : ℕ) (d : NamedSink) → k < count → Names sinks (get_or ids k d)
 
+pub named_none : (sinks : List Sink) → AreNamedTo sinks [] 0
+named_none sinks = record {
+  long = refl;
+  place_is = λ k d lt. absurd (omega (arith, lt));
+  names = λ k d lt. absurd (omega (arith, lt));
+}
+
 pub named_more : (sinks : List Sink) (ids : List NamedSink) (count : ℕ) (named : NamedSink) → AreNamedTo sinks ids count
     → named.place ≡ count → Names sinks named → AreNamedTo sinks (ids ++ named ∷ []) (count + 1)
 named_more sinks ids count named before place names = record {

@@ -14,6 +14,7 @@ pub mod LeafReads
 pub mod NodeReads
 pub mod ReportPieces
 pub mod PointLoops
+pub mod PlaceReads
 pub mod StackLists
 pub mod TotalReads
 pub mod NodeLoops

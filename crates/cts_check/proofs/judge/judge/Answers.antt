@@ -1,9 +1,11 @@
-use Rattle.std.proofs.Common.{◌≡◌, List, Some, None, map, length, refl, sym, ap, subst, ◌∙◌, take_at, arith}
+use Rattle.std.proofs.Common.{◌≡◌, ◌≤◌, List, Some, None, map, length, refl, sym, ap, subst, ◌∙◌, take_at, arith}
 use Rattle.std.specs.List.{All}
 use Rattle.std.proofs.lemmas.List.{length-map}
 use Rattle.std.proofs.lemmas.Simd.{map-map}
 use Rattle.cts_postorder.specs.PostOrder.{IsPostOrder}
 use Rattle.cts_tree.specs.declared.nodes.TreeNode.{TreeNode}
+use Rattle.cts_units.specs.Ids.{HasDistinctIds}
+use Rattle.cts_units.specs.declared.params.Sink.{Sink}
 use Rattle.cts_tree.specs.Nodes.{tree_children}
 use Rattle.cts_elmore.specs.Figures.{AreFigures}
 use Rattle.cts_elmore.specs.Measurement.{IsMeasured}
@@ -18,11 +20,17 @@ use Rattle.cts_check.specs.Marks.{NamesById}
 use Rattle.cts_check.specs.Ranges.{IsInRange}
 use Rattle.cts_check.specs.Rules.{IsFirstFailing, MeetsLimit}
 use Rattle.cts_check.specs.Told.{told_node, told_nodes}
-use Rattle.cts_check.proofs.Judging.{told_is, tellable, told_names, told_in_range, over_first}
+use Rattle.cts_check.proofs.Judging.{told_is, tellable, told_few, told_names, told_in_range, over_first}
 use Rattle.cts_check.proofs.ToldFigures.{figures_first}
 use Rattle.cts_check.proofs.Order.{told_first, met_too, broken_first, all_met}
 use Rattle.cts_check.proofs.Verdicts.{post_order, told_fits}
 use Rattle.cts_check.proofs.judge.judge.Goals as goal
+
+pub told_nodes_of-requires-clause-ids : goal.told_nodes_of-requires-clause-ids
+told_nodes_of-requires-clause-ids g c = subst (HasDistinctIds (λ (s : Sink). s.id)) (sym c.sinks.ensures.part) c.sinks.ensures.valid.ids
+
+pub told_nodes_of-requires-clause-few : goal.told_nodes_of-requires-clause-few
+told_nodes_of-requires-clause-few g c = subst (λ (sinks : List Sink). length sinks ≤ 65536) (sym c.sinks.ensures.part) c.sinks.ensures.valid.sink_count
 
 pub told_nodes_of-requires-clause-nodes : goal.told_nodes_of-requires-clause-nodes
 told_nodes_of-requires-clause-nodes g c =
@@ -33,6 +41,11 @@ pub first_broken-requires-clause-post_order : goal.first_broken-requires-clause-
 first_broken-requires-clause-post_order g c =
     subst (λ (ns : List TreeNode). IsPostOrder (map tree_children ns)) (sym (c.as_slice.ensures.value ∙ (told_is _ _ _ _ _ c.in_ok-told.ensures.tree c.as_mut_slice.ensures.value c.sinks.ensures.part)))
     (post_order c.args.instance.now c.sinks.ensures.valid (seen_report c.args.report) c.requires.report)
+
+pub first_broken-requires-clause-few : goal.first_broken-requires-clause-few
+first_broken-requires-clause-few g c =
+    subst (λ (ns : List TreeNode). length ns ≤ 131071) (sym (c.as_slice.ensures.value ∙ (told_is _ _ _ _ _ c.in_ok-told.ensures.tree c.as_mut_slice.ensures.value c.sinks.ensures.part)))
+    (told_few c.args.instance.now.sinks (seen_report c.args.report).nodes c.requires.report.few)
 
 pub first_broken-requires-clause-names : goal.first_broken-requires-clause-names
 first_broken-requires-clause-names g c =
@@ -70,6 +83,10 @@ returns-in-Over g c =
     (broken_first c.args.instance.now (seen_report c.args.report) Limit four c.in-Over.node
     (told_first (MeetsLimit c.args.instance.now) c.of-tree.result (told_nodes c.args.instance.now.sinks (seen_report c.args.report).nodes) told
     (Some c.in-Over.node) (Some c.in-Over.node) refl (over_first c.args.instance.now c.of-tree.result (Some c.in-Over.node) over)))
+
+pub first_wrong_figure-requires-clause-in_range : goal.first_wrong_figure-requires-clause-in_range
+first_wrong_figure-requires-clause-in_range g c κs within =
+    let has = subst (IsMeasured c.args.instance.now c.of-tree.result) c.in-Within.is c.in_ok-figures.ensures in has.in_range
 
 pub returns-in-Some-first_wrong_figure : goal.returns-in-Some-first_wrong_figure
 returns-in-Some-first_wrong_figure g c =

@@ -1,16 +1,12 @@
-use Rattle.std.proofs.Common.{◌+◌, pos, ap, get_or, length, refl, subst, sym, arith}
+use Rattle.std.proofs.Common.{◌+◌, pos, get_or, refl, subst, sym, arith}
 use Rattle.std.proofs.lemmas.Option.{slice_get-get_or}
 use Rattle.cts_units.specs.declared.params.Sink.{Sink}
 use Rattle.cts_check.specs.declared.places.NamedSink.{NamedSink}
-use Rattle.cts_check.proofs.Named.{AreNamedTo, named_all, named_more}
+use Rattle.cts_check.proofs.Named.{AreNamedTo, named_none, named_all, named_more}
 use Rattle.cts_check.proofs.places.named_sinks.Goals as goal
 
 pub loop-place-init : goal.loop-place-init
-loop-place-init c = record {
-  long = ap length c.in_ok-ids.ensures.items;
-  place_is = λ k d less. absurd (omega (arith, less));
-  names = λ k d less. absurd (omega (arith, less));
-}
+loop-place-init c = subst (λ ids. AreNamedTo c.args.sinks.now ids 0) (sym c.in_ok-ids.ensures.items) (named_none c.args.sinks.now)
 
 pub loop-place-preserved : goal.loop-place-preserved
 loop-place-preserved c =

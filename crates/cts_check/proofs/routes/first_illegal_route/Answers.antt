@@ -1,10 +1,8 @@
 use Rattle.std.proofs.Common.{◌≡◌, ◌↔◌, Bool, pos, List, IsTrue, sym, subst, below_more, arith}
-use Rattle.std.proofs.lemmas.Int.{ints}
 use Rattle.std.proofs.lemmas.Slice.Zip.{AllZip-long}
 use Rattle.cts_geom.specs.declared.bounds.Die.{Die}
 use Rattle.cts_geom.specs.declared.points.Half.{Half}
-use Rattle.cts_geom.specs.declared.points.Spot.{Spot}
-use Rattle.cts_geom.specs.Points.{IsSpotInRange, point_of}
+use Rattle.cts_geom.specs.Points.{point_of}
 use Rattle.cts_block.specs.declared.blocks.Block.{Block}
 use Rattle.cts_postorder.specs.Occurrence.{occurrences_of}
 use Rattle.cts_postorder.proofs.Lists.{length-occurrences_of}
@@ -12,11 +10,11 @@ use Rattle.cts_tree.specs.declared.nodes.TreeNode.{TreeNode}
 use Rattle.cts_tree.specs.Nodes.{tree_children}
 use Rattle.cts_instance.specs.declared.parts.Parts.{Parts}
 use Rattle.cts_elmore.specs.Sound.{IsLegalRoute}
-use Rattle.cts_report_reader.specs.Seen.{IsSeen}
 use Rattle.cts_check.specs.Ranges.{IsInRange}
 use Rattle.cts_check.specs.Rules.{MeetsRoute}
 use Rattle.cts_check.specs.Ways.{IsUpperEnd}
 use Rattle.cts_check.proofs.NodesAt.{rule_met, meets, met}
+use Rattle.cts_check.proofs.SeenSpots.{spot_in_range}
 use Rattle.cts_check.proofs.routes.first_illegal_route.Goals as goal
 
 pub bounds-ends-number : goal.bounds-ends-number
@@ -27,18 +25,6 @@ bounds-ends-number c =
       AllZip-long (IsUpperEnd c.args.instance.now) (occurrences_of tree_children c.args.nodes.now) c.args.ends.now c.requires.ends,
       length-occurrences_of tree_children c.args.nodes.now c.requires.post_order,
     )
-
-spot_in_range : (p : Spot) → IsSeen (point_of p) → IsSpotInRange p
-spot_in_range p seen = record {
-  u = record {
-    low = omega (arith, ints, seen.x.0, seen.x.1, seen.y.0, seen.y.1);
-    high = omega (arith, ints, seen.x.0, seen.x.1, seen.y.0, seen.y.1);
-  };
-  v = record {
-    low = omega (arith, ints, seen.x.0, seen.x.1, seen.y.0, seen.y.1);
-    high = omega (arith, ints, seen.x.0, seen.x.1, seen.y.0, seen.y.1);
-  };
-}
 
 pub halves-requires : goal.halves-requires
 halves-requires c =
