@@ -258,15 +258,28 @@ fn print_kinds<R: AllocGlobal + Threads + Wait + Sync + Print>(
     text: &[u8],
     whole: &Ran,
 ) -> io::Result<()> {
+    print_whole(rt, whole)?;
+    fronts(rt, words, text, whole)?.print(rt, "fronts")?;
+    pieces(rt, words, text, whole)?.print(rt, "pieces")?;
+    print_failing(rt, words, text, whole)
+}
+
+fn print_whole<R: Print>(rt: &R, whole: &Ran) -> io::Result<()> {
     println!(rt;
         "{:?} after {} reads, {} bytes in {} writes",
         whole.status,
         whole.reads,
         whole.output.bytes().len(),
         whole.output.calls()
-    )?;
-    fronts(rt, words, text, whole)?.print(rt, "fronts")?;
-    pieces(rt, words, text, whole)?.print(rt, "pieces")?;
+    )
+}
+
+fn print_failing<R: AllocGlobal + Threads + Wait + Sync + Print>(
+    rt: &R,
+    words: &[String],
+    text: &[u8],
+    whole: &Ran,
+) -> io::Result<()> {
     reads(rt, words, text, whole)?.print(rt, "each read fails")?;
     writes(rt, words, text, whole)?.print(rt, "each write fails")?;
     notes(rt, words, text)?.print(rt, "the notes fail")
