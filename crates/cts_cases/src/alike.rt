@@ -85,13 +85,16 @@ pub(crate) fn verdict<R: AllocGlobal + Threads + Wait + Sync + Print>(
 /// Compares the report and the summary of a made instance of 64 sinks, and judges its report.
 pub(crate) fn check<R: AllocGlobal + Threads + Wait + Sync + Print>(rt: &R) -> io::Result<()> {
     let made = answer(rt, "make 14 64", b"")?;
-    compare(
-        rt,
-        "synth 1",
-        ["synth 2", "synth 3", "synth 64"],
-        made.output.bytes(),
-    )?;
-    let jobs = ["job 14 64 2", "job 14 64 3", "job 14 64 64"];
-    compare(rt, "job 14 64 1", jobs, b"")?;
-    judge(rt, "synth 1", made.output.bytes())
+    check_made(rt, made.output.bytes())
+}
+
+fn check_made<R: AllocGlobal + Threads + Wait + Sync + Print>(
+    rt: &R,
+    made: &[u8],
+) -> io::Result<()> {
+    let reports = ["synth 2", "synth 3", "synth 64"];
+    compare(rt, "synth 1", reports, made)?;
+    let summaries = ["job 14 64 2", "job 14 64 3", "job 14 64 64"];
+    compare(rt, "job 14 64 1", summaries, b"")?;
+    judge(rt, "synth 1", made)
 }
