@@ -29,6 +29,21 @@ pub(crate) fn end<R: AllocGlobal + Threads + Wait + Sync + Print>(
     show::text(rt, ran.notes.bytes())
 }
 
+/// Prints whether some words end on a text as a run did, with the same bytes.
+fn beside<R: AllocGlobal + Threads + Wait + Sync + Print>(
+    rt: &R,
+    ran: &Ran,
+    words: &str,
+    text: &[u8],
+) -> io::Result<()> {
+    let other = answer(rt, words, text)?;
+    let same = other.status == ran.status && other.output.bytes() == ran.output.bytes();
+    println!(rt;
+        "{words}: {}",
+        if same { "the same" } else { "not the same" }
+    )
+}
+
 /// Prints how the first of the words ends, and for each of the others whether it ends so too, with the same bytes.
 fn compare<R: AllocGlobal + Threads + Wait + Sync + Print>(
     rt: &R,
@@ -39,12 +54,7 @@ fn compare<R: AllocGlobal + Threads + Wait + Sync + Print>(
     let ran = answer(rt, first, text)?;
     println!(rt; "{first}: {:?}", ran.status)?;
     for words in others {
-        let other = answer(rt, words, text)?;
-        let same = other.status == ran.status && other.output.bytes() == ran.output.bytes();
-        println!(rt;
-            "{words}: {}",
-            if same { "the same" } else { "not the same" }
-        )?;
+        beside(rt, &ran, words, text)?;
     }
     Ok(())
 }
@@ -58,25 +68,33 @@ pub(crate) fn judge<R: AllocGlobal + Threads + Wait + Sync + Print>(
     let report = answer(rt, words, instance)?;
     let mut text = instance.to_vec(rt.alloc())?;
     text.extend_from_slice(report.output.bytes())?;
-    let verdict = answer(rt, "check", &text)?;
-    println!(rt; "check: {:?}", verdict.status)?;
+    print!(rt; "check: ")?;
+    verdict(rt, &text)
+}
+
+/// Prints the verdict on a text.
+pub(crate) fn verdict<R: AllocGlobal + Threads + Wait + Sync + Print>(
+    rt: &R,
+    text: &[u8],
+) -> io::Result<()> {
+    let verdict = answer(rt, "check", text)?;
+    println!(rt; "{:?}", verdict.status)?;
     show::text(rt, verdict.output.bytes())
 }
 
 /// Compares the report and the summary of a made instance of 64 sinks, and judges its report.
 pub(crate) fn check<R: AllocGlobal + Threads + Wait + Sync + Print>(rt: &R) -> io::Result<()> {
     let made = answer(rt, "make 14 64", b"")?;
-    compare(
-        rt,
-        "synth 1",
-        ["synth 2", "synth 3", "synth 64"],
-        made.output.bytes(),
-    )?;
-    compare(
-        rt,
-        "job 14 64 1",
-        ["job 14 64 2", "job 14 64 3", "job 14 64 64"],
-        b"",
-    )?;
-    judge(rt, "synth 1", made.output.bytes())
+    check_made(rt, made.output.bytes())
+}
+
+fn check_made<R: AllocGlobal + Threads + Wait + Sync + Print>(
+    rt: &R,
+    made: &[u8],
+) -> io::Result<()> {
+    let reports = ["synth 2", "synth 3", "synth 64"];
+    compare(rt, "synth 1", reports, made)?;
+    let summaries = ["job 14 64 2", "job 14 64 3", "job 14 64 64"];
+    compare(rt, "job 14 64 1", summaries, b"")?;
+    judge(rt, "synth 1", made)
 }

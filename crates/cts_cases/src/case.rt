@@ -1,6 +1,6 @@
 //! One case: a run over streams in memory, and what reading the text alone gives; or hostile use of the text.
 
-use crate::runs::{Stream, Streams, over, words_of};
+use crate::runs::{Ran, Stream, Streams, over, words_of};
 use crate::text::expand;
 use crate::{hostile, show};
 use cts_num::read_decimal;
@@ -80,8 +80,12 @@ fn run_over<R: AllocGlobal + Threads + Wait + Sync + Print>(
     let (words, streams) = head.split_once('/').unwrap_or((head, ""));
     let words = words_of(rt.alloc(), words)?;
     let ran = over(rt, &OpenGate, &words, text, streams_of(streams))?;
+    print_ran(rt, &ran)?;
+    show::reading(rt, text)
+}
+
+fn print_ran<R: Print>(rt: &R, ran: &Ran) -> io::Result<()> {
     println!(rt; "{:?} after {} reads", ran.status, ran.reads)?;
     show::text(rt, ran.notes.bytes())?;
-    show::text(rt, ran.output.bytes())?;
-    show::reading(rt, text)
+    show::text(rt, ran.output.bytes())
 }

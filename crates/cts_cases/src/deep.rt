@@ -1,8 +1,6 @@
 //! Trees as deep as a list, of another maker: a check that goes down by calls, or that sums on past a limit, is seen.
 
-use crate::runs::{Streams, over, words_of};
-use crate::show;
-use cts_work::OpenGate;
+use crate::alike;
 use std::fmt::Write;
 use std::io;
 use std::sync::Wait;
@@ -27,16 +25,9 @@ pub(crate) fn check<R: AllocGlobal + Threads + Wait + Sync + Print>(rt: &R) -> i
         let mut text = String::new(rt.alloc());
         write_instance(&mut text, wire)?;
         write_report(&mut text, length)?;
-        judge(rt, text.as_bytes())?;
+        alike::verdict(rt, text.as_bytes())?;
     }
     Ok(())
-}
-
-fn judge<R: AllocGlobal + Threads + Wait + Sync + Print>(rt: &R, text: &[u8]) -> io::Result<()> {
-    let words = words_of(rt.alloc(), "check")?;
-    let ran = over(rt, &OpenGate, &words, text, Streams::of(1 << 20, 1 << 20))?;
-    println!(rt; "{:?}", ran.status)?;
-    show::text(rt, ran.output.bytes())
 }
 
 /// An instance with all of its sinks at the source.
@@ -61,16 +52,25 @@ fn write_report(text: &mut String, length: &str) -> io::Result<()> {
         write!(text, "node {leaf} leaf {id} at 0.0000 0.0000 load 1.000000")?;
         write_delays(text, length)?;
         if id > 0 {
-            write!(
-                text,
-                "node {} pair {} {leaf} at 0.0000 0.0000 buffer none",
-                leaf + 1,
-                leaf - 1
-            )?;
-            write!(text, " load {}.000000 residue 0.0000000000000000", id + 1)?;
+            write_pair(text, leaf + 1, (leaf - 1, leaf), id + 1)?;
             write_delays(text, length)?;
         }
     }
+    write_figures(text)
+}
+
+/// The node of a pair up to its delays, with so many sinks below it.
+fn write_pair(text: &mut String, node: u32, pair: (u32, u32), sinks: u32) -> io::Result<()> {
+    let (left, right) = pair;
+    write!(
+        text,
+        "node {node} pair {left} {right} at 0.0000 0.0000 buffer none"
+    )?;
+    write!(text, " load {sinks}.000000 residue 0.0000000000000000")?;
+    Ok(())
+}
+
+fn write_figures(text: &mut String) -> io::Result<()> {
     writeln!(text, "source load {SINKS}.000000\nwire total 0.000")?;
     for name in ["delay greatest", "delay least", "skew", "bound"] {
         writeln!(text, "{name} 0.0000000000000000")?;

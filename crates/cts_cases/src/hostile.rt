@@ -122,6 +122,19 @@ fn print_count<R: Print>(rt: &R, count: u32, end: &str) -> io::Result<()> {
     print!(rt; " {count} {end}.")
 }
 
+/// Counts a run over these streams beside a whole one.
+fn count<R: AllocGlobal + Threads + Wait + Sync>(
+    rt: &R,
+    words: &[String],
+    text: &[u8],
+    streams: Streams,
+    whole: &Ran,
+    tally: &mut Tally,
+) -> io::Result<()> {
+    tally.count(&ran(rt, words, text, streams)?, whole);
+    Ok(())
+}
+
 /// Each front of the text but the whole.
 fn fronts<R: AllocGlobal + Threads + Wait + Sync>(
     rt: &R,
@@ -132,7 +145,7 @@ fn fronts<R: AllocGlobal + Threads + Wait + Sync>(
     let mut tally = Tally::new();
     for length in 0..text.len() {
         let front = text.get(..length).unwrap_or(text);
-        tally.count(&ran(rt, words, front, Streams::of(ROOM, ROOM))?, whole);
+        count(rt, words, front, Streams::of(ROOM, ROOM), whole, &mut tally)?;
     }
     Ok(tally)
 }
@@ -160,7 +173,7 @@ fn pieces<R: AllocGlobal + Threads + Wait + Sync>(
             input: Stream::of(input),
             ..Streams::of(output, ROOM)
         };
-        tally.count(&ran(rt, words, text, streams)?, whole);
+        count(rt, words, text, streams, whole, &mut tally)?;
     }
     Ok(tally)
 }
@@ -178,7 +191,7 @@ fn reads<R: AllocGlobal + Threads + Wait + Sync>(
             input: Stream::failing_at(call),
             ..Streams::of(7, ROOM)
         };
-        tally.count(&ran(rt, words, text, streams)?, whole);
+        count(rt, words, text, streams, whole, &mut tally)?;
     }
     Ok(tally)
 }
@@ -196,7 +209,7 @@ fn writes<R: AllocGlobal + Threads + Wait + Sync>(
             output: Stream::failing_at(call),
             ..Streams::of(7, ROOM)
         };
-        tally.count(&ran(rt, words, text, streams)?, whole);
+        count(rt, words, text, streams, whole, &mut tally)?;
     }
     Ok(tally)
 }
@@ -214,8 +227,7 @@ fn note<R: AllocGlobal + Threads + Wait + Sync>(
         notes: Stream::failing_at(0),
         ..streams
     };
-    tally.count(&ran(rt, words, text, failing)?, &noted);
-    Ok(())
+    count(rt, words, text, failing, &noted, tally)
 }
 
 /// The notes fail where the text is whole, where there is none, where the first read fails and where the first write
@@ -258,15 +270,28 @@ fn print_kinds<R: AllocGlobal + Threads + Wait + Sync + Print>(
     text: &[u8],
     whole: &Ran,
 ) -> io::Result<()> {
+    print_whole(rt, whole)?;
+    fronts(rt, words, text, whole)?.print(rt, "fronts")?;
+    pieces(rt, words, text, whole)?.print(rt, "pieces")?;
+    print_failing(rt, words, text, whole)
+}
+
+fn print_whole<R: Print>(rt: &R, whole: &Ran) -> io::Result<()> {
     println!(rt;
         "{:?} after {} reads, {} bytes in {} writes",
         whole.status,
         whole.reads,
         whole.output.bytes().len(),
         whole.output.calls()
-    )?;
-    fronts(rt, words, text, whole)?.print(rt, "fronts")?;
-    pieces(rt, words, text, whole)?.print(rt, "pieces")?;
+    )
+}
+
+fn print_failing<R: AllocGlobal + Threads + Wait + Sync + Print>(
+    rt: &R,
+    words: &[String],
+    text: &[u8],
+    whole: &Ran,
+) -> io::Result<()> {
     reads(rt, words, text, whole)?.print(rt, "each read fails")?;
     writes(rt, words, text, whole)?.print(rt, "each write fails")?;
     notes(rt, words, text)?.print(rt, "the notes fail")

@@ -34,19 +34,35 @@ mod show;
 mod text;
 
 use std::io::{self, Read};
+use std::sync::Wait;
+use std::thread::Threads;
 
 fn main(rt: HostRuntime) -> io::Result<()> {
     let mut text = Vec::new(rt.alloc());
     rt.stdin().read_to_end(&mut text)?;
+    run_cases(&rt, &text)?;
+    run_last(&rt)
+}
+
+/// Runs the cases of a text over the bases at its front.
+fn run_cases<R: AllocGlobal + Threads + Wait + Sync + Print>(
+    rt: &R,
+    text: &[u8],
+) -> io::Result<()> {
     let mut cases = text.split(|byte| *byte == b'%');
     let bases = cases.next().unwrap_or(&[]);
     for case in cases {
-        case::run_case(&rt, bases, case)?;
+        case::run_case(rt, bases, case)?;
     }
-    decimals::write(&rt)?;
-    many::read(&rt)?;
-    many::step(&rt)?;
-    deep::check(&rt)?;
-    alike::check(&rt)?;
-    near::check(&rt)
+    Ok(())
+}
+
+/// Runs what stands in no text.
+fn run_last<R: AllocGlobal + Threads + Wait + Sync + Print>(rt: &R) -> io::Result<()> {
+    decimals::write(rt)?;
+    many::read(rt)?;
+    many::step(rt)?;
+    deep::check(rt)?;
+    alike::check(rt)?;
+    near::check(rt)
 }

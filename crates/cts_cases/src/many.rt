@@ -18,26 +18,40 @@ const ALL_BLOCKS: u32 = 64;
 /// The greatest number of steps of a script.
 const STEPS: u32 = 65_536;
 
-/// Prints how many sinks and blocks are read of an instance that has as many as there may be.
-pub(crate) fn read<R: AllocGlobal + Print>(rt: &R) -> io::Result<()> {
-    let mut text = String::new(rt.alloc());
+/// Puts a line in so many times.
+fn repeat(text: &mut String, count: u32, line: &str) -> io::Result<()> {
+    for _ in 0..count {
+        text.push_str(line)?;
+    }
+    Ok(())
+}
+
+/// An instance that has as many sinks and blocks as there may be.
+fn write_instance(text: &mut String) -> io::Result<()> {
     text.push_str("cts 1\ndie 0 0 100 100\nsource 0 0 0\nwire 1 1\nlimits 1 1 1\nbuffers 0\n")?;
     writeln!(text, "sinks {SINKS}")?;
     for id in 0..SINKS {
         writeln!(text, "sink {id} {} {} 1", id % 100, id / 1_000)?;
     }
     writeln!(text, "blocks {}", BUFFER_BLOCKS + ALL_BLOCKS)?;
-    for _ in 0..BUFFER_BLOCKS {
-        text.push_str("block buffer 0 0 9 9\n")?;
-    }
-    for _ in 0..ALL_BLOCKS {
-        text.push_str("block all 0 0 0 9\n")?;
-    }
+    repeat(text, BUFFER_BLOCKS, "block buffer 0 0 9 9\n")?;
+    repeat(text, ALL_BLOCKS, "block all 0 0 0 9\n")?;
     text.push_str("end\n")?;
+    Ok(())
+}
+
+/// Prints how many sinks and blocks are read of an instance that has as many as there may be.
+pub(crate) fn read<R: AllocGlobal + Print>(rt: &R) -> io::Result<()> {
+    let mut text = String::new(rt.alloc());
+    write_instance(&mut text)?;
+    print_counts(rt, text.as_bytes())
+}
+
+fn print_counts<R: AllocGlobal + Print>(rt: &R, text: &[u8]) -> io::Result<()> {
     if text.len() > 4_194_304 {
         return Ok(());
     }
-    match read_instance(rt.alloc(), text.as_bytes()) {
+    match read_instance(rt.alloc(), text) {
         Ok(taken) => {
             let (sinks, blocks) = (taken.instance.sinks(), taken.instance.blocks());
             println!(rt; "read {} sinks and {} blocks", sinks.len(), blocks.len())
@@ -51,9 +65,7 @@ pub(crate) fn step<R: AllocGlobal + Threads + Wait + Sync + Print>(rt: &R) -> io
     let mut text = String::new(rt.alloc());
     text.push_str("cts 1\ndie 0 0 20 20\nsource 0 0 0\nwire 1 1\nlimits 1 1 1\nbuffers 0\n")?;
     text.push_str("sinks 1\nsink 1 3 4 5\nblocks 0\nend\ncallers 1\n")?;
-    for _ in 0..STEPS + 1 {
-        text.push_str("1 tree\n")?;
-    }
+    repeat(&mut text, STEPS + 1, "1 tree\n")?;
     alike::end(rt, "edit", "65537 steps", text.as_bytes())?;
     alike::end(rt, "replay", "65537 steps", text.as_bytes())
 }

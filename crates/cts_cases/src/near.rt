@@ -7,12 +7,20 @@ use std::thread::Threads;
 
 /// Prints how `near` ends on made instances, and the verdict on its report of one.
 pub(crate) fn check<R: AllocGlobal + Threads + Wait + Sync + Print>(rt: &R) -> io::Result<()> {
-    let most = alike::answer(rt, "make 1 2048", b"")?;
-    alike::end(rt, "near", "2048 sinks", most.output.bytes())?;
-    alike::judge(rt, "near", most.output.bytes())?;
-    let more = alike::answer(rt, "make 1 2049", b"")?;
-    alike::end(rt, "near", "2049 sinks", more.output.bytes())?;
-    let mut text = more.output.bytes().to_vec(rt.alloc())?;
+    most(rt)?;
+    let made = alike::answer(rt, "make 1 2049", b"")?;
+    more(rt, made.output.bytes())
+}
+
+fn most<R: AllocGlobal + Threads + Wait + Sync + Print>(rt: &R) -> io::Result<()> {
+    let made = alike::answer(rt, "make 1 2048", b"")?;
+    alike::end(rt, "near", "2048 sinks", made.output.bytes())?;
+    alike::judge(rt, "near", made.output.bytes())
+}
+
+fn more<R: AllocGlobal + Threads + Wait + Sync + Print>(rt: &R, made: &[u8]) -> io::Result<()> {
+    alike::end(rt, "near", "2049 sinks", made)?;
+    let mut text = made.to_vec(rt.alloc())?;
     text.extend_from_slice(b"more\n")?;
     alike::end(rt, "near", "2049 sinks and a word after them", &text)
 }

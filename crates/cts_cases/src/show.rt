@@ -1,7 +1,7 @@
 //! What a case gives, printed.
 
 use cts_instance::{Instance, Version};
-use cts_read::read_instance;
+use cts_read::{Taken, read_instance};
 use std::{io, str};
 
 /// A text, with a line end of its own where it has none.
@@ -21,16 +21,22 @@ pub(crate) fn reading<R: AllocGlobal + Print>(rt: &R, text: &[u8]) -> io::Result
         return Ok(());
     }
     match read_instance(rt.alloc(), text) {
-        Ok(taken) => {
-            println!(rt; "instance of {} lines, {} bytes", taken.lines, taken.used)?;
-            instance(rt, &taken.instance)
-        }
+        Ok(taken) => print_taken(rt, &taken),
         Err(stop) => println!(rt; "{stop:?}"),
     }
 }
 
-/// Every field of an instance, in the units of its parts.
-fn instance<R: Print>(rt: &R, instance: &Instance) -> io::Result<()> {
+/// The number of an instance's last line, the bytes that it takes, and every field, in the units of its parts.
+fn print_taken<R: Print>(rt: &R, taken: &Taken) -> io::Result<()> {
+    println!(rt; "instance of {} lines, {} bytes", taken.lines, taken.used)?;
+    let instance = &taken.instance;
+    source(rt, instance)?;
+    params(rt, instance)?;
+    sinks(rt, instance)?;
+    blocks(rt, instance)
+}
+
+fn source<R: Print>(rt: &R, instance: &Instance) -> io::Result<()> {
     let die = instance.die();
     println!(rt; "die {} {} {} {}", die.x1, die.y1, die.x2, die.y2)?;
     let (x, y, r) = (
@@ -38,7 +44,10 @@ fn instance<R: Print>(rt: &R, instance: &Instance) -> io::Result<()> {
         instance.source_y(),
         instance.source_r(),
     );
-    println!(rt; "source {x} {y} {r}")?;
+    println!(rt; "source {x} {y} {r}")
+}
+
+fn params<R: Print>(rt: &R, instance: &Instance) -> io::Result<()> {
     let params = instance.params();
     println!(rt; "wire {} {}", params.wire.r, params.wire.c)?;
     let (load, slew) = (instance.load_limit(), instance.slew_limit());
@@ -49,8 +58,7 @@ fn instance<R: Print>(rt: &R, instance: &Instance) -> io::Result<()> {
             buffer.cin, buffer.rout, buffer.intrinsic
         )?;
     }
-    sinks(rt, instance)?;
-    blocks(rt, instance)
+    Ok(())
 }
 
 fn sinks<R: Print>(rt: &R, instance: &Instance) -> io::Result<()> {
