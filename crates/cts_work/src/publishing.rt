@@ -213,12 +213,7 @@ fn part_named(before: &[Brought], part: u32) -> Part {
 }
 
 /// The question for a node of the stretch that begins after these.
-fn question_for(
-    work: &Work<'_>,
-    plan: &[Finished],
-    before: &[Brought],
-    node: usize,
-) -> Question
+fn question_for(work: &Work<'_>, plan: &[Finished], before: &[Brought], node: usize) -> Question
     requires ready { IsReady work.now }
     requires plan { IsPlan (params_of work.now.memo.now) work.now.sinks.now work.now.nodes.now plan.now }
     requires node { node < length work.now.nodes.now }
