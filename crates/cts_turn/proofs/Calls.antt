@@ -6,6 +6,17 @@ use Rattle.cts_turn.specs.Views.{with_ticket, at_turn, after_call, after_turn}
 use Rattle.cts_turn.specs.Steps.{Held, TakesTurn}
 use Rattle.cts_turn.proofs.Prefixes.{prefix_same}
 
+module _ {O E : Type 0} where
+  -- what the object tells that a seat holds
+  pub told_in : (O → List E) → List (ℕ × Option O) → List E
+  told_in told [] = []
+  told_in told ((slot, None) ∷ xs) = []
+  told_in told ((slot, Some object) ∷ xs) = told object
+
+  pub told_by_held : (told : O → List E) (l : List (ℕ × Option O)) (object : O) → l ≡ (0, Some object) ∷ [] → told_in told l ≡ told object
+  unfolding told_in
+  told_by_held told l object held = ap (told_in told) held
+
 module _ {O : Type 0} where
   taken : List (ℕ × Option O) → Option O
   taken [] = None
@@ -15,6 +26,12 @@ module _ {O : Type 0} where
   pub same_object : (l : List (ℕ × Option O)) (x y : O) → l ≡ (0, Some x) ∷ [] → l ≡ (0, Some y) ∷ [] → x ≡ y
   unfolding taken
   same_object l x y p q = let e : Some x ≡ Some y = sym (ap taken p) ∙ ap taken q in cc
+
+module _ {E O : Type 0} (told : O → List E) where
+  -- the view once the length was written of what the object tells that the seat holds
+  pub recorded : (m n : Held E O) (object : O) → m.1 ≡ (0, Some object) ∷ [] → n ≡ (after_call (told_in told m.1) m.0, m.1)
+      → n ≡ (after_call (told object) m.0, m.1)
+  recorded m n object held is = is ∙ ap (λ (l : List E). let x : Held E O = (after_call l m.0, m.1) in x) (told_by_held told m.1 object held)
 
 module _ {E : Type 0} where
   -- a list that is as before, or has one entry more, goes on from it

@@ -1,5 +1,5 @@
 -- Each kind of step keeps the rule of a turn, and tells what it should.
-use Rattle.std.proofs.Common.{◌≡◌, ◌≢◌, ℕ, suc, ◌+◌, ◌-◌, ◌%◌, ◌^◌, ◌<◌, ◌≤◌, ⊎_elim, inl, inr, List, [], ◌∷◌, length, get_or, set, sym, refl, ap, ◌∙◌, subst, arith, Option, Some}
+use Rattle.std.proofs.Common.{◌≡◌, ◌≢◌, ℕ, ◌+◌, ◌%◌, ◌^◌, ◌<◌, ◌≤◌, ⊎_elim, inl, inr, List, [], ◌∷◌, length, get_or, set, sym, refl, ap, ◌∙◌, subst, arith, Option, Some}
 use Rattle.std.proofs.Math.Nat.{mod-add-mod}
 use mathlib.Core.Logic.{dite}
 use mathlib.Core.Option as homes
@@ -7,6 +7,7 @@ use mathlib.Core.Option.{some, none, some-injective}
 use mathlib.Core.List.{IsPrefix}
 use native.Mathlib.Decide.{ℕ_discrete}
 use lib.ListN.{get_elem?}
+use Rattle.std.proofs.lemmas.List.{get_or-set_same, get_or-set_other, length-set}
 use lib.Seq.{set-get_or}
 use Rattle.atomic_table.specs.Table.{State, Step, step, keeps, takes, gives, rest, put_back, stepped, Allows, Splits, Joins, opening, Final, Seen}
 use Rattle.atomic_table.proofs.Lists.{set_again, set_else}
@@ -26,6 +27,9 @@ use Rattle.cts_turn.proofs.Histories.{whole_mine, whole_still, history_set, slot
 abbrev any_step : {O : Type 0} → Step (Option O)
 any_step = step 0 0 0 0 none
 
+stays_long : (ws : List ℕ) (i new : ℕ) → 9 < length ws → 9 < length (set ws i new)
+stays_long ws i new long = omega (arith, long, length-set ws i new)
+
 module _ {E O B : Type 0} (told : O → List E) (base : O → B) (start : O) where
   -- a step that changes nothing
   unmoved : (s : State (Option O) (View E O)) (i id : ℕ) (me : Held E O) → IsKept told base start s → get_elem? s.views id ≡ some me.0
@@ -42,7 +46,7 @@ module _ {E O B : Type 0} (told : O → List E) (base : O → B) (start : O) whe
       let v = me.0 in
       let w = with_ticket r.tickets v in
       let waiting = r.line.waiting in
-      let found : get_or s.words 0 0 ≡ r.tickets % 2 ^ 64 = ap (λ (ws : List ℕ). get_or ws 0 0) r.words in
+      let found : get_or s.words 0 0 ≡ r.tickets % 2 ^ 64 = r.drawn in
       let mine : StandsInLine (r.tickets + 1) r.serving w = record {
         waits = omega arith;
         not_before = λ _. omega arith;
@@ -73,9 +77,11 @@ module _ {E O B : Type 0} (told : O → List E) (base : O → B) (start : O) whe
           tickets = r.tickets + 1;
           serving = r.serving;
           history = r.history;
-          bells = r.bells;
-          words = ap (λ (ws : List ℕ). set ws 0 ((get_or ws 0 0 + 1) % 2 ^ 64)) r.words
-              ∙ ap (λ (n : ℕ). n ∷ (r.serving % 2 ^ 64) ∷ length r.history ∷ r.bells) (mod-add-mod r.tickets (2 ^ 64) 1);
+          long = stays_long s.words 0 _ r.long;
+          drawn = get_or-set_same s.words 0 _ 0 (omega (arith, r.long))
+              ∙ (ap (λ (n : ℕ). (n + 1) % 2 ^ 64) found ∙ mod-add-mod r.tickets (2 ^ 64) 1);
+          served = get_or-set_other s.words 0 8 _ 0 (λ e. absurd (omega (arith, e))) ∙ r.served;
+          counted = get_or-set_other s.words 0 9 _ 0 (λ e. absurd (omega (arith, e))) ∙ r.counted;
           line = line_set r.tickets r.serving (r.tickets + 1) r.serving s.views id v w at r.line refl (omega arith) mine others apart;
           passes = history_set told base start r.history r.history s.views id v w at r.passes refl seen (λ j u _ at'. r.passes.each j u at')
               (whole_still r.history s.views id v w at (λ l. l) (λ e. e) r.passes.whole);
@@ -91,19 +97,18 @@ module _ {E O B : Type 0} (told : O → List E) (base : O → B) (start : O) whe
       (me.0, keeps, tt, unmoved s 0 id me r at, (refl, (r.passes.each id me.0 at).also, omega (arith, one_le_total (λ (v : View E O). v.share) s.views id me.0 at)))
 
   -- a step on a bell
-  pub rings : (slots id : ℕ) (me : Held E O) (word : ℕ) (f : ℕ → ℕ) → 3 ≤ word → Allows (IsKept told base start) slots id me word f (Rings any_step me)
+  pub rings : (slots id : ℕ) (me : Held E O) (word : ℕ) (f : ℕ → ℕ) → 10 ≤ word → Allows (IsKept told base start) slots id me word f (Rings any_step me)
   rings slots id me word f bell s r count at fits =
       let number = f (get_or s.words word 0) in
-      let later = word - 3 in
-      let place : word ≡ suc (suc (suc later)) = omega arith in
       let views : s.views ≡ set s.views id me.0 = sym (set_again s.views id me.0 at) in
       let kept : IsKept told base start record { words = set s.words word number; homes = s.homes; views = s.views } = record {
         tickets = r.tickets;
         serving = r.serving;
         history = r.history;
-        bells = set r.bells later number;
-        words = ap (λ (ws : List ℕ). set ws word number) r.words
-            ∙ ap (λ (i : ℕ). set ((r.tickets % 2 ^ 64) ∷ (r.serving % 2 ^ 64) ∷ length r.history ∷ r.bells) i number) place;
+        long = stays_long s.words word number r.long;
+        drawn = get_or-set_other s.words word 0 number 0 (λ e. absurd (omega (arith, e, bell))) ∙ r.drawn;
+        served = get_or-set_other s.words word 8 number 0 (λ e. absurd (omega (arith, e, bell))) ∙ r.served;
+        counted = get_or-set_other s.words word 9 number 0 (λ e. absurd (omega (arith, e, bell))) ∙ r.counted;
         line = r.line;
         passes = r.passes;
         slot = r.slot;
@@ -128,11 +133,11 @@ module _ {E O B : Type 0} (told : O → List E) (base : O → B) (start : O) whe
 
   -- waiting for a ticket
   pub waits : (slots id : ℕ) (me : Held E O) → me.1 ≡ [] → 0 < me.0.waits → me.0.in_turn ≡ 0
-      → Allows (IsKept told base start) slots id me 1 (λ n. n) (Waits told base any_step me)
+      → Allows (IsKept told base start) slots id me 8 (λ n. n) (Waits told base any_step me)
   waits slots id me empty waiting free s r count at fits =
       let v = me.0 in
-      let found : get_or s.words 1 0 ≡ r.serving % 2 ^ 64 = ap (λ (ws : List ℕ). get_or ws 1 0) r.words in
-      dite (ℕ_discrete (get_or s.words 1 0) (v.ticket % 2 ^ 64))
+      let found : get_or s.words 8 0 ≡ r.serving % 2 ^ 64 = r.served in
+      dite (ℕ_discrete (get_or s.words 8 0) (v.ticket % 2 ^ 64))
       (λ hit.
       let now : r.serving ≡ v.ticket = ticket_served r.tickets r.serving s.views id v at r.line waiting (sym found ∙ hit) in
       let home = at_home s r id v at waiting free now in
@@ -167,8 +172,10 @@ module _ {E O B : Type 0} (told : O → List E) (base : O → B) (start : O) whe
           tickets = r.tickets;
           serving = r.serving;
           history = r.history;
-          bells = r.bells;
-          words = set-get_or s.words 1 0 ∙ r.words;
+          long = stays_long s.words 8 _ r.long;
+          drawn = ap (λ (ws : List ℕ). get_or ws 0 0) (set-get_or s.words 8 0) ∙ r.drawn;
+          served = ap (λ (ws : List ℕ). get_or ws 8 0) (set-get_or s.words 8 0) ∙ r.served;
+          counted = ap (λ (ws : List ℕ). get_or ws 9 0) (set-get_or s.words 8 0) ∙ r.counted;
           line = line_set r.tickets r.serving r.tickets r.serving s.views id v w at r.line refl (omega arith) mine (λ j u _ at'. r.line.each j u at') apart;
           passes = history_set told base start r.history r.history s.views id v w at r.passes refl seen (λ j u _ at'. r.passes.each j u at')
               (whole_mine r.history s.views id v w at some_share whole);
@@ -179,11 +186,11 @@ module _ {E O B : Type 0} (told : O → List E) (base : O → B) (start : O) whe
           (λ miss. absurd (miss hit)),
         ),
       ))
-      (λ miss. (me.0, keeps, tt, unmoved s 1 id me r at, ((λ hit. absurd (miss hit)), (λ _. refl))))
+      (λ miss. (me.0, keeps, tt, unmoved s 8 id me r at, ((λ hit. absurd (miss hit)), (λ _. refl))))
 
   -- recording what the object tells after its call
   pub records : (slots id : ℕ) (me : Held E O) (new : ℕ) (list : List E) → new ≡ length list → 0 < me.0.in_turn → IsPrefix me.0.seen list
-      → Allows (IsKept told base start) slots id me 2 (λ _. new) (Records list any_step me)
+      → Allows (IsKept told base start) slots id me 9 (λ _. new) (Records list any_step me)
   records slots id me new list is turn onward s r count at fits =
       let v = me.0 in
       let w = after_call list v in
@@ -227,8 +234,10 @@ module _ {E O B : Type 0} (told : O → List E) (base : O → B) (start : O) whe
           tickets = r.tickets;
           serving = r.serving;
           history = list;
-          bells = r.bells;
-          words = ap (λ (ws : List ℕ). set ws 2 new) r.words ∙ ap (λ (n : ℕ). (r.tickets % 2 ^ 64) ∷ (r.serving % 2 ^ 64) ∷ n ∷ r.bells) is;
+          long = stays_long s.words 9 new r.long;
+          drawn = get_or-set_other s.words 9 0 new 0 (λ e. absurd (omega (arith, e))) ∙ r.drawn;
+          served = get_or-set_other s.words 9 8 new 0 (λ e. absurd (omega (arith, e))) ∙ r.served;
+          counted = get_or-set_same s.words 9 new 0 r.long ∙ is;
           line = line_set r.tickets r.serving r.tickets r.serving s.views id v w at r.line refl (omega arith) mine (λ j u _ at'. r.line.each j u at') apart;
           passes = history_set told base start r.history list s.views id v w at r.passes (omega arith) seen others (whole_mine list s.views id v w at some_share refl);
           slot = inr (id, w, put_here s.views id v w at, turn);
@@ -244,7 +253,7 @@ module _ {E O B : Type 0} (told : O → List E) (base : O → B) (start : O) whe
   -- passing the turn on, with the object back in the slot
   pub passes_on : (slots id : ℕ) (me : Held E O) (new : ℕ) (object : O) → slots ≡ 1 → me.1 ≡ (0, Some object) ∷ [] → me.0.waits ≡ 1 → 0 < me.0.in_turn
       → told object ≡ me.0.seen → ((first : O) × (me.0.object ≡ Some first) × (base object ≡ base first)) → new ≡ (me.0.ticket % 2 ^ 64 + 1) % 2 ^ 64
-      → Allows (IsKept told base start) slots id me 1 (λ _. new) (λ _. PassesOn any_step me new)
+      → Allows (IsKept told base start) slots id me 8 (λ _. new) (λ _. PassesOn any_step me new)
   passes_on slots id me new object one holds waiting turn tells from next s r count at fits =
       let v = me.0 in
       let w = after_turn v in
@@ -289,8 +298,10 @@ module _ {E O B : Type 0} (told : O → List E) (base : O → B) (start : O) whe
           tickets = r.tickets;
           serving = r.serving + 1;
           history = r.history;
-          bells = r.bells;
-          words = ap (λ (ws : List ℕ). set ws 1 new) r.words ∙ ap (λ (n : ℕ). (r.tickets % 2 ^ 64) ∷ n ∷ length r.history ∷ r.bells) is_next;
+          long = stays_long s.words 8 new r.long;
+          drawn = get_or-set_other s.words 8 0 new 0 (λ e. absurd (omega (arith, e))) ∙ r.drawn;
+          served = get_or-set_same s.words 8 new 0 (omega (arith, r.long)) ∙ is_next;
+          counted = get_or-set_other s.words 8 9 new 0 (λ e. absurd (omega (arith, e))) ∙ r.counted;
           line = line_set r.tickets r.serving r.tickets (r.serving + 1) s.views id v w at r.line refl (omega arith) mine others apart;
           passes = history_set told base start r.history r.history s.views id v w at r.passes refl seen (λ j u _ at'. r.passes.each j u at')
               (whole_still r.history s.views id v w at (λ l. l) (λ e. e) r.passes.whole);
@@ -312,9 +323,9 @@ module _ {E O B : Type 0} (told : O → List E) (base : O → B) (start : O) whe
       homes_back hs h e l object holds = ap (λ (x : List (ℕ × Option O)). put_back hs x) holds ∙ ap (λ (x : List (homes.Option (Option O))). set x 0 (some (Some object))) e
 
   -- the start
-  pub opens : (length_word : ℕ) (bells : List ℕ) (slots : List (Option O)) → length_word ≡ length (told start) → slots ≡ Some start ∷ []
-      → IsKept told base start (opening (0 ∷ 0 ∷ length_word ∷ bells) slots (whole_view (told start) start))
-  opens length_word bells slots is are =
+  pub opens : (words : List ℕ) (slots : List (Option O)) → 9 < length words → get_or words 0 0 ≡ 0 → get_or words 8 0 ≡ 0 → get_or words 9 0 ≡ length (told start)
+      → slots ≡ Some start ∷ [] → IsKept told base start (opening words slots (whole_view (told start) start))
+  opens words slots long drawn served is are =
       let first : View E O = whole_view (told start) start in
       let mine : StandsInLine 0 0 first = record {
         waits = omega arith;
@@ -330,12 +341,14 @@ module _ {E O B : Type 0} (told : O → List E) (base : O → B) (start : O) whe
         in_turn = λ l. absurd (omega arith);
       } in
       let alone : (P : View E O → Type 0) → P first → (i : ℕ) (u : View E O) → get_elem? (first ∷ []) i ≡ some u → P u = each_single first in
-      subst (λ (x : ℕ × List (Option O)). IsKept told base start (opening (0 ∷ 0 ∷ x.0 ∷ bells) x.1 first)) (λ k. (sym is k, sym are k)) record {
+      subst (λ (x : List (Option O)). IsKept told base start (opening words x first)) (sym are) record {
         tickets = 0;
         serving = 0;
         history = told start;
-        bells = bells;
-        words = refl;
+        long = long;
+        drawn = drawn;
+        served = served;
+        counted = is;
         line = record {
           shares = refl;
           waiting = refl;
@@ -356,8 +369,10 @@ module _ {E O B : Type 0} (told : O → List E) (base : O → B) (start : O) whe
     tickets = r.tickets;
     serving = r.serving;
     history = r.history;
-    bells = r.bells;
-    words = r.words;
+    long = r.long;
+    drawn = r.drawn;
+    served = r.served;
+    counted = r.counted;
     line = line_split r.tickets r.serving s.views id v at r.line idle free;
     passes = history_split told base start r.history s.views id v at r.passes free;
     slot = slot_split told base start r.history s.homes s.views id v at free r.slot;
@@ -371,8 +386,10 @@ module _ {E O B : Type 0} (told : O → List E) (base : O → B) (start : O) whe
         tickets = r.tickets;
         serving = r.serving;
         history = r.history;
-        bells = r.bells;
-        words = r.words;
+        long = r.long;
+        drawn = r.drawn;
+        served = r.served;
+        counted = r.counted;
         line = line_join r.tickets r.serving s.views id other v w ne at there r.line idle free idle';
         passes = history_join told base start r.history s.views id other v w ne at there r.passes free share;
         slot = slot_join told base start r.history s.homes s.views id other v w ne at there free free' r.slot;

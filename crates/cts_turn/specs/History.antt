@@ -4,7 +4,7 @@ use Rattle.std.specs.Prelude.{◌≡◌, ℕ, ◌+◌, ◌%◌, ◌^◌, ◌<◌
 use mathlib.Core.Option as homes
 use mathlib.Core.Option.{some}
 use mathlib.Core.List.{IsPrefix}
-use lib.ListN.{get_elem?}
+use lib.ListN.{get_elem?, get_or}
 use Rattle.atomic_table.specs.Table.{State}
 use Rattle.cts_turn.specs.declared.view.View.{View}
 use Rattle.cts_turn.specs.Sums.{total}
@@ -39,14 +39,16 @@ module _ {E O B : Type 0} (told : O → List E) (base : O → B) (start : O) whe
       (NoneInTurn views × ((object : O) × (slots ≡ some (Some object) ∷ []) × (told object ≡ history) × (base object ≡ base start)))
       ⊎ SomeInTurn views
 
-  -- The first three words count the tickets drawn, the tickets served, and the entries of the history. The others
-  -- are bells, at whatever numbers.
+  -- Three words count the tickets drawn, the tickets served, and the entries of the history. The others are bells, or
+  -- stand between, at whatever numbers.
   pub record IsKept (s : State (Option O) (View E O)) : Type 0 where
     pub tickets : ℕ
     pub serving : ℕ
     pub history : List E
-    pub bells : List ℕ
-    pub words : s.words ≡ (tickets % 2 ^ 64) ∷ (serving % 2 ^ 64) ∷ length history ∷ bells
+    pub long : 9 < length s.words
+    pub drawn : get_or s.words 0 0 ≡ tickets % 2 ^ 64
+    pub served : get_or s.words 8 0 ≡ serving % 2 ^ 64
+    pub counted : get_or s.words 9 0 ≡ length history
     pub line : IsLine tickets serving s.views
     pub passes : IsHistory history s.views
     pub slot : KeepsObject history s.homes s.views

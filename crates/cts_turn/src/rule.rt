@@ -1,8 +1,9 @@
 //! The rule that a turn's table keeps, and what each step on it tells.
 //!
-//! Word 0 counts the tickets that were drawn, word 1 those that were served, both modulo 2^64, and
-//! word 2 is the length of the list that the object tells. The others are bells, of whose numbers the
-//! rule says nothing. The slot has the object, or nothing while a call has it.
+//! Word 0 counts the tickets that were drawn, word 8 those that were served, both modulo 2^64, and
+//! word 9 is the length of the list that the object tells. From word 10 on stand bells, of whose numbers
+//! the rule says nothing, no more than of those between. The slot has the object; a call that is in turn
+//! holds it.
 
 use crate::object::Object;
 use crate::view::View;
@@ -12,11 +13,13 @@ use std::snapshot::Snapshot;
 
 pub(crate) const TICKETS: usize = 0;
 
-pub(crate) const SERVING: usize = 1;
+// Eight words on, so that whoever draws a ticket doesn't take the processor's line of memory away from the
+// call that is in turn.
+pub(crate) const SERVING: usize = 8;
 
-pub(crate) const LENGTH: usize = 2;
+pub(crate) const LENGTH: usize = 9;
 
-pub(crate) const FIRST_BELL: usize = 3;
+pub(crate) const FIRST_BELL: usize = 10;
 
 pub struct Rule<O> {
     object: PhantomData<O>,

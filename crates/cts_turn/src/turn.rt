@@ -39,7 +39,7 @@ type Seat<O> = atomic_table::Seat<Option<O>, View<<O as Object>::Entry, O>>;
 #[derive(Drop)]
 pub struct Turn<O: Object> {
     table: Table<Option<O>, View<O::Entry, O>, Snapshot<O>, Rule<O>, Global>,
-    ghost sized: { (table.shared.table_id.words ≡ 67) × (table.shared.table_id.slots ≡ 1) },
+    ghost sized: { (table.shared.table_id.words ≡ 74) × (table.shared.table_id.slots ≡ 1) },
 }
 
 /// The right to call a turn's object, and what its holder has seen and made of the object's list.
@@ -61,14 +61,14 @@ pub struct StillOut<O: Object> {
 /// The word by which the caller with this ticket sleeps. It is odd where someone may be asleep, and
 /// rises at each ring.
 fn bell_of(ticket: u64) -> usize
-    ensures bell { (3 ≤ result) × (result < 67) }
+    ensures bell { (10 ≤ result) × (result < 74) }
 {
     FIRST_BELL + (ticket % BELLS as u64) as usize
 }
 
 impl<O: Object> Turn<O> {
     ghost use Rattle.cts_turn.specs.Views.{with_ticket, at_turn, after_call, after_turn};
-    ghost use Rattle.cts_turn.specs.Steps.{TakesTurn};
+    ghost use Rattle.cts_turn.specs.Steps.{HasActed, MayAct, MayPassOn, TakesTurn};
     ghost use Rattle.cts_turn.specs.Passes.{start_of, seen_by, made_by, share_of, IsPassOf, IsAnswer};
 
     /// Draws the ticket of a call, modulo 2^64.
@@ -132,44 +132,42 @@ impl<O: Object> Turn<O> {
         unreachable!()
     }
 
-    /// Takes the object out of the slot that the seat holds.
-    fn take(&self, seat: &mut Seat<O>) -> O
+    /// Calls the object where it lies, in the slot that the seat holds. Its reply, and how long the list is that it
+    /// tells now.
+    fn act(&self, seat: &mut Seat<O>, call: O::Call) -> (O::Reply, u64)
         requires own { seat.old.table_id ≡ self.now.table.shared.table_id }
-        requires holds { (object : O) × (seat.old.me.1 ≡ (0, Some object) ∷ []) }
+        requires holds { MayAct ⟦<O as Object>⟧ seat.old.me.1 call }
         ensures own { seat.new.table_id ≡ seat.old.table_id }
-        ensures object { seat.old.me.1 ≡ (0, Some result) ∷ [] }
-        ensures holds { seat.new.me ≡ (seat.old.me.0, (0, None) ∷ []) }
+        ensures acted { HasActed ⟦<O as Object>⟧ seat.old.me seat.new.me call result.0 result.1 }
     {
-        match self.table.shared.exchange(seat, 0, None) {
-            Some(object) => object,
+        match seat.slot_mut(&self.table.shared, 0) {
+            Some(object) => {
+                let reply = object.act(call);
+                (reply, object.len())
+            }
             None => unreachable!(),
         }
     }
 
     /// Writes the length of the list that the object tells now.
-    fn record<J: Recorded<O::Entry>>(&self, seat: &mut Seat<O>, object: &O)
+    fn record<J: Recorded<O::Entry>>(&self, seat: &mut Seat<O>, count: u64)
         requires own { seat.old.table_id ≡ self.now.table.shared.table_id }
-        requires list { O.told object.now ≡ J.list }
-        requires turn { (0 < seat.old.me.0.in_turn) × IsPrefix seat.old.me.0.seen (O.told object.now) }
+        requires count { count ≡ length J.list }
+        requires turn { (0 < seat.old.me.0.in_turn) × IsPrefix seat.old.me.0.seen J.list }
         ensures own { seat.new.table_id ≡ seat.old.table_id }
-        ensures list { seat.new.me ≡ (after_call (O.told object.now) seat.old.me.0, seat.old.me.1) }
+        ensures list { seat.new.me ≡ (after_call J.list seat.old.me.0, seat.old.me.1) }
     {
-        self.table
-            .shared
-            .swap::<Record<J>>(seat, LENGTH, object.len());
+        self.table.shared.swap::<Record<J>>(seat, LENGTH, count);
     }
 
-    /// Puts the object back, serves the next ticket, and wakes its caller and the one after it.
-    fn pass_on(&self, seat: &mut Seat<O>, object: O, ticket: u64)
+    /// Gives the slot back, serves the next ticket, and wakes its caller and the one after it.
+    fn pass_on(&self, seat: &mut Seat<O>, ticket: u64)
         requires own { seat.old.table_id ≡ self.now.table.shared.table_id }
-        requires holds { seat.old.me.1 ≡ (0, None) ∷ [] }
+        requires holds { MayPassOn O.told O.base seat.old.me }
         requires turn { (seat.old.me.0.waits ≡ 1) × (0 < seat.old.me.0.in_turn) × (ticket ≡ seat.old.me.0.ticket % 2 ^ 64) }
-        requires list { O.told object ≡ seat.old.me.0.seen }
-        requires base { (start : O) × (seat.old.me.0.object ≡ Some start) × (O.base object ≡ O.base start) }
         ensures own { seat.new.table_id ≡ seat.old.table_id }
         ensures free { seat.new.me ≡ (after_turn seat.old.me.0, []) }
     {
-        self.table.shared.exchange(seat, 0, Some(object));
         self.table
             .shared
             .store::<PassOn>(seat, SERVING, ticket.wrapping_add(1));
@@ -257,10 +255,9 @@ impl<O: Object> Turn<O> {
         let seat = &mut pass.seat;
         let ticket = self.draw(seat);
         self.wait(rt, seat, ticket);
-        let mut object = self.take(seat);
-        let reply = object.act(call);
-        self.record::<Brand>(seat, &object);
-        self.pass_on(seat, object, ticket);
+        let (reply, count) = self.act(seat, call);
+        self.record::<Brand>(seat, count);
+        self.pass_on(seat, ticket);
         reply
     }
 

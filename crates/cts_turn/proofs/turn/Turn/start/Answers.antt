@@ -7,7 +7,7 @@ pub new-requires : goal.new-requires
 new-requires g c =
     let first = c.of-first.ensures in
     let items = c.in_ok-push.ensures.items in
-    opens g.O.Object.told g.O.Object.base c.of-first.result.value c.len.result _ c.push.new.self.items
+    opens g.O.Object.told g.O.Object.base c.of-first.result.value _ c.push.new.self.items (omega arith) refl refl
     (c.len.ensures ∙ ap (λ x. length (g.O.Object.told x)) (sym first))
     (cc (first, items, c.in_ok-slots.ensures.items))
 
