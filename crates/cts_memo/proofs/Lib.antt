@@ -9,5 +9,6 @@ pub mod Missing
 pub mod Capacitances
 pub mod Answering
 pub mod OneAnswer
+pub mod Readings
 mod Example
 pub mod Sent

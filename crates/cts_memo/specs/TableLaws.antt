@@ -18,9 +18,9 @@ use Rattle.cts_memo.specs.declared.key.Key.{Key}
 use Rattle.cts_memo.specs.declared.key.Key.TheVariants.{Leaf, Pair}
 use Rattle.cts_memo.specs.declared.entry.MemoEntry.{MemoEntry}
 use Rattle.cts_memo.specs.declared.entry.MemoCall.{MemoCall}
-use Rattle.cts_memo.specs.declared.entry.MemoCall.TheVariants.{Ask, AskAll, Put}
+use Rattle.cts_memo.specs.declared.entry.MemoCall.TheVariants.{Ask, AskAll, Put, Read}
 use Rattle.cts_memo.specs.declared.entry.MemoReply.{MemoReply}
-use Rattle.cts_memo.specs.declared.entry.MemoReply.TheVariants.{Asked, Answered, Published}
+use Rattle.cts_memo.specs.declared.entry.MemoReply.TheVariants.{Asked, Answered, Published, Listed}
 use Rattle.cts_memo.specs.declared.entry.PutEnd.{PutEnd}
 use Rattle.cts_memo.specs.declared.entry.PutEnd.TheVariants.{At, Full, NoMemory}
 use Rattle.cts_memo.specs.Keys.{entry}
@@ -47,6 +47,8 @@ appends seen (AskAll asked) reply allowed = inl refl
 appends seen (Put key f) (Asked answer) allowed = inl refl
 appends seen (Put key f) (Answered answered) allowed = inl refl
 appends seen (Put key f) (Published end) allowed = appends_put seen key f end
+appends seen (Put key f) (Listed reading) allowed = inl refl
+appends seen (Read first most room) reply allowed = inl refl
 
 -- an entry keeps its number in a longer list
 pub entry_stays : {A : Type 0} (seen longer : List A) (n : ℕ) (e : A) → IsPrefix seen longer → slice_get seen n ≡ Some e → slice_get longer n ≡ Some e
@@ -75,6 +77,7 @@ pub fits_stays : (params : Params) (seen longer : List MemoEntry) (call : MemoCa
 fits_stays params seen longer (Ask key) more fits = tt
 fits_stays params seen longer (AskAll asked) more fits = tt
 fits_stays params seen longer (Put key f) more fits = made_stays params seen longer key f more fits
+fits_stays params seen longer (Read first most room) more fits = tt
 
 -- Of what is made of a key there is one at most, so it can be told from the mere knowledge that there is one.
 finished_set : (f g : Finished) → IsProp (f ≡ g)

@@ -3,6 +3,7 @@
 use crate::key::Key;
 use crate::question::Question;
 use cts_merge::Finished;
+use cts_num::NoMemory;
 
 /// A subtree that is known, and what the upward pass makes of it.
 #[derive(Clone, Copy)]
@@ -20,6 +21,13 @@ pub enum MemoCall {
     AskAll(Vec<Question>),
     /// Publishes what was made of a key.
     Put(Key, Finished),
+    /// Reads so many entries from a number on, or as many as there are, into a list whose room was had
+    /// before the turn.
+    Read {
+        first: u32,
+        most: u32,
+        room: Vec<MemoEntry>,
+    },
 }
 
 /// What a table replies.
@@ -31,6 +39,8 @@ pub enum MemoReply {
     Answered(Vec<Question>),
     /// To a publication.
     Published(PutEnd),
+    /// To a reading of entries: they stand in the order of their numbers.
+    Listed(Result<Vec<MemoEntry>, NoMemory>),
 }
 
 /// The answer to a look-up.

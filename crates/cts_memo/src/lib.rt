@@ -2,11 +2,11 @@
 //!
 //! A layer above starts a [`Memo`] over an instance's parameters and splits its [`MemoPass`] between threads. By a pass it
 //! asks for the number of a subtree, which is known by its [`Key`], and puts in what is missing. Many [`Question`]s, whose
-//! pairs may have parts that are asked for earlier in the list, are answered in one call. An entry is what `leaf` or `merge`
-//! gives for its key (`specs/Sound.antt`); entries never change and never move, so that a number in one list is the same
-//! number in every longer one. A memo of 2^21 entries is full: it still answers, and takes no more. A memo that is closed
-//! leaves its [`Table`]. The [`laws`] say what its entries are, how many a shape lacks, and that questions have one list of
-//! answers.
+//! pairs may have parts that are asked for earlier in the list, are answered in one call. One call also reads the entries
+//! from a number on, so that a thread learns what others have published. An entry is what `leaf` or `merge` gives for its
+//! key (`specs/Sound.antt`); entries never change and never move, so that a number in one list is the same number in every
+//! longer one. A memo of 2^21 entries is full: it still answers, and takes no more. A memo that is closed leaves its
+//! [`Table`]. The [`laws`] say what its entries are, how many a shape lacks, and that questions have one list of answers.
 #![tactic(auto)]
 
 mod entry;

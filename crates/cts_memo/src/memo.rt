@@ -7,7 +7,7 @@ ghost use mathlib.Core.List.{IsPrefix};
 ghost use Rattle.cts_units.specs.Limits.{IsParams};
 ghost use Rattle.cts_turn.specs.Passes.{made_by, seen_by, share_of};
 
-use crate::entry::{Answer, MemoCall, MemoReply, PutEnd};
+use crate::entry::{Answer, MemoCall, MemoEntry, MemoReply, PutEnd};
 use crate::key::Key;
 use crate::question::Question;
 use crate::secret::Secret;
@@ -41,7 +41,7 @@ pub struct MemoOut {
 }
 
 impl Memo {
-    ghost use Rattle.std.specs.Prelude.{slice_get};
+    ghost use Rattle.std.specs.Prelude.{drop, slice_get, take};
     ghost use Rattle.cts_memo.specs.declared.entry.Answer.{Answer};
     ghost use Rattle.cts_memo.specs.Questions.{AreAnswers};
     ghost use Rattle.cts_memo.specs.Replies.{IsAbsent, IsFound, IsPublished};
@@ -143,6 +143,7 @@ impl Memo {
             MemoReply::Asked(answer) => answer,
             MemoReply::Answered(_) => unreachable!(),
             MemoReply::Published(_) => unreachable!(),
+            MemoReply::Listed(_) => unreachable!(),
         }
     }
 
@@ -169,6 +170,7 @@ impl Memo {
             MemoReply::Answered(answered) => answered,
             MemoReply::Asked(_) => unreachable!(),
             MemoReply::Published(_) => unreachable!(),
+            MemoReply::Listed(_) => unreachable!(),
         }
     }
 
@@ -192,6 +194,34 @@ impl Memo {
             MemoReply::Published(end) => end,
             MemoReply::Asked(_) => unreachable!(),
             MemoReply::Answered(_) => unreachable!(),
+            MemoReply::Listed(_) => unreachable!(),
+        }
+    }
+
+    /// Reads the entries from a number on, once it is this call's turn: so many, or as many as there are.
+    /// `NoMemory` comes where the room for them can't be had.
+    pub fn read<R: Wait>(
+        &self,
+        rt: &R,
+        alloc: Global,
+        pass: &mut MemoPass,
+        first: u32,
+        most: u32,
+    ) -> Result<Vec<MemoEntry>, NoMemory>
+        requires own { IsPassOf self.now pass.old }
+        ensures own { IsPassOf self.now pass.new }
+        ensures share { share_of pass.new ≡ share_of pass.old }
+        ensures made { made_by pass.new ≡ made_by pass.old }
+        ensures goes_on { IsPrefix (seen_by pass.old) (seen_by pass.new) }
+        ensures entries { IfOk result (λ entries. entries.items ≡ take most (drop first (seen_by pass.new))) }
+    {
+        let room = Vec::with_capacity(alloc, most as usize)?;
+        let call = MemoCall::Read { first, most, room };
+        match self.turn.call(rt, pass, call) {
+            MemoReply::Listed(entries) => entries,
+            MemoReply::Asked(_) => unreachable!(),
+            MemoReply::Answered(_) => unreachable!(),
+            MemoReply::Published(_) => unreachable!(),
         }
     }
 

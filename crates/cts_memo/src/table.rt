@@ -32,7 +32,7 @@ pub struct Table {
 }
 
 impl Table {
-    ghost use Rattle.std.specs.Prelude.{◌≡◌, slice_get, [], IfOk};
+    ghost use Rattle.std.specs.Prelude.{◌≡◌, drop, slice_get, take, [], IfOk};
     ghost use Rattle.cts_memo.specs.Sound.{IsMadeOf};
     ghost use Rattle.cts_memo.specs.Replies.{IsFound, IsPut, after_put};
     ghost use Rattle.cts_memo.specs.Questions.{AreAnswers, IsAnswered};
@@ -104,6 +104,29 @@ impl Table {
         }
     }
 
+    /// Reads so many entries from a number on, or as many as there are, into a list that is cleared first.
+    fn read(
+        &self,
+        first: u32,
+        most: u32,
+        mut list: Vec<MemoEntry>,
+    ) -> Result<Vec<MemoEntry>, NoMemory>
+        ensures { IfOk result (λ entries. entries.items ≡ take most (drop first (told_by self.now))) }
+    {
+        list.clear();
+        let first = first as usize;
+        for number in first..first + most as usize {
+            let Some((key, finished)) = self.map.get_index(number) else {
+                return Ok(list);
+            };
+            list.push(MemoEntry {
+                key: *key,
+                finished: *finished,
+            })?;
+        }
+        Ok(list)
+    }
+
     /// Appends what was made of a key, unless the key is there or there is no room. What is made of a
     /// key that is there is what its entry has, so the entry stays as it is.
     fn publish(&mut self, key: Key, finished: Finished) -> PutEnd
@@ -171,6 +194,7 @@ impl Object for Table {
                 MemoReply::Answered(questions)
             }
             MemoCall::Put(key, finished) => MemoReply::Published(self.publish(key, finished)),
+            MemoCall::Read { first, most, room } => MemoReply::Listed(self.read(first, most, room)),
         }
     }
 
