@@ -5,6 +5,7 @@ ghost use Rattle.cts_topo.specs.declared.shape.ShapeNode.{ShapeNode};
 ghost use Rattle.cts_topo.specs.Shape.{IsShapeOver};
 ghost use Rattle.cts_topo.specs.Topology.{shape_of};
 ghost use Rattle.cts_up.specs.Plan.{IsPlan};
+ghost use Rattle.cts_up.specs.Sites.{AreSites};
 ghost use Rattle.cts_embed.specs.Fitting.{Fits};
 ghost use Rattle.cts_elmore.specs.Figures.{AreFigures, AreFiguresInRange};
 ghost use Rattle.cts_elmore.specs.Sound.{IsSound, StandsInDie};
@@ -27,7 +28,7 @@ use cts_instance::Instance;
 use cts_merge::{Finished, Steps};
 use cts_topo::{Shape, topology};
 use cts_tree::{Placed, Tree};
-use cts_up::sites;
+use cts_up::{Site, sites};
 use std::alloc::Global;
 use std::sync::ledger::Ledger;
 
@@ -53,6 +54,27 @@ pub fn finish(
     ensures ends { IfErr result (EndsWithPlan instance.now shape.now) }
 {
     let placed = embed(alloc, instance, shape, plan)?;
+    settle(alloc, instance, placed)
+}
+
+/// The tree of a shape by the sites of its plan, as [`finish`] gives it: nothing else of a plan has a part in it.
+pub fn finish_sites(
+    alloc: Global,
+    instance: &Instance,
+    shape: &Shape,
+    sites: &[Site],
+) -> Result<(Tree, Figures), NoTree>
+    requires shape { IsShapeOver (length instance.now.sinks) shape.now }
+    requires sites { AreSites instance.now.params instance.now.sinks shape.now sites.now }
+    ensures tree { IfOk result (λ r. IsSynthesisOver instance.now shape.now (made r.0)) }
+    ensures figures { IfOk result (λ r. AreFigures instance.now r.0 r.1) }
+    ensures sound { IfOk result (λ r. IsSound instance.now r.0) }
+    ensures one_each { IfOk result (λ r. length r.1.nodes ≡ length r.0) }
+    ensures in_range { IfOk result (λ r. AreFiguresInRange r.1) }
+    ensures in_die { IfOk result (λ r. All (StandsInDie instance.now.die) r.0) }
+    ensures ends { IfErr result (EndsWithPlan instance.now shape.now) }
+{
+    let placed = embed_sites(alloc, instance, shape, sites)?;
     settle(alloc, instance, placed)
 }
 

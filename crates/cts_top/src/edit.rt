@@ -22,6 +22,7 @@ ghost use Rattle.cts_top.specs.Written.{Answers};
 use crate::answer::{Telling, answer_synthesis};
 use crate::input::{give_back, read_scripts};
 use crate::outcome::Kept;
+use crate::room::{TREE_ROOM, open_heap};
 use crate::stop::{Answer, Stop};
 use crate::valid::instance_is_valid;
 use crate::words::Form;
@@ -70,6 +71,7 @@ fn read_source<S: ByteSource>(
     ensures counted { S.faults source.old ≤ S.faults source.new }
 {
     let bytes = read_all(alloc, source, INPUT_LIMIT)?;
+    let _first = open_heap(alloc, TREE_ROOM);
     let read = read_scripts(alloc, &bytes);
     give_back(bytes);
     Ok(read?)
