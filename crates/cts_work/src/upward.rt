@@ -75,7 +75,7 @@ pub fn rebuild_with<L: Ledger, R: Wait, G: Gate>(
     match build_part(&worker, &work, alloc, pass, 0, root, steps) {
         Ok(built) => {
             let plan = finished_of(alloc, &built)?;
-            *known = Known::of(alloc, &work, built);
+            *known = Known::of(alloc, &work, built, known.take());
             Ok(plan)
         }
         Err(end) => Err(end),

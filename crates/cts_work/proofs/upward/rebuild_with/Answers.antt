@@ -5,6 +5,7 @@ use Rattle.cts_postorder.proofs.Lists.{length_pos}
 use Rattle.cts_turn.specs.Passes.{seen_by}
 use Rattle.cts_work.specs.declared.node.Built.{Built}
 use Rattle.cts_work.specs.declared.work.Work.{Work}
+use Rattle.cts_work.specs.Known.{MayKnow}
 use Rattle.cts_work.specs.Work.{IsReady}
 use Rattle.cts_work.proofs.Noted.{built_noted, may_stay}
 use Rattle.cts_work.proofs.Parts.{whole_part, ends_in_all, merges_in_all, plan_made, all_known}
@@ -58,7 +59,9 @@ returns-in-Err-clause-ends g c =
 pub returns-in_ok-plan-in-Ok-clause-kept : goal.returns-in_ok-plan-in-Ok-clause-kept
 returns-in_ok-plan-in-Ok-clause-kept g c =
     let work : Work = record { memo = c.args.memo; sinks = c.args.sinks; nodes = c.nodes-nodes.result } in
-    built_noted work (seen_by c.build_part.new.pass) c.in-Ok.built c.of.result c.of.ensures c.in-Ok.ensures.built
+    let seen = seen_by c.build_part.new.pass in
+    let before = may_stay (seen_by c.args.pass.now) seen c.build_part.ensures.pass.goes_on c.args.known.now c.requires.kept in
+    c.of.ensures seen (built_noted work seen c.in-Ok.built.items c.in-Ok.ensures.built) (subst (MayKnow seen) (sym c.take.ensures.value) before)
 
 pub returns-in_err-plan-in-Ok-clause-kept : goal.returns-in_err-plan-in-Ok-clause-kept
 returns-in_err-plan-in-Ok-clause-kept g c =
