@@ -10,6 +10,7 @@
 
 mod all;
 mod gate;
+mod hearing;
 mod known;
 mod making;
 mod node;
