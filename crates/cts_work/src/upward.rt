@@ -1,15 +1,17 @@
 //! The upward pass of one caller over the memo.
 
-ghost use Rattle.std.specs.Prelude.{◌≡◌, ◌+◌, ◌≤◌, ◌⊎◌, map, length, IfOk, IfErr, OnOk};
+ghost use Rattle.std.specs.Prelude.{◌≡◌, ◌+◌, ◌≤◌, ◌⊎◌, All, map, length, option_copied, IfOk, IfErr, OnOk};
 ghost use mathlib.Core.List.{IsPrefix};
 ghost use Rattle.cts_topo.specs.Shape.{IsShapeOver};
 ghost use Rattle.cts_up.specs.Ends.{Ends};
 ghost use Rattle.cts_up.specs.Plan.{IsPlan};
 ghost use Rattle.cts_up.specs.Sinks.{AreSinksInRange};
+ghost use Rattle.cts_up.specs.Sites.{AreSites, site_of as spec_site_of};
 ghost use Rattle.cts_turn.specs.Passes.{seen_by, share_of};
 ghost use Rattle.cts_memo.specs.Numbers.{AreKnown, missing};
 ghost use Rattle.cts_memo.specs.Passes.{IsPassOf, params_of};
 ghost use Rattle.cts_memo.specs.Sound.{max_entries};
+ghost use Rattle.cts_work.specs.Built.{GoesOn, IsNoted};
 ghost use Rattle.cts_work.specs.Known.{MayKnow};
 
 use crate::gate::Gate;
@@ -21,20 +23,70 @@ use cts_memo::{Memo, MemoPass};
 use cts_merge::{Finished, Steps};
 use cts_topo::Shape;
 use cts_units::Sink;
-use cts_up::UpEnd;
+use cts_up::{Site, UpEnd, site_of};
 use std::alloc::{AllocError, Global};
 use std::sync::Wait;
 use std::sync::ledger::Ledger;
 
 /// What the nodes are made of.
-pub(crate) fn finished_of(alloc: Global, built: &[Built]) -> Result<Vec<Finished>, AllocError>
+fn finished_of(alloc: Global, built: &[Built]) -> Result<Vec<Finished>, AllocError>
     ensures { IfOk result (λ plan. plan.items ≡ map (λ node. node.finished) built.now) }
 {
     built.iter().map(|node| node.finished).collect(alloc)
 }
 
-/// The plan of a shape over sinks, which is that of [`rebuild`]. Where a tree was built before, the entries
-/// that came to the memo since are read first, many in one call, and the memo is asked only for the nodes
+/// Where the nodes may stand, and their buffers.
+fn sites_of(alloc: Global, built: &[Built]) -> Result<Vec<Site>, AllocError>
+    ensures { IfOk result (λ sites. sites.items ≡ map (λ node. spec_site_of node.finished) built.now) }
+{
+    built
+        .iter()
+        .map(|node| site_of(&node.finished))
+        .collect(alloc)
+}
+
+/// The nodes of a shape over sinks, built by one caller over the memo. It is asked only for those that aren't
+/// known.
+fn build_over<L: Ledger, R: Wait, G: Gate>(
+    rt: &R,
+    alloc: Global,
+    memo: &Memo,
+    pass: &mut MemoPass,
+    gate: &G,
+    number: u32,
+    sinks: &[Sink],
+    shape: &Shape,
+    known: Option<&Known>,
+    steps: &mut Steps<L>,
+) -> Result<Vec<Built>, UpEnd>
+    requires own { IsPassOf memo.now pass.old }
+    requires sinks { AreSinksInRange sinks.now }
+    requires shape { IsShapeOver (length sinks.now) shape.now }
+    requires kept { MayKnow (seen_by pass.old) (option_copied known) }
+    ensures pass { GoesOn memo.now pass.old pass.new }
+    ensures plan { IfOk result (λ built. IsPlan (params_of memo.now) sinks.now shape.now (map (λ node. node.finished) built.items)) }
+    ensures noted { IfOk result (λ built. All (IsNoted (seen_by pass.new)) built.items) }
+    ensures ends { IfErr result (Ends (params_of memo.now) sinks.now shape.now) }
+    ensures known { OnOk result ((length (seen_by pass.new) ≡ max_entries) ⊎ AreKnown (seen_by pass.new) sinks.now shape.now) }
+    ensures merges { steps.new ≤ steps.old + missing (seen_by pass.old) sinks.now shape.now }
+{
+    let nodes = shape.nodes();
+    let work = Work { memo, sinks, nodes };
+    let worker = Worker {
+        rt,
+        gate,
+        number,
+        known,
+    };
+    let root = nodes.len() as u32 - 1;
+    match build_part(&worker, &work, alloc, pass, 0, root, steps) {
+        Ok(built) => Ok(built),
+        Err(end) => Err(end),
+    }
+}
+
+/// The sites of the plan of a shape over sinks, which is that of [`rebuild`]. Where a tree was built before, the
+/// entries that came to the memo since are read first, many in one call, and the memo is asked only for the nodes
 /// that are neither known of that tree nor among these entries.
 ///
 /// Afterwards the nodes of this tree are known, or none where they are too many or memory runs out. Where
@@ -50,7 +102,7 @@ pub fn rebuild_with<L: Ledger, R: Wait, G: Gate>(
     shape: &Shape,
     known: &mut Option<Known>,
     steps: &mut Steps<L>,
-) -> Result<Vec<Finished>, UpEnd>
+) -> Result<Vec<Site>, UpEnd>
     requires own { IsPassOf memo.now pass.old }
     requires sinks { AreSinksInRange sinks.now }
     requires shape { IsShapeOver (length sinks.now) shape.now }
@@ -58,27 +110,23 @@ pub fn rebuild_with<L: Ledger, R: Wait, G: Gate>(
     ensures own { IsPassOf memo.now pass.new }
     ensures share { share_of pass.new ≡ share_of pass.old }
     ensures goes_on { IsPrefix (seen_by pass.old) (seen_by pass.new) }
-    ensures plan { IfOk result (λ plan. IsPlan (params_of memo.now) sinks.now shape.now plan.items) }
+    ensures sites { IfOk result (λ sites. AreSites (params_of memo.now) sinks.now shape.now sites.items) }
     ensures ends { IfErr result (Ends (params_of memo.now) sinks.now shape.now) }
     ensures known { OnOk result ((length (seen_by pass.new) ≡ max_entries) ⊎ AreKnown (seen_by pass.new) sinks.now shape.now) }
     ensures kept { MayKnow (seen_by pass.new) known.new }
     ensures merges { steps.new ≤ steps.old + missing (seen_by pass.old) sinks.now shape.now }
 {
     listen(rt, alloc, memo, pass, known);
-    let nodes = shape.nodes();
-    let work = Work { memo, sinks, nodes };
-    let worker = Worker {
-        rt,
-        gate,
-        number,
-        known: known.as_ref(),
-    };
-    let root = nodes.len() as u32 - 1;
-    match build_part(&worker, &work, alloc, pass, 0, root, steps) {
+    let before = known.as_ref();
+    match build_over(
+        rt, alloc, memo, pass, gate, number, sinks, shape, before, steps,
+    ) {
         Ok(built) => {
-            let plan = finished_of(alloc, &built)?;
+            let sites = sites_of(alloc, &built)?;
+            let nodes = shape.nodes();
+            let work = Work { memo, sinks, nodes };
             *known = Known::of(alloc, &work, built, known.take());
-            Ok(plan)
+            Ok(sites)
         }
         Err(end) => Err(end),
     }
@@ -113,8 +161,10 @@ pub fn rebuild<L: Ledger, R: Wait, G: Gate>(
     ensures known { OnOk result ((length (seen_by pass.new) ≡ max_entries) ⊎ AreKnown (seen_by pass.new) sinks.now shape.now) }
     ensures merges { steps.new ≤ steps.old + missing (seen_by pass.old) sinks.now shape.now }
 {
-    let mut known = None;
-    rebuild_with(
-        rt, alloc, memo, pass, gate, number, sinks, shape, &mut known, steps,
-    )
+    match build_over(
+        rt, alloc, memo, pass, gate, number, sinks, shape, None, steps,
+    ) {
+        Ok(built) => Ok(finished_of(alloc, &built)?),
+        Err(end) => Err(end),
+    }
 }
