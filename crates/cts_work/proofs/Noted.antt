@@ -1,7 +1,7 @@
 -- What is known of the nodes of a tree that was built before: it stays known, and answers for the memo.
-use Rattle.std.proofs.Common.{◌≡◌, ℕ, ◌<◌, Bool, true, false, not, true≢false, List, ◌++◌, length, get_or, slice_get, Option, Some, None, IfSome, All, ◌⊎◌, inl, inr, refl, sym, ap, ◌∙◌, subst, arith, length-append}
+use Rattle.std.proofs.Common.{◌≡◌, ℕ, ◌<◌, Bool, true, false, not, true≢false, List, ◌++◌, length, get_or, slice_get, take, drop, ◌+◌, Option, Some, None, IfSome, All, ◌⊎◌, inl, inr, refl, sym, ap, ◌∙◌, subst, arith, length-append, length-take, length-drop}
 use mathlib.Core.List.{IsPrefix}
-use Rattle.std.proofs.lemmas.List.{get_or_append_left}
+use Rattle.std.proofs.lemmas.List.{get_or_append_left, get_or-drop, get_or-take}
 use Rattle.std.proofs.lemmas.Option.{slice_get-get_or, slice_get_within, get_or_from_slice_get}
 use Rattle.cts_merge.specs.declared.side.Finished.{Finished}
 use Rattle.cts_memo.specs.declared.key.Key.{Key}
@@ -13,7 +13,7 @@ use Rattle.cts_work.specs.declared.node.Built.{Built}
 use Rattle.cts_work.specs.declared.known.Known.{Known}
 use Rattle.cts_work.specs.Built.{IsNoted}
 use Rattle.cts_work.specs.declared.work.Work.{Work}
-use Rattle.cts_work.specs.Known.{AreHeard, IsHeard, IsKnown, IsOneOf, MayKnow}
+use Rattle.cts_work.specs.Known.{AreHeard, IsHeard, IsKnown, IsOneOf, MayKnow, StandFrom}
 use Rattle.cts_work.specs.Work.{AreBuilt}
 
 -- keys that aren't told apart are one
@@ -89,3 +89,16 @@ found_entry seen known key b n (inr one) is_known is = heard_entry seen known.he
 -- all nodes of a tree that was built are noted
 pub built_noted : (work : Work) (seen : List MemoEntry) (nodes : List Built) → AreBuilt work seen 0 nodes → All (IsNoted seen) nodes
 built_noted work seen nodes built = λ i d h. (built.each i d h).noted
+
+-- entries that were read stand in the list
+pub read_stand : (seen entries : List MemoEntry) (first most : ℕ) → entries ≡ take most (drop first seen) → StandFrom seen first entries
+read_stand seen entries first most is i e here =
+    let short : i < length (take most (drop first seen)) = subst (λ l. i < length l) is (slice_get_within entries i e here) in
+    let few : i < most = omega (arith, short, length-take most (drop first seen)) in
+    let within : first + i < length seen = omega (arith, short, length-take most (drop first seen), length-drop first seen) in
+    slice_get-get_or seen (first + i) e within
+    ∙ ap Some
+    (sym (get_or-drop first seen i e)
+    ∙ sym (get_or-take most (drop first seen) i e few)
+    ∙ ap (λ l. get_or l i e) (sym is)
+    ∙ get_or_from_slice_get entries i e e here)

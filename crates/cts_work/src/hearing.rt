@@ -1,18 +1,29 @@
 //! What was heard of the entries that callers publish.
 
 ghost use Rattle.std.specs.Prelude.{◌≡◌, ◌+◌, List, Some, All, IfOk, IfSome, slice_get};
+ghost use Rattle.cts_turn.specs.Passes.{seen_by};
 ghost use Rattle.cts_memo.specs.declared.entry.MemoEntry.{MemoEntry};
+ghost use Rattle.cts_memo.specs.Passes.{IsPassOf};
+ghost use Rattle.cts_work.specs.Built.{GoesOn};
 ghost use Rattle.cts_work.specs.Known.{AreHeard, IsHeard, StandFrom};
 
 use crate::node::Built;
-use cts_memo::{Key, MemoEntry};
+use cts_memo::{Key, Memo, MemoEntry, MemoPass};
+use cts_num::NoMemory;
 use std::alloc::{AllocError, Global};
+use std::sync::Wait;
 
 /// The fewest cells.
 const LEAST_CELLS: usize = 256;
 
-/// The most cells, which take some 8 MB.
+/// The most cells, which take some 12 MB.
 const MOST_CELLS: usize = 1 << 16;
+
+/// So many entries are read in one call of the memo: so few that no other caller waits long.
+const AT_ONCE: u32 = 128;
+
+/// The most calls at one time: as many as all 2^21 entries take, and one more.
+const MOST_CALLS: u32 = (1 << 21) / AT_ONCE + 1;
 
 /// Entries of a memo that were read since the first tree, whoever published them, so that nobody has to ask
 /// for them one by one.
@@ -114,6 +125,52 @@ impl Heard {
             };
             self.note(entry, number);
             self.next = after;
+        }
+    }
+
+    /// Hears the next entries of the memo, as many as one call reads, and tells whether there may be more.
+    fn hear_next<R: Wait>(
+        &mut self,
+        rt: &R,
+        alloc: Global,
+        memo: &Memo,
+        pass: &mut MemoPass,
+    ) -> bool
+        requires own { IsPassOf memo.now pass.old }
+        requires heard { AreHeard (seen_by pass.old) self.old.cells.items }
+        ensures pass { GoesOn memo.now pass.old pass.new }
+        ensures heard { AreHeard (seen_by pass.new) self.new.cells.items }
+    {
+        match memo.read(rt, alloc, pass, self.next, AT_ONCE) {
+            Ok(entries) => {
+                self.hear(&entries);
+                entries.len() == AT_ONCE as usize
+            }
+            Err(NoMemory) => false,
+        }
+    }
+
+    /// Hears all entries of the memo that came since the last time, or some of them where memory runs out.
+    /// Without cells nothing is read.
+    pub(crate) fn listen<R: Wait>(
+        &mut self,
+        rt: &R,
+        alloc: Global,
+        memo: &Memo,
+        pass: &mut MemoPass,
+    )
+        requires own { IsPassOf memo.now pass.old }
+        requires heard { AreHeard (seen_by pass.old) self.old.cells.items }
+        ensures pass { GoesOn memo.now pass.old pass.new }
+        ensures heard { AreHeard (seen_by pass.new) self.new.cells.items }
+    {
+        if self.cells.is_empty() {
+            return;
+        }
+        for _ in 0..MOST_CALLS {
+            if !self.hear_next(rt, alloc, memo, pass) {
+                return;
+            }
         }
     }
 }

@@ -1,18 +1,21 @@
 //! The nodes of the last tree, which are found again without a search, and what was heard beside them.
 
 ghost use Rattle.std.specs.Prelude.{◌≡◌, ◌+◌, ◌≤◌, ◌⊎◌, List, length, All, IfSome};
+ghost use Rattle.cts_turn.specs.Passes.{seen_by};
 ghost use Rattle.cts_memo.specs.declared.entry.MemoEntry.{MemoEntry};
-ghost use Rattle.cts_work.specs.Built.{IsNoted};
-ghost use Rattle.cts_work.specs.Known.{AreHeard, IsHeard, IsOneOf, MayKnow};
+ghost use Rattle.cts_memo.specs.Passes.{IsPassOf};
+ghost use Rattle.cts_work.specs.Built.{GoesOn, IsNoted};
+ghost use Rattle.cts_work.specs.Known.{AreHeard, IsHeard, IsKnown, IsOneOf, MayKnow};
 
 use crate::hearing::Heard;
 use crate::node::Built;
 use crate::work::Work;
-use cts_memo::Key;
+use cts_memo::{Key, Memo, MemoPass};
 use cts_topo::ShapeNode;
 use std::alloc::{AllocError, Global};
+use std::sync::Wait;
 
-/// The most nodes of a tree that is kept: those of 65,536 sinks, which take some 15 MB.
+/// The most nodes of a tree that is kept: those of 65,536 sinks, which take some 21 MB.
 const MOST_NODES: usize = 1 << 17;
 
 /// The nodes of a tree that was built over a memo, and what was heard of the entries that came since, so
@@ -121,5 +124,39 @@ impl Known {
             }
         }
         self.heard.find(key)
+    }
+
+    /// Hears what came to the memo since the last time.
+    pub(crate) fn listen<R: Wait>(
+        &mut self,
+        rt: &R,
+        alloc: Global,
+        memo: &Memo,
+        pass: &mut MemoPass,
+    )
+        requires own { IsPassOf memo.now pass.old }
+        requires known { IsKnown (seen_by pass.old) self.old }
+        ensures pass { GoesOn memo.now pass.old pass.new }
+        ensures known { IsKnown (seen_by pass.new) self.new }
+    {
+        self.heard.listen(rt, alloc, memo, pass);
+    }
+}
+
+/// Where something is known, hears what came to the memo since the last time.
+pub(crate) fn listen<R: Wait>(
+    rt: &R,
+    alloc: Global,
+    memo: &Memo,
+    pass: &mut MemoPass,
+    known: &mut Option<Known>,
+)
+    requires own { IsPassOf memo.now pass.old }
+    requires kept { MayKnow (seen_by pass.old) known.old }
+    ensures pass { GoesOn memo.now pass.old pass.new }
+    ensures kept { MayKnow (seen_by pass.new) known.new }
+{
+    if let Some(known) = known {
+        known.listen(rt, alloc, memo, pass);
     }
 }

@@ -13,7 +13,7 @@ ghost use Rattle.cts_memo.specs.Sound.{max_entries};
 ghost use Rattle.cts_work.specs.Known.{MayKnow};
 
 use crate::gate::Gate;
-use crate::known::Known;
+use crate::known::{Known, listen};
 use crate::node::Built;
 use crate::part::build_part;
 use crate::work::{Work, Worker};
@@ -33,8 +33,9 @@ pub(crate) fn finished_of(alloc: Global, built: &[Built]) -> Result<Vec<Finished
     built.iter().map(|node| node.finished).collect(alloc)
 }
 
-/// The plan of a shape over sinks, which is that of [`rebuild`]. The memo is asked only for the nodes that
-/// aren't known of the tree before.
+/// The plan of a shape over sinks, which is that of [`rebuild`]. Where a tree was built before, the entries
+/// that came to the memo since are read first, many in one call, and the memo is asked only for the nodes
+/// that are neither known of that tree nor among these entries.
 ///
 /// Afterwards the nodes of this tree are known, or none where they are too many or memory runs out. Where
 /// there is no plan those stay that were known before.
@@ -63,6 +64,7 @@ pub fn rebuild_with<L: Ledger, R: Wait, G: Gate>(
     ensures kept { MayKnow (seen_by pass.new) known.new }
     ensures merges { steps.new ≤ steps.old + missing (seen_by pass.old) sinks.now shape.now }
 {
+    listen(rt, alloc, memo, pass, known);
     let nodes = shape.nodes();
     let work = Work { memo, sinks, nodes };
     let worker = Worker {

@@ -7,6 +7,7 @@ use Rattle.cts_work.specs.declared.node.Built.{Built}
 use Rattle.cts_work.specs.declared.work.Work.{Work}
 use Rattle.cts_work.specs.Known.{MayKnow}
 use Rattle.cts_work.specs.Work.{IsReady}
+use Rattle.cts_work.proofs.Misses.{fewer_missing}
 use Rattle.cts_work.proofs.Noted.{built_noted, may_stay}
 use Rattle.cts_work.proofs.Parts.{whole_part, ends_in_all, merges_in_all, plan_made, all_known}
 use Rattle.cts_work.proofs.upward.rebuild_with.Goals as goal
@@ -60,37 +61,43 @@ pub returns-in_ok-plan-in-Ok-clause-kept : goal.returns-in_ok-plan-in-Ok-clause-
 returns-in_ok-plan-in-Ok-clause-kept g c =
     let work : Work = record { memo = c.args.memo; sinks = c.args.sinks; nodes = c.nodes-nodes.result } in
     let seen = seen_by c.build_part.new.pass in
-    let before = may_stay (seen_by c.args.pass.now) seen c.build_part.ensures.pass.goes_on c.args.known.now c.requires.kept in
+    let before = may_stay (seen_by c.listen.new.pass) seen c.build_part.ensures.pass.goes_on c.listen.new.known c.listen.ensures.kept in
     c.of.ensures seen (built_noted work seen c.in-Ok.built.items c.in-Ok.ensures.built) (subst (MayKnow seen) (sym c.take.ensures.value) before)
 
 pub returns-in_err-plan-in-Ok-clause-kept : goal.returns-in_err-plan-in-Ok-clause-kept
 returns-in_err-plan-in-Ok-clause-kept g c =
-    may_stay (seen_by c.args.pass.now) (seen_by c.build_part.new.pass) c.build_part.ensures.pass.goes_on c.args.known.now c.requires.kept
+    may_stay (seen_by c.listen.new.pass) (seen_by c.build_part.new.pass) c.build_part.ensures.pass.goes_on c.listen.new.known c.listen.ensures.kept
 
 pub returns-in-Err-clause-kept : goal.returns-in-Err-clause-kept
 returns-in-Err-clause-kept g c =
-    may_stay (seen_by c.args.pass.now) (seen_by c.build_part.new.pass) c.build_part.ensures.pass.goes_on c.args.known.now c.requires.kept
+    may_stay (seen_by c.listen.new.pass) (seen_by c.build_part.new.pass) c.build_part.ensures.pass.goes_on c.listen.new.known c.listen.ensures.kept
 
 pub returns-in_ok-plan-in-Ok-clause-merges : goal.returns-in_ok-plan-in-Ok-clause-merges
 returns-in_ok-plan-in-Ok-clause-merges g c =
     let work : Work = record { memo = c.args.memo; sinks = c.args.sinks; nodes = c.nodes-nodes.result } in
     let over = subst (IsShapeOver (length c.args.sinks.now)) (sym c.nodes-nodes.ensures.nodes) c.requires.shape in
-    merges_in_all work c.args.shape.now c.nodes-nodes.ensures.nodes (length c.nodes-nodes.result.now - 1)
-    (omega (arith, length_pos children c.nodes-nodes.result.now over.post_order)) (seen_by c.args.pass.now) c.args.steps.now c.build_part.new.steps
-    c.build_part.ensures.merges
+    fewer_missing (seen_by c.args.pass.now) (seen_by c.listen.new.pass) c.args.sinks.now c.args.shape.now c.args.steps.now c.build_part.new.steps
+    c.listen.ensures.pass.goes_on
+    (merges_in_all work c.args.shape.now c.nodes-nodes.ensures.nodes (length c.nodes-nodes.result.now - 1)
+    (omega (arith, length_pos children c.nodes-nodes.result.now over.post_order)) (seen_by c.listen.new.pass) c.args.steps.now c.build_part.new.steps
+    c.build_part.ensures.merges)
 
 pub returns-in_err-plan-in-Ok-clause-merges : goal.returns-in_err-plan-in-Ok-clause-merges
 returns-in_err-plan-in-Ok-clause-merges g c =
     let work : Work = record { memo = c.args.memo; sinks = c.args.sinks; nodes = c.nodes-nodes.result } in
     let over = subst (IsShapeOver (length c.args.sinks.now)) (sym c.nodes-nodes.ensures.nodes) c.requires.shape in
-    merges_in_all work c.args.shape.now c.nodes-nodes.ensures.nodes (length c.nodes-nodes.result.now - 1)
-    (omega (arith, length_pos children c.nodes-nodes.result.now over.post_order)) (seen_by c.args.pass.now) c.args.steps.now c.build_part.new.steps
-    c.build_part.ensures.merges
+    fewer_missing (seen_by c.args.pass.now) (seen_by c.listen.new.pass) c.args.sinks.now c.args.shape.now c.args.steps.now c.build_part.new.steps
+    c.listen.ensures.pass.goes_on
+    (merges_in_all work c.args.shape.now c.nodes-nodes.ensures.nodes (length c.nodes-nodes.result.now - 1)
+    (omega (arith, length_pos children c.nodes-nodes.result.now over.post_order)) (seen_by c.listen.new.pass) c.args.steps.now c.build_part.new.steps
+    c.build_part.ensures.merges)
 
 pub returns-in-Err-clause-merges : goal.returns-in-Err-clause-merges
 returns-in-Err-clause-merges g c =
     let work : Work = record { memo = c.args.memo; sinks = c.args.sinks; nodes = c.nodes-nodes.result } in
     let over = subst (IsShapeOver (length c.args.sinks.now)) (sym c.nodes-nodes.ensures.nodes) c.requires.shape in
-    merges_in_all work c.args.shape.now c.nodes-nodes.ensures.nodes (length c.nodes-nodes.result.now - 1)
-    (omega (arith, length_pos children c.nodes-nodes.result.now over.post_order)) (seen_by c.args.pass.now) c.args.steps.now c.build_part.new.steps
-    c.build_part.ensures.merges
+    fewer_missing (seen_by c.args.pass.now) (seen_by c.listen.new.pass) c.args.sinks.now c.args.shape.now c.args.steps.now c.build_part.new.steps
+    c.listen.ensures.pass.goes_on
+    (merges_in_all work c.args.shape.now c.nodes-nodes.ensures.nodes (length c.nodes-nodes.result.now - 1)
+    (omega (arith, length_pos children c.nodes-nodes.result.now over.post_order)) (seen_by c.listen.new.pass) c.args.steps.now c.build_part.new.steps
+    c.build_part.ensures.merges)
