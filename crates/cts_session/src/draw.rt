@@ -25,7 +25,7 @@ use cts_instance::Instance;
 use cts_memo::{Memo, MemoPass};
 use cts_merge::Steps;
 use cts_num::NoMemory;
-use cts_plain::{NoTree, finish};
+use cts_plain::{NoTree, finish_sites};
 use cts_topo::topology;
 use cts_tree::Tree;
 use cts_turn::{Pass, Turn};
@@ -102,8 +102,8 @@ pub(crate) fn instance_now<R: Wait>(
 ///
 /// The memo is as good as empty for the answer, which is that of the synthesis by one thread; it saves
 /// the merges of the pairs that have a number in it. It is asked only for the nodes that aren't known of
-/// the tree before; afterwards those of this tree are known. Where the plan has no node beyond the memo
-/// has afterwards a number for every node of the tree, or is full.
+/// the tree before, or heard of since; afterwards those of this tree are known. Where the plan has no node
+/// beyond the memo has afterwards a number for every node of the tree, or is full.
 pub(crate) fn draw<L: Ledger, R: Wait, G: Gate>(
     rt: &R,
     alloc: Global,
@@ -135,10 +135,10 @@ pub(crate) fn draw<L: Ledger, R: Wait, G: Gate>(
 {
     let sinks = instance.sinks();
     let shape = topology(alloc, sinks)?;
-    let plan = rebuild_with(
+    let sites = rebuild_with(
         rt, alloc, memo, pass, gate, caller, sinks, &shape, known, steps,
     )?;
-    finish(alloc, instance, &shape, &plan)
+    finish_sites(alloc, instance, &shape, &sites)
 }
 
 /// The tree of the sinks as they are when it is this call's turn. Nothing of an earlier draw is kept but

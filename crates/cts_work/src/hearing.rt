@@ -16,7 +16,7 @@ use std::sync::Wait;
 /// The fewest cells.
 const LEAST_CELLS: usize = 256;
 
-/// The most cells, which take some 8 MB.
+/// The most cells, which take some 12 MB.
 const MOST_CELLS: usize = 1 << 16;
 
 /// So many entries are read in one call of the memo: so few that no other caller waits long.

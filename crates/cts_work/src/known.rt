@@ -15,7 +15,7 @@ use cts_topo::ShapeNode;
 use std::alloc::{AllocError, Global};
 use std::sync::Wait;
 
-/// The most nodes of a tree that is kept: those of 65,536 sinks, which take some 15 MB.
+/// The most nodes of a tree that is kept: those of 65,536 sinks, which take some 21 MB.
 const MOST_NODES: usize = 1 << 17;
 
 /// The nodes of a tree that was built over a memo, and what was heard of the entries that came since, so
