@@ -7,19 +7,19 @@ use Rattle.cts_session.proofs.draw.draw.Goals as goal
 pub returns-clause-tree : goal.returns-clause-tree
 returns-clause-tree g c =
     let shaped = c.in_ok-shape.ensures.definition ∙ ap shape_of c.sinks-sinks.ensures.part in
-    made_of_plan c.args.instance.now c.in_ok-shape.shape c.finish.result shaped c.finish.ensures.tree
+    made_of_plan c.args.instance.now c.in_ok-shape.shape c.finish_sites.result shaped c.finish_sites.ensures.tree
 
 pub returns-clause-ends : goal.returns-clause-ends
 returns-clause-ends g c =
     let shaped = c.in_ok-shape.ensures.definition ∙ ap shape_of c.sinks-sinks.ensures.part in
-    none_of_plan c.args.instance.now c.in_ok-shape.shape c.finish.result shaped c.finish.ensures.ends
+    none_of_plan c.args.instance.now c.in_ok-shape.shape c.finish_sites.result shaped c.finish_sites.ensures.ends
 
 pub returns-clause-known : goal.returns-clause-known
 returns-clause-known g c =
-    known_where_made c.args.instance.now c.sinks-sinks.result.now c.in_ok-shape.shape (seen_by c.rebuild_with.new.pass) c.finish.result
-    c.sinks-sinks.ensures.part c.in_ok-shape.ensures.definition c.in_ok-plan.ensures.known
+    known_where_made c.args.instance.now c.sinks-sinks.result.now c.in_ok-shape.shape (seen_by c.rebuild_with.new.pass) c.finish_sites.result
+    c.sinks-sinks.ensures.part c.in_ok-shape.ensures.definition c.in_ok-sites.ensures.known
 
 pub returns-clause-known_until : goal.returns-clause-known_until
 returns-clause-known_until g c =
-    known_until_end c.args.instance.now c.sinks-sinks.result.now c.in_ok-shape.shape (seen_by c.rebuild_with.new.pass) c.finish.result
-    c.sinks-sinks.ensures.part c.in_ok-shape.ensures.definition c.in_ok-plan.ensures.known
+    known_until_end c.args.instance.now c.sinks-sinks.result.now c.in_ok-shape.shape (seen_by c.rebuild_with.new.pass) c.finish_sites.result
+    c.sinks-sinks.ensures.part c.in_ok-shape.ensures.definition c.in_ok-sites.ensures.known
