@@ -141,9 +141,11 @@ impl<'a> Session<'a> {
     /// accepted so far, its version; or why there is none.
     ///
     /// The tree is that of the synthesis by one thread. The memo saves the merges of the pairs that have a
-    /// number in it; it is asked only for the nodes that the session's last tree didn't have, and the gate is called with the session's number where a node is made. Afterwards the
-    /// memo has a number for every node of the tree, or is full; so it does where there is no tree, but for
-    /// a node that is beyond in the plan. No turn is held while the tree is made.
+    /// number in it. It is asked only for the nodes that neither the session's last tree had nor anybody
+    /// published since, as far as the session heard of it, and the gate is called with the session's number
+    /// where a node is made. Afterwards the memo has a number for every node of the tree, or is full; so it
+    /// does where there is no tree, but for a node that is beyond in the plan. No turn is held while the tree
+    /// is made.
     pub fn tree<L: Ledger, R: Wait, G: Gate>(
         &mut self,
         rt: &R,

@@ -88,11 +88,11 @@ impl Heard {
     }
 
     /// What stands in the cell of a key, where it has this key.
-    pub(crate) fn find(&self, key: Key) -> Option<Built>
-        ensures { IfSome result (IsHeard self.now.cells.items key) }
+    pub(crate) fn find(&self, key: Key) -> Option<&Built>
+        ensures { IfSome result (λ b. IsHeard self.now.cells.items key b.now) }
     {
         let place = cell_of(key, self.cells.len());
-        let node = (*self.cells.get(place)?)?;
+        let node = self.cells.get(place)?.as_ref()?;
         let own = node.key?;
         if own != key {
             return None;

@@ -96,8 +96,9 @@ impl Known {
 
     /// The node at the cursor, where it has this key. The cursor goes on to the place after it, or to
     /// none.
-    fn follow(&self, key: Key, cursor: &mut Option<u32>) -> Option<Built>
-        ensures { IfSome result (IsOneOf self.now.nodes.items key) }
+    #[inline(always)]
+    fn follow(&self, key: Key, cursor: &mut Option<u32>) -> Option<&Built>
+        ensures { IfSome result (λ b. IsOneOf self.now.nodes.items key b.now) }
     {
         let place = cursor.take()?;
         let node = self.nodes.get(place as usize)?;
@@ -106,13 +107,14 @@ impl Known {
             return None;
         }
         *cursor = place.checked_add(1);
-        Some(*node)
+        Some(node)
     }
 
     /// The node of a key, where it stands at the cursor, or, as the leaf of a sink with this id, where
     /// such a leaf stood, or among what was heard.
-    pub(crate) fn find(&self, key: Key, id: Option<u32>, cursor: &mut Option<u32>) -> Option<Built>
-        ensures { IfSome result (λ b. IsOneOf self.now.nodes.items key b ⊎ IsHeard self.now.heard.cells.items key b) }
+    #[inline(always)]
+    pub(crate) fn find(&self, key: Key, id: Option<u32>, cursor: &mut Option<u32>) -> Option<&Built>
+        ensures { IfSome result (λ b. IsOneOf self.now.nodes.items key b.now ⊎ IsHeard self.now.heard.cells.items key b.now) }
     {
         if let Some(node) = self.follow(key, cursor) {
             return Some(node);
