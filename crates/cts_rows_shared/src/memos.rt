@@ -7,8 +7,9 @@ ghost use Rattle.cts_memo.specs.Passes.{IsPassOf};
 use crate::compare::same;
 use crate::leaves::{begin, closed, key_at, put_leaf};
 use cts_memo::laws::memo_is_shared;
-use cts_memo::{Answer, Memo, MemoOut, MemoPass, PutEnd, Table};
+use cts_memo::{Answer, Key, Memo, MemoOut, MemoPass, PutEnd, Table};
 use cts_turn::Object;
+use std::alloc::Global;
 use std::process::Abort;
 use std::sync::Wait;
 use std::test::Fail;
@@ -69,6 +70,66 @@ fn a_leaf_is_found_again(rt: HostRuntime) -> Result<(), Fail> {
     same(&rt, "the wire", memo.params().wire.r, 1);
     let table = closed(&rt, memo, pass);
     has_two(&rt, &table);
+    Ok(())
+}
+
+/// How many entries are read from a number on, at most so many, and the key of the first one.
+fn read<R: Wait>(
+    rt: &R,
+    alloc: Global,
+    memo: &Memo,
+    pass: &mut MemoPass,
+    first: u32,
+    most: u32,
+) -> Option<(usize, Option<Key>)>
+    requires own { IsPassOf memo.now pass.old }
+    ensures own { IsPassOf memo.now pass.new }
+{
+    let entries = memo.read(rt, alloc, pass, first, most).ok()?;
+    let key = match entries.first() {
+        Some(entry) => Some(entry.key),
+        None => None,
+    };
+    Some((entries.len(), key))
+}
+
+/// Reads the leaves at 0 and at 10 nm, both, one of them, and what comes after them.
+fn reads_two<R: Wait + Abort>(rt: &R, alloc: Global, memo: &Memo, pass: &mut MemoPass)
+    requires own { IsPassOf memo.now pass.old }
+    ensures own { IsPassOf memo.now pass.new }
+{
+    let (at_0, at_10) = (Some(key_at(0, 5)), Some(key_at(10, 5)));
+    same(
+        rt,
+        "both",
+        read(rt, alloc, memo, pass, 0, 8),
+        Some((2, at_0)),
+    );
+    same(
+        rt,
+        "the second",
+        read(rt, alloc, memo, pass, 1, 8),
+        Some((1, at_10)),
+    );
+    same(
+        rt,
+        "one of two",
+        read(rt, alloc, memo, pass, 0, 1),
+        Some((1, at_0)),
+    );
+    same(
+        rt,
+        "none",
+        read(rt, alloc, memo, pass, 2, 8),
+        Some((0, None)),
+    );
+}
+
+#[test]
+fn entries_are_read_by_their_numbers(rt: HostRuntime) -> Result<(), Fail> {
+    let (memo, mut pass) = begin(rt.alloc())?;
+    put_two(&rt, &memo, &mut pass);
+    reads_two(&rt, rt.alloc(), &memo, &mut pass);
     Ok(())
 }
 
