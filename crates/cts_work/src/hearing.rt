@@ -75,8 +75,7 @@ impl Heard {
     pub(crate) fn with_room(self, alloc: Global, nodes: usize) -> Heard
         ensures { (seen : List MemoEntry) → AreHeard seen self.cells.items → AreHeard seen result.cells.items }
     {
-        let count = (nodes.min(MOST_CELLS / 4) * 4).next_power_of_two();
-        let count = count.max(LEAST_CELLS);
+        let count = nodes.clamp(LEAST_CELLS, MOST_CELLS).next_power_of_two();
         if count <= self.cells.len() {
             return self;
         }
