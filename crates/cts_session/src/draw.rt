@@ -142,7 +142,7 @@ pub(crate) fn draw<L: Ledger, R: Wait, G: Gate>(
 }
 
 /// The tree of the sinks as they are when it is this call's turn. Nothing of an earlier draw is kept but
-/// the memo, and the nodes that are known of its tree.
+/// the memo, and what is known of its nodes.
 pub(crate) fn draw_now<L: Ledger, R: Wait, G: Gate>(
     rt: &R,
     alloc: Global,
