@@ -1,8 +1,8 @@
 -- What is known of a node that is done with: how it comes from the memo, and that it stays.
-use Rattle.std.proofs.Common.{◌≡◌, ℕ, ◌≤◌, ◌⊎◌, List, [], ◌∷◌, length, slice_get, Option, Some, None, refl, sym, ap, ◌∙◌, subst, inl, inr, arith}
+use Rattle.std.proofs.Common.{◌≡◌, ℕ, ◌≤◌, ◌⊎◌, List, [], ◌∷◌, length, get_or, slice_get, All, Option, Some, None, refl, sym, ap, ◌∙◌, subst, inl, inr, arith}
 use mathlib.Core.List.{IsPrefix}
 use Rattle.std.specs.List.{AllZip}
-use Rattle.std.proofs.lemmas.Option.{slice_get_within}
+use Rattle.std.proofs.lemmas.Option.{slice_get_within, get_or_from_slice_get}
 use Rattle.cts_units.specs.declared.params.Sink.{Sink}
 use Rattle.cts_units.specs.declared.params.Params.{Params}
 use Rattle.cts_postorder.specs.BinaryTree.{BinaryTree, fork}
@@ -34,8 +34,9 @@ use Rattle.cts_memo.proofs.Publications.{made_of_all}
 use Rattle.cts_memo.proofs.Positions.{absent_position, stands_position}
 use Rattle.cts_memo.proofs.Numbering.{leaf_of, number_stays, numbered_finished, key_parts, pair_is, some_entry, entry_is, is_entry}
 use Rattle.cts_work.specs.declared.node.Built.{Built}
-use Rattle.cts_work.specs.Built.{IsBuilt, IsBuiltLeaf, IsKept}
-use Rattle.cts_work.proofs.Noted.{noted_stays}
+use Rattle.cts_work.specs.Built.{IsBuilt, IsBuiltLeaf, IsKept, IsNoted}
+use Rattle.cts_work.specs.Known.{HasKeyAt, IsAtPlace}
+use Rattle.cts_work.proofs.Noted.{noted_stays, noted_at, noted_entry}
 
 -- a leaf that was looked up
 pub have_leaf : (params : Params) (seen : List MemoEntry) (sink : Sink) (key : Key) (n : ℕ) (f : Finished) → key ≡ leaf_key sink
@@ -59,6 +60,23 @@ kept_leaf params seen sink key f None is sound leaf kept = record {
   noted = tt;
 }
 kept_leaf params seen sink key f (Some n) is sound leaf kept = have_leaf params seen sink key n f is sound kept
+
+-- a known node is its key's and its number's, and what it is made of
+keyed : (P : Built → Type 0) (b : Built) (key : Key) (n : ℕ) → b.key ≡ Some key → b.number ≡ Some n
+    → P (record { key = Some key; number = Some n; finished = b.finished }) → P b
+keyed P b key n is_key is here = subst P (λ z. record { key = sym is_key z; number = sym is z; finished = b.finished }) here
+
+-- a leaf that is known
+pub known_leaf : (params : Params) (seen : List MemoEntry) (sink : Sink) (key : Key) (nodes : List Built) (p : ℕ) → key ≡ leaf_key sink
+    → IsSound params seen → All (IsNoted seen) nodes → HasKeyAt nodes key p → IsAtPlace nodes (IsBuiltLeaf seen sink) p
+known_leaf params seen sink key nodes p is sound noted known =
+    let b : Built = known.0 in
+    let entry_at = noted_entry seen key b known.1 (noted_at seen nodes p b noted (known.2)) (known.3) (known.4) in
+    (b, known.2, keyed (IsBuiltLeaf seen sink) b key known.1 (known.3) (known.4) (have_leaf params seen sink key known.1 b.finished is sound entry_at))
+
+-- the node at a place is such as the node there
+pub at_place_is : (P : Built → Type 0) (nodes : List Built) (p : ℕ) (a : Built) → IsAtPlace nodes P p → a ≡ get_or nodes p a → P a
+at_place_is P nodes p a at is = subst P (sym (is ∙ get_or_from_slice_get nodes p at.0 a (at.1))) (at.2)
 
 -- what a pass has seen is sound for the memo's parameters, and short
 pub sound_for : (memo : Memo) (pass : Pass Table MemoEntry MemoCall MemoReply) → IsPassOf memo pass → IsSound (params_of memo) (seen_by pass)
@@ -193,3 +211,11 @@ module _ (params : Params) (sinks : List Sink) where
         noted = tt;
       }
       kept_pair f (Some n) merged kept = have_pair n f kept
+
+      -- and where it is known
+      pub known_pair : (nodes : List Built) (p : ℕ) → All (IsNoted seen) nodes → HasKeyAt nodes key p
+          → IsAtPlace nodes (IsBuilt params sinks seen (fork l r m)) p
+      known_pair nodes p noted known =
+          let b : Built = known.0 in
+          let entry_at = noted_entry seen key b known.1 (noted_at seen nodes p b noted (known.2)) (known.3) (known.4) in
+          (b, known.2, keyed (IsBuilt params sinks seen (fork l r m)) b key known.1 (known.3) (known.4) (have_pair known.1 b.finished entry_at))

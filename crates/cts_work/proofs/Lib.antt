@@ -10,4 +10,5 @@ pub mod Slots
 pub mod Completing
 pub mod Sent
 pub mod Numbered
+pub mod Picked
 pub mod Told

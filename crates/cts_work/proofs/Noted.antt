@@ -1,8 +1,11 @@
 -- What is known of the nodes of a tree that was built before: it stays known, and answers for the memo.
-use Rattle.std.proofs.Common.{◌≡◌, ℕ, ◌<◌, Bool, true, false, not, true≢false, List, ◌++◌, length, get_or, slice_get, take, drop, ◌+◌, Option, Some, None, IfSome, All, ◌⊎◌, inl, inr, refl, sym, ap, ◌∙◌, subst, arith, length-append, length-take, length-drop}
+use Rattle.std.proofs.Common.{◌≡◌, ℕ, ◌<◌, Bool, true, false, not, true≢false, List, [], ◌∷◌, ◌++◌, length, get_or, slice_get, take, drop, ◌+◌, Option, Some, None, IfSome, All, ◌⊎◌, inl, inr, refl, sym, ap, ◌∙◌, subst, arith, length-append, length-take, length-drop}
 use mathlib.Core.List.{IsPrefix}
-use Rattle.std.proofs.lemmas.List.{get_or_append_left, get_or-drop, get_or-take}
-use Rattle.std.proofs.lemmas.Option.{slice_get-get_or, slice_get_within, get_or_from_slice_get}
+use Rattle.std.specs.List.{cons_option}
+use Rattle.std.proofs.lemmas.Bool.{cases_lt}
+use Rattle.std.proofs.lemmas.List.{get_or_append_left, get_or_at, get_or-drop, get_or-take}
+use Rattle.std.proofs.lemmas.List.Elements.{All-cons}
+use Rattle.std.proofs.lemmas.Option.{slice_get-get_or, slice_get_read, slice_get_within, get_or_from_slice_get}
 use Rattle.cts_merge.specs.declared.side.Finished.{Finished}
 use Rattle.cts_memo.specs.declared.key.Key.{Key}
 use Rattle.cts_memo.specs.declared.entry.MemoEntry.{MemoEntry}
@@ -12,9 +15,7 @@ use Rattle.cts_memo.proofs.SameKeys.{map_test, same_key-decides}
 use Rattle.cts_work.specs.declared.node.Built.{Built}
 use Rattle.cts_work.specs.declared.known.Known.{Known}
 use Rattle.cts_work.specs.Built.{IsNoted}
-use Rattle.cts_work.specs.declared.work.Work.{Work}
-use Rattle.cts_work.specs.Known.{AreHeard, IsHeard, IsKnown, IsOneOf, MayKnow, StandFrom}
-use Rattle.cts_work.specs.Work.{AreBuilt}
+use Rattle.cts_work.specs.Known.{IsKnown, MayKnow, StandFrom, picked}
 
 -- keys that aren't told apart are one
 pub one_key : (a b : Key) (differ : Bool) → differ ≡ not (keys.eq a b) → differ ≡ false → a ≡ b
@@ -43,21 +44,16 @@ module _ (seen longer : List MemoEntry) (more : IsPrefix seen longer) where
   pub noted_stays : (b : Built) → IsNoted seen b → IsNoted longer b
   noted_stays b noted = stays b.number b.key b.finished noted
 
-  cell_stays : (cell : Option Built) → IfSome cell (IsNoted seen) → IfSome cell (IsNoted longer)
-  cell_stays None noted = tt
-  cell_stays (Some b) noted = noted_stays b noted
+  -- and so does all that is known
+  pub all_noted_stay : (nodes : List Built) → All (IsNoted seen) nodes → All (IsNoted longer) nodes
+  all_noted_stay nodes noted = λ i d h. noted_stays (get_or nodes i d) (noted i d h)
 
-  -- and so does what was heard
-  pub heard_stays : (cells : List (Option Built)) → AreHeard seen cells → AreHeard longer cells
-  heard_stays cells heard = λ i d h. cell_stays (get_or cells i d) (heard i d h)
+  pub known_stays : (known : Known) → IsKnown seen known → IsKnown longer known
+  known_stays known noted = all_noted_stay known.nodes.items noted
 
-  -- and a tree known
   pub may_stay : (known : Option Known) → MayKnow seen known → MayKnow longer known
   may_stay None may = tt
-  may_stay (Some known) may = record {
-    nodes = λ i d h. noted_stays (get_or known.nodes.items i d) (may.nodes i d h);
-    heard = heard_stays known.heard.cells.items may.heard;
-  }
+  may_stay (Some known) may = known_stays known may
 
 answer_of : (seen : List MemoEntry) (key : Key) (n : ℕ) (number : Option ℕ) (own : Option Key) (f : Finished) → number ≡ Some n → own ≡ Some key
     → IfSome number (λ n. IfSome own (λ k. slice_get seen n ≡ Some (entry k f))) → slice_get seen n ≡ Some (entry key f)
@@ -65,30 +61,41 @@ answer_of seen key n number own f is is_key noted =
     subst (λ (o : Option Key). IfSome o (λ k. slice_get seen n ≡ Some (entry k f))) is_key
     (subst (λ (o : Option ℕ). IfSome o (λ m. IfSome own (λ k. slice_get seen m ≡ Some (entry k f)))) is noted)
 
--- a known node with a number is the entry of its key
-pub known_entry : (seen : List MemoEntry) (nodes : List Built) (key : Key) (b : Built) (n : ℕ) → IsOneOf nodes key b → All (IsNoted seen) nodes
-    → b.number ≡ Some n → slice_get seen n ≡ Some (entry key b.finished)
-known_entry seen nodes key b n one noted is =
-    let here : IsNoted seen b = subst (IsNoted seen) (one.1.2) (noted (one.1.0) b (one.1.1)) in
-    answer_of seen key n b.number b.key b.finished is (one.0) here
-
--- and so is a node that was heard
-pub heard_entry : (seen : List MemoEntry) (cells : List (Option Built)) (key : Key) (b : Built) (n : ℕ) → IsHeard cells key b → AreHeard seen cells
-    → b.number ≡ Some n → slice_get seen n ≡ Some (entry key b.finished)
-heard_entry seen cells key b n one heard is =
-    let here : IsNoted seen b = subst (λ (o : Option Built). IfSome o (IsNoted seen)) (one.1.2) (heard (one.1.0) (Some b) (one.1.1)) in
-    answer_of seen key n b.number b.key b.finished is (one.0) here
-
--- one or the other
-pub found_entry : (seen : List MemoEntry) (known : Known) (key : Key) (b : Built) (n : ℕ)
-    → IsOneOf known.nodes.items key b ⊎ IsHeard known.heard.cells.items key b → IsKnown seen known → b.number ≡ Some n
+-- a noted node with a key and a number is the entry of its key
+pub noted_entry : (seen : List MemoEntry) (key : Key) (b : Built) (n : ℕ) → IsNoted seen b → b.key ≡ Some key → b.number ≡ Some n
     → slice_get seen n ≡ Some (entry key b.finished)
-found_entry seen known key b n (inl one) is_known is = known_entry seen known.nodes.items key b n one is_known.nodes is
-found_entry seen known key b n (inr one) is_known is = heard_entry seen known.heard.cells.items key b n one is_known.heard is
+noted_entry seen key b n noted is_key is = answer_of seen key n b.number b.key b.finished is is_key noted
 
--- all nodes of a tree that was built are noted
-pub built_noted : (work : Work) (seen : List MemoEntry) (nodes : List Built) → AreBuilt work seen 0 nodes → All (IsNoted seen) nodes
-built_noted work seen nodes built = λ i d h. (built.each i d h).noted
+-- all nodes of a list are noted, so one at a place is
+pub noted_at : (seen : List MemoEntry) (nodes : List Built) (p : ℕ) (b : Built) → All (IsNoted seen) nodes → slice_get nodes p ≡ Some b → IsNoted seen b
+noted_at seen nodes p b noted here =
+    subst (IsNoted seen) (get_or_from_slice_get nodes p b b here) (noted p b (slice_get_within nodes p b here))
+
+-- and those of a list with one more
+pub noted_push : (seen : List MemoEntry) (nodes : List Built) (b : Built) → All (IsNoted seen) nodes → IsNoted seen b → All (IsNoted seen) (nodes ++ b ∷ [])
+noted_push seen nodes b noted here = λ i d h. elim (cases_lt i (length nodes)) [
+  | inl w ↦ subst (IsNoted seen) (sym (get_or_append_left nodes (b ∷ []) d i w)) (noted i d w)
+  | inr w ↦
+      let last : length nodes ≡ i = omega (arith, h, length-append nodes (b ∷ [])) in
+      subst (IsNoted seen) (sym (get_or_at nodes b [] d i last)) here
+]
+
+-- and those of some of its places
+pub noted_picked : (seen : List MemoEntry) (nodes : List Built) (ps : List ℕ) → All (IsNoted seen) nodes → All (IsNoted seen) (picked nodes ps)
+noted_picked seen nodes [] noted = λ i d h. absurd (omega (arith, h))
+noted_picked seen nodes (p ∷ ps) noted = by (slice_get nodes p) refl (noted_picked seen nodes ps noted)
+  where
+    by : (o : Option Built) → slice_get nodes p ≡ o → All (IsNoted seen) (picked nodes ps) → All (IsNoted seen) (picked nodes (p ∷ ps))
+    by None e rest = subst (λ o. All (IsNoted seen) (cons_option o (picked nodes ps))) (sym e) rest
+    by (Some b) e rest =
+        subst (λ o. All (IsNoted seen) (cons_option o (picked nodes ps))) (sym e)
+        (All-cons (IsNoted seen) b (picked nodes ps) (noted_at seen nodes p b noted e) rest)
+
+-- the entry at an index of those that stand from a number on
+pub entry_stands : (seen entries : List MemoEntry) (first next i : ℕ) (e : MemoEntry) → next ≡ first + i → i < length entries → e ≡ get_or entries i e
+    → StandFrom seen first entries → slice_get seen next ≡ Some e
+entry_stands seen entries first next i e is h here stand =
+    ap (slice_get seen) is ∙ stand i e (slice_get_read entries (length entries) i e refl h here)
 
 -- entries that were read stand in the list
 pub read_stand : (seen entries : List MemoEntry) (first most : ℕ) → entries ≡ take most (drop first seen) → StandFrom seen first entries

@@ -5,7 +5,7 @@ use Rattle.std.specs.List.{All, AllZip}
 use Rattle.std.proofs.lemmas.Bool.{cases_lt}
 use Rattle.std.proofs.lemmas.List.{take_more, take_all, get_or-drop, get_or_at, get_or_append_left, get_or_default, length-drop, length-take-le}
 use Rattle.std.proofs.lemmas.List.Elements.{All-cons}
-use Rattle.std.proofs.lemmas.Option.{slice_get-get_or, get_or_from_slice_get}
+use Rattle.std.proofs.lemmas.Option.{slice_get-get_or, slice_get_cases, slice_get_within, get_or_from_slice_get}
 use Rattle.cts_postorder.specs.BinaryTree.{BinaryTree, tip, size}
 use Rattle.cts_postorder.specs.PostOrder.{root_of, trees_of}
 use Rattle.cts_postorder.proofs.Failures.{size-tree}
@@ -34,8 +34,10 @@ use Rattle.cts_work.specs.declared.node.Built.{Built}
 use Rattle.cts_work.specs.declared.work.Work.{Work}
 use Rattle.cts_work.specs.Built.{IsBuilt, tree_at}
 use Rattle.cts_work.specs.Work.{AreBuilt, EndsAt, EndsIn, IsBeyondAt, IsBuiltAt, IsPart, IsReady, StartsFrom, missing_at, missing_from}
+use Rattle.cts_work.specs.Known.{IsAtPlace, StandAt, picked}
 use Rattle.cts_work.proofs.Builts.{built_stays}
 use Rattle.cts_work.proofs.Misses.{missing_earlier}
+use Rattle.cts_work.proofs.Picked.{length-picked, picked-at, picked-push, picked_stays, places_push, places_stay}
 
 -- a part has a first node
 pub part_ordered : (nodes : List ShapeNode) (first root : ℕ) → IsPart nodes first root → first ≤ root
@@ -108,6 +110,41 @@ module _ (work : Work) where
           subst (IsBuiltAt work longer (first + i)) (sym (get_or_at bs b [] d i last)) (subst (λ j. IsBuiltAt work longer j b) at here)
     ];
   }
+
+  -- the node of an earlier number at its place
+  pub part_at : (seen : List MemoEntry) (first k : ℕ) (nodes : List Built) (tree : List ℕ) (i p : ℕ) → StandAt nodes tree (AreBuilt work seen first)
+      → first + length tree ≡ k → first ≤ i → i < k → p ≡ get_or tree (i - first) p → IsAtPlace nodes (IsBuiltAt work seen i) p
+  part_at seen first k nodes tree i p stand long from below is =
+      let h : i - first < length tree = omega (arith, long, from, below) in
+      let within : p < length nodes = subst (λ (q : ℕ). q < length nodes) (sym is) (stand.0 (i - first) p h) in
+      let count : first + length (picked nodes tree) ≡ k = omega (arith, long, length-picked nodes tree (stand.0)) in
+      elim (slice_get_cases nodes p).1 [
+        | inl w ↦
+            let at : get_or (picked nodes tree) (i - first) w.0 ≡ w.0 =
+            picked-at nodes tree (i - first) p w.0 (stand.0) h ∙ ap (λ q. get_or nodes q w.0) (sym is) ∙ w.3 in
+            (w.0, w.2, subst (IsBuiltAt work seen i) at (child_at seen first k (picked nodes tree) i w.0 (stand.1) count from below))
+        | inr w ↦ absurd (omega (arith, within, w.0))
+      ]
+
+  -- none stands yet
+  pub none_stand : (seen : List MemoEntry) (first : ℕ) (nodes : List Built) (tree : List ℕ) → tree ≡ [] → StandAt nodes tree (AreBuilt work seen first)
+  none_stand seen first nodes tree none = (
+    λ i d h. absurd (omega (arith, h, ap length none)),
+    none_built seen first (picked nodes tree) (ap (picked nodes) none),
+  )
+
+  -- one node more at its place
+  pub stand_push : (seen longer : List MemoEntry) (first k : ℕ) (nodes more : List Built) (tree : List ℕ) (p : ℕ)
+      → IsPrefix seen longer → length longer ≤ max_entries → IsPrefix nodes more → StandAt nodes tree (AreBuilt work seen first)
+      → first + length tree ≡ k → IsAtPlace more (IsBuiltAt work longer k) p → StandAt more (tree ++ p ∷ []) (AreBuilt work longer first)
+  stand_push seen longer first k nodes more tree p later short grown stand long here =
+      let count : first + length (picked nodes tree) ≡ k = omega (arith, long, length-picked nodes tree (stand.0)) in
+      let together : picked more (tree ++ p ∷ []) ≡ picked nodes tree ++ here.0 ∷ [] =
+      picked-push more tree p here.0 (here.1) ∙ ap (λ bs. bs ++ here.0 ∷ []) (picked_stays nodes more grown tree (stand.0)) in (
+        places_push more tree p (places_stay nodes more grown tree (stand.0)) (slice_get_within more p here.0 (here.1)),
+        subst (AreBuilt work longer first) (sym together)
+            (built_push seen longer first k (picked nodes tree) here.0 later short (stand.1) count (here.2)),
+      )
 
   -- one that was made isn't beyond
   not_beyond : (seen : List MemoEntry) (k : ℕ) (b : Built) → IsBuiltAt work seen k b → ¬ IsBeyondAt work k

@@ -5,18 +5,20 @@
 //! shares it, and leave every subtree in the memo, or the memo full. What [`build_all`] does comes in two halves too: workers
 //! make the plan with [`plan_all`], and whoever has time brings it into the memo with [`publish_plan`], beside the passes that
 //! want the plan alone. A caller that builds one tree after another takes the sites of its plan with [`rebuild_with`], which asks
-//! the memo only for nodes that are neither known of the last tree nor among what was published since. A [`Gate`] is called before each piece of the work, and between a look-up and what is published for it;
+//! the memo only for nodes that are neither known of its trees nor among what was published since. A [`Gate`] is called before each piece of the work, and between a look-up and what is published for it;
 //! no answer depends on it.
 #![tactic(auto)]
 
 mod all;
 mod gate;
 mod hearing;
+mod hints;
 mod known;
 mod making;
 mod node;
 mod part;
 mod pieces;
+mod place;
 mod planning;
 mod publishing;
 mod upward;

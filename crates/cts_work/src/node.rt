@@ -1,17 +1,15 @@
 //! One node over the memo.
 
-ghost use Rattle.std.specs.Prelude.{◌≡◌, ◌+◌, ◌≤◌, List, Some, IfOk, IfErr, IfSome, option_copied};
+ghost use Rattle.std.specs.Prelude.{◌≡◌, ◌+◌, ◌≤◌, Some, IfOk, IfErr};
 ghost use Rattle.cts_merge.specs.Merge.{IsBeyond, IsMerged};
 ghost use Rattle.cts_merge.specs.Side.{IsMergeable};
 ghost use Rattle.cts_up.specs.Sinks.{IsSinkInRange};
 ghost use Rattle.cts_turn.specs.Passes.{seen_by};
 ghost use Rattle.cts_memo.specs.Keys.{pair_key};
 ghost use Rattle.cts_memo.specs.Passes.{IsPassOf, params_of};
-ghost use Rattle.cts_memo.specs.declared.entry.MemoEntry.{MemoEntry};
 ghost use Rattle.cts_memo.specs.Replies.{IsAbsent, IsFound};
 ghost use Rattle.cts_memo.specs.Sound.{IsMadeOf, NamesEntries};
 ghost use Rattle.cts_work.specs.Built.{GoesOn, IsBuiltLeaf, IsKept, IsPairAt};
-ghost use Rattle.cts_work.specs.Known.{MayKnow};
 ghost use Rattle.cts_work.specs.Work.{EndsAt, IsBuiltAt, IsReady, missing_at};
 
 use crate::gate::Gate;
@@ -75,43 +73,14 @@ fn publish<R: Wait, G: Gate>(
     keep(worker.rt, memo, pass, key, finished)
 }
 
-/// What the memo answers for a key, where the worker knows the key's node and its number.
-#[inline(always)]
-fn recall<R, G>(
-    worker: &Worker<'_, '_, R, G>,
-    key: Key,
-    id: Option<u32>,
-    cursor: &mut Option<u32>,
-) -> Option<Answer>
-    ensures { (seen : List MemoEntry) → MayKnow seen (option_copied worker.now.known) → IfSome result (IsFound seen key) }
-{
-    let node = worker.known?.find(key, id, cursor)?;
-    Some(Answer::Have {
-        number: node.number?,
-        finished: node.finished,
-    })
-}
-
-/// What the memo answers for a key: recalled, or asked for. The id is that of a leaf's sink.
-#[inline(always)]
-fn look_up<R: Wait, G: Gate>(
-    worker: &Worker<'_, '_, R, G>,
-    memo: &Memo,
-    pass: &mut MemoPass,
-    key: Key,
-    id: Option<u32>,
-    cursor: &mut Option<u32>,
-) -> Answer
+/// What the memo answers for a key.
+fn look_up<R: Wait>(rt: &R, memo: &Memo, pass: &mut MemoPass, key: Key) -> Answer
     requires own { IsPassOf memo.now pass.old }
     requires key { NamesEntries (seen_by pass.old) key }
-    requires known { MayKnow (seen_by pass.old) (option_copied worker.now.known) }
     ensures pass { GoesOn memo.now pass.old pass.new }
     ensures found { IsFound (seen_by pass.new) key result }
 {
-    match recall(worker, key, id, cursor) {
-        Some(answer) => answer,
-        None => memo.ask(worker.rt, pass, key),
-    }
+    memo.ask(rt, pass, key)
 }
 
 /// The leaf of a sink: looked up, or made and published.
@@ -120,16 +89,14 @@ pub(crate) fn build_leaf<R: Wait, G: Gate>(
     memo: &Memo,
     pass: &mut MemoPass,
     sink: &Sink,
-    cursor: &mut Option<u32>,
 ) -> Result<Built, NoMemory>
     requires own { IsPassOf memo.now pass.old }
     requires sink { IsSinkInRange sink.now }
-    requires known { MayKnow (seen_by pass.old) (option_copied worker.now.known) }
     ensures pass { GoesOn memo.now pass.old pass.new }
     ensures built { IfOk result (IsBuiltLeaf (seen_by pass.new) sink.now) }
 {
     let key = Key::of_sink(sink);
-    let answer = look_up(worker, memo, pass, key, Some(sink.id), cursor);
+    let answer = look_up(worker.rt, memo, pass, key);
     if let Answer::Have { number, finished } = answer {
         return Ok(Built {
             key: Some(key),
@@ -215,7 +182,6 @@ fn ask_pair<L: Ledger, R: Wait, G: Gate>(
     a: &Built,
     b: &Built,
     key: Key,
-    cursor: &mut Option<u32>,
     steps: &mut Steps<L>,
 ) -> Result<Built, UpEnd>
     requires own { IsPassOf work.now.memo.now pass.old }
@@ -224,13 +190,12 @@ fn ask_pair<L: Ledger, R: Wait, G: Gate>(
     requires a { IsBuiltAt work.now (seen_by pass.old) at.left a.now }
     requires b { IsBuiltAt work.now (seen_by pass.old) at.right b.now }
     requires key { pair_key a.now.number b.now.number ≡ Some key }
-    requires known { MayKnow (seen_by pass.old) (option_copied worker.now.known) }
     ensures pass { GoesOn work.now.memo.now pass.old pass.new }
     ensures built { IfOk result (IsBuiltAt work.now (seen_by pass.new) at.node) }
     ensures ends { IfErr result (EndsAt work.now at.node) }
     ensures merges { steps.new ≤ steps.old + missing_at work.now (seen_by pass.old) at.node }
 {
-    match look_up(worker, work.memo, pass, key, None, cursor) {
+    match look_up(worker.rt, work.memo, pass, key) {
         Answer::Have { number, finished } => Ok(Built {
             key: Some(key),
             number: Some(number),
@@ -249,7 +214,6 @@ pub(crate) fn build_pair<L: Ledger, R: Wait, G: Gate>(
     at: PairNumbers,
     a: &Built,
     b: &Built,
-    cursor: &mut Option<u32>,
     steps: &mut Steps<L>,
 ) -> Result<Built, UpEnd>
     requires own { IsPassOf work.now.memo.now pass.old }
@@ -257,14 +221,13 @@ pub(crate) fn build_pair<L: Ledger, R: Wait, G: Gate>(
     requires here { IsPairAt work.now.nodes.now at.node at.left at.right }
     requires a { IsBuiltAt work.now (seen_by pass.old) at.left a.now }
     requires b { IsBuiltAt work.now (seen_by pass.old) at.right b.now }
-    requires known { MayKnow (seen_by pass.old) (option_copied worker.now.known) }
     ensures pass { GoesOn work.now.memo.now pass.old pass.new }
     ensures built { IfOk result (IsBuiltAt work.now (seen_by pass.new) at.node) }
     ensures ends { IfErr result (EndsAt work.now at.node) }
     ensures merges { steps.new ≤ steps.old + missing_at work.now (seen_by pass.old) at.node }
 {
     match Key::of_pair(a.number, b.number) {
-        Some(key) => ask_pair(worker, work, pass, at, a, b, key, cursor, steps),
+        Some(key) => ask_pair(worker, work, pass, at, a, b, key, steps),
         None => match merge_sides(work.memo, &a.finished, &b.finished, steps) {
             Ok(finished) => Ok(Built {
                 key: None,

@@ -1,6 +1,6 @@
 //! The upward pass of one caller over the memo.
 
-ghost use Rattle.std.specs.Prelude.{◌≡◌, ◌+◌, ◌≤◌, ◌⊎◌, All, map, length, option_copied, IfOk, IfErr, OnOk};
+ghost use Rattle.std.specs.Prelude.{◌≡◌, ◌+◌, ◌≤◌, ◌⊎◌, All, map, length, IfOk, IfErr, OnOk};
 ghost use mathlib.Core.List.{IsPrefix};
 ghost use Rattle.cts_topo.specs.Shape.{IsShapeOver};
 ghost use Rattle.cts_up.specs.Ends.{Ends};
@@ -12,10 +12,11 @@ ghost use Rattle.cts_memo.specs.Numbers.{AreKnown, missing};
 ghost use Rattle.cts_memo.specs.Passes.{IsPassOf, params_of};
 ghost use Rattle.cts_memo.specs.Sound.{max_entries};
 ghost use Rattle.cts_work.specs.Built.{GoesOn, IsNoted};
-ghost use Rattle.cts_work.specs.Known.{MayKnow};
+ghost use Rattle.cts_work.specs.Known.{MayKnow, picked};
 
 use crate::gate::Gate;
-use crate::known::{Known, listen};
+use crate::hints::{Hints, leaves_of};
+use crate::known::{Known, nodes_at};
 use crate::node::Built;
 use crate::part::build_part;
 use crate::work::{Work, Worker};
@@ -28,25 +29,29 @@ use std::alloc::{AllocError, Global};
 use std::sync::Wait;
 use std::sync::ledger::Ledger;
 
-/// What the nodes are made of.
+/// What nodes are made of.
 fn finished_of(alloc: Global, built: &[Built]) -> Result<Vec<Finished>, AllocError>
     ensures { IfOk result (λ plan. plan.items ≡ map (λ node. node.finished) built.now) }
 {
     built.iter().map(|node| node.finished).collect(alloc)
 }
 
-/// Where the nodes may stand, and their buffers.
-fn sites_of(alloc: Global, built: &[Built]) -> Result<Vec<Site>, AllocError>
-    ensures { IfOk result (λ sites. sites.items ≡ map (λ node. spec_site_of node.finished) built.now) }
+/// Where the nodes at some places may stand, and their buffers.
+fn sites_at(alloc: Global, nodes: &[Built], places: &[u32]) -> Result<Vec<Site>, AllocError>
+    ensures { IfOk result (λ sites. sites.items ≡ map (λ node. spec_site_of node.finished) (picked nodes.now places.now)) }
 {
-    built
-        .iter()
-        .map(|node| site_of(&node.finished))
-        .collect(alloc)
+    let mut sites = Vec::with_capacity(alloc, places.len())?;
+    for place in places {
+        let Some(node) = nodes.get(*place as usize) else {
+            continue;
+        };
+        sites.push(site_of(&node.finished))?;
+    }
+    Ok(sites)
 }
 
-/// The nodes of a shape over sinks, built by one caller over the memo. It is asked only for those that aren't
-/// known.
+/// The places of the nodes of a shape over sinks, built by one caller over the memo. It is asked only for those that
+/// aren't known, which are put behind those that are.
 fn build_over<L: Ledger, R: Wait, G: Gate>(
     rt: &R,
     alloc: Global,
@@ -56,16 +61,17 @@ fn build_over<L: Ledger, R: Wait, G: Gate>(
     number: u32,
     sinks: &[Sink],
     shape: &Shape,
-    known: Option<&Known>,
+    hints: &Hints,
+    known: &mut Vec<Built>,
     steps: &mut Steps<L>,
-) -> Result<Vec<Built>, UpEnd>
+) -> Result<Vec<u32>, UpEnd>
     requires own { IsPassOf memo.now pass.old }
     requires sinks { AreSinksInRange sinks.now }
     requires shape { IsShapeOver (length sinks.now) shape.now }
-    requires kept { MayKnow (seen_by pass.old) (option_copied known) }
+    requires noted { All (IsNoted (seen_by pass.old)) known.old.items }
     ensures pass { GoesOn memo.now pass.old pass.new }
-    ensures plan { IfOk result (λ built. IsPlan (params_of memo.now) sinks.now shape.now (map (λ node. node.finished) built.items)) }
-    ensures noted { IfOk result (λ built. All (IsNoted (seen_by pass.new)) built.items) }
+    ensures noted { All (IsNoted (seen_by pass.new)) known.new.items }
+    ensures plan { IfOk result (λ tree. IsPlan (params_of memo.now) sinks.now shape.now (map (λ node. node.finished) (picked known.new.items tree.items))) }
     ensures ends { IfErr result (Ends (params_of memo.now) sinks.now shape.now) }
     ensures known { OnOk result ((length (seen_by pass.new) ≡ max_entries) ⊎ AreKnown (seen_by pass.new) sinks.now shape.now) }
     ensures merges { steps.new ≤ steps.old + missing (seen_by pass.old) sinks.now shape.now }
@@ -76,21 +82,21 @@ fn build_over<L: Ledger, R: Wait, G: Gate>(
         rt,
         gate,
         number,
-        known,
+        hints,
     };
     let root = nodes.len() as u32 - 1;
-    match build_part(&worker, &work, alloc, pass, 0, root, steps) {
-        Ok(built) => Ok(built),
+    match build_part(&worker, &work, alloc, pass, 0, root, known, steps) {
+        Ok(tree) => Ok(tree),
         Err(end) => Err(end),
     }
 }
 
 /// The sites of the plan of a shape over sinks, which is that of [`rebuild`]. Where a tree was built before, the
 /// entries that came to the memo since are read first, many in one call, and the memo is asked only for the nodes
-/// that are neither known of that tree nor among these entries.
+/// that are neither known of earlier trees nor among these entries.
 ///
-/// Afterwards the nodes of this tree are known, or none where they are too many or memory runs out. Where
-/// there is no plan those stay that were known before.
+/// Afterwards the nodes of this tree are known too, or none where they are too many or memory runs out. Where
+/// there is no plan those stay that were known before, unless they are more than are kept.
 pub fn rebuild_with<L: Ledger, R: Wait, G: Gate>(
     rt: &R,
     alloc: Global,
@@ -116,19 +122,32 @@ pub fn rebuild_with<L: Ledger, R: Wait, G: Gate>(
     ensures kept { MayKnow (seen_by pass.new) known.new }
     ensures merges { steps.new ≤ steps.old + missing (seen_by pass.old) sinks.now shape.now }
 {
-    listen(rt, alloc, memo, pass, known);
-    let before = known.as_ref();
+    let mut now = known.take().unwrap_or(Known::nothing(alloc));
+    now.listen(rt, alloc, memo, pass);
+    let nodes = shape.nodes();
+    let leaves = leaves_of(alloc, &Work { memo, sinks, nodes });
     match build_over(
-        rt, alloc, memo, pass, gate, number, sinks, shape, before, steps,
+        rt,
+        alloc,
+        memo,
+        pass,
+        gate,
+        number,
+        sinks,
+        shape,
+        &now.hints,
+        &mut now.nodes,
+        steps,
     ) {
-        Ok(built) => {
-            let sites = sites_of(alloc, &built)?;
-            let nodes = shape.nodes();
-            let work = Work { memo, sinks, nodes };
-            *known = Known::of(alloc, &work, built, known.take());
+        Ok(tree) => {
+            let sites = sites_at(alloc, &now.nodes, &tree)?;
+            *known = now.with_tree(alloc, tree, leaves);
             Ok(sites)
         }
-        Err(end) => Err(end),
+        Err(end) => {
+            *known = now.without_tree();
+            Err(end)
+        }
     }
 }
 
@@ -161,10 +180,12 @@ pub fn rebuild<L: Ledger, R: Wait, G: Gate>(
     ensures known { OnOk result ((length (seen_by pass.new) ≡ max_entries) ⊎ AreKnown (seen_by pass.new) sinks.now shape.now) }
     ensures merges { steps.new ≤ steps.old + missing (seen_by pass.old) sinks.now shape.now }
 {
+    let hints = Hints::none(alloc);
+    let mut nodes = Vec::new(alloc);
     match build_over(
-        rt, alloc, memo, pass, gate, number, sinks, shape, None, steps,
+        rt, alloc, memo, pass, gate, number, sinks, shape, &hints, &mut nodes, steps,
     ) {
-        Ok(built) => Ok(finished_of(alloc, &built)?),
+        Ok(tree) => Ok(finished_of(alloc, &nodes_at(alloc, &nodes, &tree)?)?),
         Err(end) => Err(end),
     }
 }

@@ -1,6 +1,6 @@
 //! What is built, and by whom.
 
-use crate::known::Known;
+use crate::hints::Hints;
 use cts_memo::Memo;
 use cts_topo::ShapeNode;
 use cts_units::Sink;
@@ -13,12 +13,12 @@ pub(crate) struct Work<'a> {
     pub(crate) nodes: &'a [ShapeNode],
 }
 
-/// A worker or caller, with its number, the gate at which it can be watched, and what it knows of a tree
-/// that it built before.
+/// A worker or caller, with its number, the gate at which it can be watched, and where the nodes may
+/// stand that it knows.
 #[derive(Drop)]
 pub(crate) struct Worker<'a, 'k, R, G> {
     pub(crate) rt: &'a R,
     pub(crate) gate: &'a G,
     pub(crate) number: u32,
-    pub(crate) known: Option<&'k Known>,
+    pub(crate) hints: &'k Hints,
 }

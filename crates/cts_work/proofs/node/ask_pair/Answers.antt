@@ -9,7 +9,7 @@ use Rattle.cts_work.proofs.Nodes.{goes_further}
 use Rattle.cts_work.proofs.node.ask_pair.Goals as goal
 
 pub look_up-requires-clause-key : goal.look_up-requires-clause-key
-look_up-requires-clause-key g c κs within =
+look_up-requires-clause-key g c =
     names_entries (params_of c.args.work.now.memo.now) c.args.work.now.sinks.now (seen_by c.args.pass.now) (sound_for c.args.work.now.memo.now c.args.pass.now c.requires.own)
     _ _ (Pair c.args.at.left c.args.at.right) c.args.a.now c.args.b.now c.requires.a c.requires.b c.args.key c.requires.key
 
@@ -40,9 +40,6 @@ pub returns-in-Absent-clause-merges : goal.returns-in-Absent-clause-merges
 returns-in-Absent-clause-merges g c =
     missing_earlier (seen_by c.args.pass.now) (seen_by c.look_up.new.pass) c.args.work.now.sinks.now _ c.args.steps.now c.make_pair.new.steps
     c.look_up.ensures.pass.goes_on c.make_pair.ensures.merges
-
-pub look_up-requires-clause-known : goal.look_up-requires-clause-known
-look_up-requires-clause-known g c κs within = c.requires.known
 
 pub returns-in-Have-clause-pass : goal.returns-in-Have-clause-pass
 returns-in-Have-clause-pass g c = c.look_up.ensures.pass

@@ -31,10 +31,10 @@ leaf_of_key params seen sink key f is leaf =
     subst (λ k. IsMadeOf params seen k f) (sym is) made
 
 pub look_up-answer-requires-clause-own : goal.look_up-answer-requires-clause-own
-look_up-answer-requires-clause-own g c κs within = c.requires.own
+look_up-answer-requires-clause-own g c = c.requires.own
 
 pub look_up-answer-requires-clause-key : goal.look_up-answer-requires-clause-key
-look_up-answer-requires-clause-key g c κs within = leaf_names (seen_by c.args.pass.now) c.args.sink.now c.of_sink-key.result c.of_sink-key.ensures
+look_up-answer-requires-clause-key g c = leaf_names (seen_by c.args.pass.now) c.args.sink.now c.of_sink-key.result c.of_sink-key.ensures
 
 pub returns-in-Have-clause-built : goal.returns-in-Have-clause-built
 returns-in-Have-clause-built g c =
@@ -59,9 +59,6 @@ publish-requires-clause-finished g c κs within =
 
 pub returns-in_err-number-clause-built : goal.returns-in_err-number-clause-built
 returns-in_err-number-clause-built g c = IfOk-from_err _ _ (c.from_residual.ensures.0)
-
-pub look_up-answer-requires-clause-known : goal.look_up-answer-requires-clause-known
-look_up-answer-requires-clause-known g c κs within = c.requires.known
 
 pub returns-in-Have-clause-pass : goal.returns-in-Have-clause-pass
 returns-in-Have-clause-pass g c = c.look_up-answer.ensures.pass

@@ -5,7 +5,8 @@ use Rattle.cts_postorder.proofs.Lists.{length_pos}
 use Rattle.cts_turn.specs.Passes.{seen_by}
 use Rattle.cts_work.specs.declared.work.Work.{Work}
 use Rattle.cts_work.specs.Work.{IsReady}
-use Rattle.cts_work.proofs.Noted.{built_noted}
+use Rattle.cts_work.specs.Known.{picked}
+use Rattle.cts_work.proofs.Picked.{length-picked}
 use Rattle.cts_work.proofs.Parts.{whole_part, ends_in_all, merges_in_all, plan_made, all_known}
 use Rattle.cts_work.proofs.upward.build_over.Goals as goal
 
@@ -35,21 +36,18 @@ returns-in-Ok-clause-plan g c =
     let work : Work = record { memo = c.args.memo; sinks = c.args.sinks; nodes = c.nodes-nodes.result } in
     let over = subst (IsShapeOver (length c.args.sinks.now)) (sym c.nodes-nodes.ensures.nodes) c.requires.shape in
     plan_made work c.args.shape.now c.nodes-nodes.ensures.nodes (length c.nodes-nodes.result.now - 1)
-    (omega (arith, length_pos children c.nodes-nodes.result.now over.post_order)) (seen_by c.build_part.new.pass) c.in-Ok.built.items
-    c.in-Ok.ensures.long c.in-Ok.ensures.built _ refl
-
-pub returns-in-Ok-clause-noted : goal.returns-in-Ok-clause-noted
-returns-in-Ok-clause-noted g c =
-    let work : Work = record { memo = c.args.memo; sinks = c.args.sinks; nodes = c.nodes-nodes.result } in
-    built_noted work (seen_by c.build_part.new.pass) c.in-Ok.built.items c.in-Ok.ensures.built
+    (omega (arith, length_pos children c.nodes-nodes.result.now over.post_order)) (seen_by c.build_part.new.pass) (picked c.build_part.new.nodes.items c.in-Ok.tree.items)
+    (omega (arith, c.in-Ok.ensures.long, length-picked c.build_part.new.nodes.items c.in-Ok.tree.items (c.in-Ok.ensures.built.0)))
+    (c.in-Ok.ensures.built.1) _ refl
 
 pub returns-in-Ok-clause-known : goal.returns-in-Ok-clause-known
 returns-in-Ok-clause-known g c =
     let work : Work = record { memo = c.args.memo; sinks = c.args.sinks; nodes = c.nodes-nodes.result } in
     let over = subst (IsShapeOver (length c.args.sinks.now)) (sym c.nodes-nodes.ensures.nodes) c.requires.shape in
     all_known work c.args.shape.now c.nodes-nodes.ensures.nodes (length c.nodes-nodes.result.now - 1)
-    (omega (arith, length_pos children c.nodes-nodes.result.now over.post_order)) (seen_by c.build_part.new.pass) c.in-Ok.built.items
-    c.in-Ok.ensures.long c.in-Ok.ensures.built
+    (omega (arith, length_pos children c.nodes-nodes.result.now over.post_order)) (seen_by c.build_part.new.pass) (picked c.build_part.new.nodes.items c.in-Ok.tree.items)
+    (omega (arith, c.in-Ok.ensures.long, length-picked c.build_part.new.nodes.items c.in-Ok.tree.items (c.in-Ok.ensures.built.0)))
+    (c.in-Ok.ensures.built.1)
 
 pub returns-in-Err-clause-ends : goal.returns-in-Err-clause-ends
 returns-in-Err-clause-ends g c =

@@ -1,0 +1,53 @@
+use Rattle.std.proofs.Common.{sym, subst, ◌∙◌}
+use Rattle.cts_turn.specs.Passes.{seen_by}
+use Rattle.cts_topo.specs.declared.shape.ShapeNode.TheVariants.{Pair}
+use Rattle.cts_memo.specs.Passes.{params_of}
+use Rattle.cts_work.specs.Built.{IsBuilt}
+use Rattle.cts_work.specs.Known.{HasKeyAt, IsAtPlace}
+use Rattle.cts_work.specs.Work.{IsBuiltAt}
+use Rattle.cts_work.proofs.Builts.{at_place_is, known_pair, sound_for}
+use Rattle.cts_work.proofs.Noted.{all_noted_stay}
+use Rattle.cts_work.proofs.place.place_pair.Goals as goal
+
+pub returns-in-Some-find-clause-built : goal.returns-in-Some-find-clause-built
+returns-in-Some-find-clause-built g c =
+    let params = params_of c.args.work.now.memo.now in
+    let sinks = c.args.work.now.sinks.now in
+    let seen = seen_by c.args.pass.now in
+    let nodes = c.args.nodes.now.items in
+    subst (λ t. IsAtPlace nodes (IsBuilt params sinks seen t) c.in-Some-find.place) (sym c.requires.here)
+    (known_pair params sinks seen (sound_for c.args.work.now.memo.now c.args.pass.now c.requires.own) _ _ (Pair c.args.at.left c.args.at.right)
+    c.index-a.result.now c.index-b.result.now
+    (at_place_is (IsBuiltAt c.args.work.now seen c.args.at.left) nodes c.args.left c.index-a.result.now c.requires.left c.index-a.ensures)
+    (at_place_is (IsBuiltAt c.args.work.now seen c.args.at.right) nodes c.args.right c.index-b.result.now c.requires.right c.index-b.ensures)
+    c.in-Some.key (sym c.of_pair.ensures ∙ c.in-Some.is) nodes c.in-Some-find.place c.requires.noted
+    (subst (λ ns. HasKeyAt ns c.in-Some.key c.in-Some-find.place) c.deref.ensures.value c.in-Some-find.ensures))
+
+pub build_pair-requires-clause-a : goal.build_pair-requires-clause-a
+build_pair-requires-clause-a g c κs within =
+    at_place_is (IsBuiltAt c.args.work.now (seen_by c.args.pass.now) c.args.at.left) c.args.nodes.now.items c.args.left c.index-a.result.now
+    c.requires.left c.index-a.ensures
+
+pub build_pair-requires-clause-b : goal.build_pair-requires-clause-b
+build_pair-requires-clause-b g c κs within =
+    at_place_is (IsBuiltAt c.args.work.now (seen_by c.args.pass.now) c.args.at.right) c.args.nodes.now.items c.args.right c.index-b.result.now
+    c.requires.right c.index-b.ensures
+
+pub returns-in_err-add-in-Ok-clause-noted : goal.returns-in_err-add-in-Ok-clause-noted
+returns-in_err-add-in-Ok-clause-noted g c =
+    c.add.ensures.noted (seen_by c.build_pair.new.pass)
+    (all_noted_stay (seen_by c.args.pass.now) (seen_by c.build_pair.new.pass) c.build_pair.ensures.pass.goes_on c.args.nodes.now.items c.requires.noted)
+    c.in-Ok.ensures.built.noted
+
+pub returns-in_ok-add-in-Ok-clause-noted : goal.returns-in_ok-add-in-Ok-clause-noted
+returns-in_ok-add-in-Ok-clause-noted g c =
+    c.add.ensures.noted (seen_by c.build_pair.new.pass)
+    (all_noted_stay (seen_by c.args.pass.now) (seen_by c.build_pair.new.pass) c.build_pair.ensures.pass.goes_on c.args.nodes.now.items c.requires.noted)
+    c.in-Ok.ensures.built.noted
+
+pub returns-in_ok-add-in-Ok-clause-built : goal.returns-in_ok-add-in-Ok-clause-built
+returns-in_ok-add-in-Ok-clause-built g c = (c.in-Ok.pair, c.in_ok-add-in-Ok.ensures.added, c.in-Ok.ensures.built)
+
+pub returns-in-Err-clause-noted : goal.returns-in-Err-clause-noted
+returns-in-Err-clause-noted g c =
+    all_noted_stay (seen_by c.args.pass.now) (seen_by c.build_pair.new.pass) c.build_pair.ensures.pass.goes_on c.args.nodes.now.items c.requires.noted
