@@ -142,7 +142,8 @@ impl<'a> Session<'a> {
     ///
     /// The tree is that of the synthesis by one thread. The memo saves the merges of the pairs that have a
     /// number in it. It is asked only for the nodes that neither the session's last tree had nor anybody
-    /// published since, as far as the session heard of it, and the gate is called with the session's number
+    /// published since, as far as the session heard of it; where a draw without a tree found too much to keep,
+    /// all is forgotten, and the next draw asks for all its nodes. The gate is called with the session's number
     /// where a node is made. Afterwards the memo has a number for every node of the tree, or is full; so it
     /// does where there is no tree, but for a node that is beyond in the plan. No turn is held while the tree
     /// is made.

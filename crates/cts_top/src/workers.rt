@@ -13,21 +13,21 @@ ghost use Rattle.cts_memo.specs.Sound.{IsSound, max_entries};
 ghost use Rattle.cts_memo.specs.Tables.{base_of, told_by};
 ghost use Rattle.cts_top.specs.Memos.{IsKept, IsMemoOf};
 ghost use Rattle.cts_top.specs.Synthesised.{IsSynthesised};
+ghost use Rattle.cts_work.specs.Plans.{nodes_of};
 
 use crate::valid::instance_is_valid;
 use cts_elmore::Figures;
 use cts_instance::Instance;
 use cts_memo::laws::memo_is_shared;
 use cts_memo::{Memo, MemoPass, Secret, Table};
-use cts_merge::Finished;
 use cts_num::NoMemory;
-use cts_plain::{NoTree, finish};
+use cts_plain::{NoTree, finish_sites};
 use cts_topo::Shape;
 use cts_topo_workers::topology_by;
 use cts_tree::Tree;
 use cts_units::Sink;
 use cts_up::UpEnd;
-use cts_work::{Gate, plan_all, publish_plan};
+use cts_work::{Gate, Plan, plan_all, publish_plan};
 use std::alloc::Global;
 use std::sync::Wait;
 use std::thread::{Threads, join};
@@ -44,22 +44,18 @@ fn publish<R: Wait, G: Gate>(
     mut pass: MemoPass,
     instance: &Instance,
     shape: &Shape,
-    plan: &[Finished],
-    workers: u32,
+    plan: &Plan,
 ) -> (Result<(), NoMemory>, MemoPass)
     requires own { IsPassOf memo.now pass }
     requires params { params_of memo.now ≡ instance.now.params }
     requires shape { IsShapeOver (length instance.now.sinks) shape.now }
-    requires plan { IsPlan instance.now.params instance.now.sinks shape.now plan.now }
-    requires few { workers ≤ 64 }
+    requires plan { IsPlan instance.now.params instance.now.sinks shape.now (nodes_of plan.now) }
     ensures own { IsPassOf memo.now result.1 }
     ensures share { share_of result.1 ≡ share_of pass }
     ensures known { OnOk result.0 ((length (seen_by result.1) ≡ max_entries) ⊎ AreKnown (seen_by result.1) instance.now.sinks shape.now) }
 {
     let sinks = instance.sinks();
-    let published = publish_plan(
-        rt, alloc, gate, memo, &mut pass, sinks, shape, plan, workers,
-    );
+    let published = publish_plan(rt, alloc, gate, memo, &mut pass, sinks, shape, plan);
     (published, pass)
 }
 
@@ -83,15 +79,16 @@ fn finish_plan(
     alloc: Global,
     instance: &Instance,
     shape: &Shape,
-    plan: &[Finished],
+    plan: &Plan,
 ) -> Result<(Tree, Figures), NoTree>
     requires definition { shape.now ≡ shape_of instance.now.sinks }
     requires shape { IsShapeOver (length instance.now.sinks) shape.now }
-    requires plan { IsPlan instance.now.params instance.now.sinks shape.now plan.now }
+    requires plan { IsPlan instance.now.params instance.now.sinks shape.now (nodes_of plan.now) }
     ensures { IsSynthesised instance.now result }
 {
     instance_is_valid(instance);
-    finish(alloc, instance, shape, plan)
+    let sites = plan.sites(alloc)?;
+    finish_sites(alloc, instance, shape, &sites)
 }
 
 /// What the plan of an instance comes to, while a thread of its own brings it into the memo.
@@ -103,16 +100,14 @@ fn finish_beside<R: Threads + Wait + Sync, G: Gate>(
     pass: MemoPass,
     instance: &Instance,
     shape: &Shape,
-    plan: &[Finished],
-    workers: u32,
+    plan: &Plan,
 ) -> Result<Made, NoMemory>
     requires definition { shape.now ≡ shape_of instance.now.sinks }
     requires own { IsPassOf memo pass }
     requires whole { share_of pass ≡ 65536 }
     requires params { params_of memo ≡ instance.now.params }
     requires shape { IsShapeOver (length instance.now.sinks) shape.now }
-    requires plan { IsPlan instance.now.params instance.now.sinks shape.now plan.now }
-    requires few { workers ≤ 64 }
+    requires plan { IsPlan instance.now.params instance.now.sinks shape.now (nodes_of plan.now) }
     ensures synthesised { IfOk result (λ made. IsSynthesised instance.now made.0) }
     ensures memo { IfOk result (λ made. IsMemoOf instance.now made.1) }
 {
@@ -120,17 +115,13 @@ fn finish_beside<R: Threads + Wait + Sync, G: Gate>(
     let shared = &memo;
     let bring = move || -> (Result<(), NoMemory>, MemoPass)
         requires { IsPassOf shared.now pass × (params_of shared.now ≡ instance.now.params) × IsShapeOver (length instance.now.sinks) shape.now
-            × IsPlan instance.now.params instance.now.sinks shape.now plan.now × (workers ≤ 64) }
+            × IsPlan instance.now.params instance.now.sinks shape.now (nodes_of plan.now) }
         ensures { IsPassOf shared.entry.now result.1 × (share_of result.1 ≡ share_of pass)
             × OnOk result.0 ((length (seen_by result.1) ≡ max_entries) ⊎ AreKnown (seen_by result.1) instance.entry.now.sinks shape.entry.now) }
-    {
-        publish(
-            rt, alloc, gate, shared, pass, instance, shape, plan, workers,
-        )
-    };
+    { publish(rt, alloc, gate, shared, pass, instance, shape, plan) };
     let go_on = move || -> Result<(Tree, Figures), NoTree>
         requires { (shape.now ≡ shape_of instance.now.sinks) × IsShapeOver (length instance.now.sinks) shape.now
-            × IsPlan instance.now.params instance.now.sinks shape.now plan.now }
+            × IsPlan instance.now.params instance.now.sinks shape.now (nodes_of plan.now) }
         ensures { IsSynthesised instance.entry.now result }
     { finish_plan(alloc, instance, shape, plan) };
     let (published, synthesis) = join(rt, bring, go_on);
@@ -183,7 +174,7 @@ fn make_over<R: Threads + Wait + Sync, G: Gate>(
     let nodes = shape.nodes().len();
     let (memo, pass) = Memo::start_with_room(alloc, instance.params(), secret, nodes)?;
     match plan_all(rt, alloc, &memo, gate, sinks, shape, workers) {
-        Ok(plan) => finish_beside(rt, alloc, gate, memo, pass, instance, shape, &plan, workers),
+        Ok(plan) => finish_beside(rt, alloc, gate, memo, pass, instance, shape, &plan),
         Err(end) => without_plan(instance, shape, memo, pass, end),
     }
 }

@@ -1,5 +1,5 @@
 -- The pieces are put together from left to right, with the pairs above them.
-use Rattle.std.proofs.Common.{◌≡◌, ℕ, ◌+◌, ◌<◌, ◌≤◌, List, drop, length, get_or, slice_get, Option, Some, None, sym, ap, ◌∙◌, subst}
+use Rattle.std.proofs.Common.{◌≡◌, ℕ, ◌+◌, ◌<◌, ◌≤◌, List, [], ◌∷◌, drop, length, get_or, slice_get, Option, Some, None, sym, ap, ◌∙◌, subst, arith}
 use Rattle.std.proofs.lemmas.List.{drop_more, drop_all}
 use Rattle.std.proofs.lemmas.Option.{get_or_from_slice_get}
 use Rattle.cts_topo.specs.declared.shape.ShapeNode.{ShapeNode}
@@ -7,8 +7,9 @@ use Rattle.cts_work.specs.declared.pieces.Piece.{Piece}
 use Rattle.cts_work.specs.declared.work.Work.{Work}
 use Rattle.cts_work.specs.declared.workers.Done.{Done}
 use Rattle.cts_work.specs.Done.{HavePieces, IsDone}
-use Rattle.cts_work.specs.Pieces.{AreInOrder}
+use Rattle.cts_work.specs.Pieces.{AreInOrder, begins_at}
 use Rattle.cts_work.specs.Work.{IsPart}
+use Rattle.cts_work.proofs.Parts.{part_ordered}
 
 module _ (nodes : List ShapeNode) where
   -- the next piece, and those after it
@@ -24,10 +25,31 @@ module _ (nodes : List ShapeNode) where
       let here = subst (λ ps. AreInOrder nodes from ps to) (drop_more pieces k d h) order in
       record { comes = here.0; part = here.1; others = here.2 }
 
-  -- and none is left
-  pub no_piece : (from : ℕ) (pieces : List Piece) (k to : ℕ) → length pieces ≤ k → AreInOrder nodes from (drop k pieces) to → from ≤ to
+  -- pieces begin after those before them
+  pub begins_after : (from : ℕ) (pieces : List Piece) (to : ℕ) → AreInOrder nodes from pieces to → from ≤ begins_at pieces to
   unfolding AreInOrder
-  no_piece from pieces k to h order = subst (λ ps. AreInOrder nodes from ps to) (drop_all k pieces h) order
+  begins_after from [] to order = order
+  begins_after from (p ∷ pieces) to order = order.0
+
+  -- within the nodes
+  pub begins_within : (from : ℕ) (pieces : List Piece) → AreInOrder nodes from pieces (length nodes) → begins_at pieces (length nodes) ≤ length nodes
+  unfolding AreInOrder
+  begins_within from [] order = omega arith
+  begins_within from (p ∷ pieces) order = omega (arith, part_ordered nodes p.first p.root (order.1), order.1.within)
+
+  -- and stand in their order from there on
+  pub begins_order : (from : ℕ) (pieces : List Piece) (to : ℕ) → AreInOrder nodes from pieces to → AreInOrder nodes (begins_at pieces to) pieces to
+  unfolding AreInOrder
+  begins_order from [] to order = omega arith
+  begins_order from (p ∷ pieces) to order = (omega arith, order.1, order.2)
+
+-- the next piece begins where the rest of them does
+pub next_begins : (pieces : List Piece) (k : ℕ) (d : Piece) (to : ℕ) → k < length pieces → begins_at (drop k pieces) to ≡ (get_or pieces k d).first
+next_begins pieces k d to h = ap (λ ps. begins_at ps to) (drop_more pieces k d h)
+
+-- and where there is none all nodes are there
+pub none_begins : (pieces : List Piece) (k to : ℕ) → length pieces ≤ k → begins_at (drop k pieces) to ≡ to
+none_begins pieces k to h = ap (λ ps. begins_at ps to) (drop_all k pieces h)
 
 item_or : Option Done → Done → Done
 item_or (Some d) e = d

@@ -11,7 +11,7 @@ use Rattle.cts_topo.specs.declared.shape.ShapeNode.TheVariants.{Leaf, Pair}
 use Rattle.cts_topo.specs.Shape.{children, IsShapeOver}
 use Rattle.cts_work.specs.declared.pieces.Piece.{Piece}
 use Rattle.cts_work.specs.Built.{tree_at}
-use Rattle.cts_work.specs.Pieces.{piece, pieces_of, AreInOrder}
+use Rattle.cts_work.specs.Pieces.{piece, pieces_of, AreInOrder, begins_at}
 use Rattle.cts_work.specs.Done.{ArePieces}
 use Rattle.cts_work.specs.Work.{IsPart}
 use Rattle.cts_work.proofs.Nodes.{tip_at}
@@ -96,6 +96,24 @@ pieces_few first lots (fork l r n) some =
             pieces_few first (lots - lots / 2) l (omega (arith, many)),
             pieces_few (first + size l) (lots / 2) r (omega (arith, many)),
           )
+    ]
+
+-- the pieces of a tree begin with its first node
+begins_append : (ps qs : List Piece) (to : ℕ) → begins_at (ps ++ qs) to ≡ begins_at ps (begins_at qs to)
+begins_append [] qs to = refl
+begins_append (p ∷ ps) qs to = refl
+
+begins_first : (first lots to : ℕ) (t : BinaryTree ShapeNode) → begins_at (pieces_of first lots t) to ≡ first
+unfolding pieces_of
+begins_first first lots to (tip n) = refl
+begins_first first lots to (fork l r n) =
+    elim (cases_lt lots 2) [
+      | inl few ↦
+          ap (λ ps. begins_at ps to) (one_lot first lots (root_number first (fork l r n)) (fork l r n) few (sym (root_number-next first (fork l r n))))
+      | inr many ↦
+          ap (λ ps. begins_at ps to) (two_parts first lots l r n many)
+          ∙ begins_append (pieces_of first (lots - lots / 2) l) (pieces_of (first + size l) (lots / 2) r) to
+          ∙ begins_first first (lots - lots / 2) (begins_at (pieces_of (first + size l) (lots / 2) r) to) l
     ]
 
 module _ (nodes : List ShapeNode) where
@@ -183,6 +201,9 @@ module _ (nodes : List ShapeNode) where
         (subst (λ l. AreInOrder nodes 0 l (length nodes - 1 + 1)) (sym is)
         (in_order count ok (tree_at nodes (length nodes - 1)) 0 (4 * workers) (length nodes - 1) refl
         (whole_is_part nodes count (length nodes - 1) ok long)))
+
+    pub whole_begins : begins_at ps (length nodes) ≡ 0
+    whole_begins = ap (λ l. begins_at l (length nodes)) is ∙ begins_first 0 (4 * workers) (length nodes) (tree_at nodes (length nodes - 1))
 
     pub whole_pieces : ArePieces nodes ps
     whole_pieces = record {

@@ -12,3 +12,4 @@ pub mod Sent
 pub mod Numbered
 pub mod Picked
 pub mod Told
+pub mod Plans

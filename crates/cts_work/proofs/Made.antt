@@ -1,10 +1,9 @@
 -- Nodes that were made without the memo, one after another.
-use Rattle.std.proofs.Common.{◌≡◌, ℕ, ◌+◌, ◌-◌, ◌<◌, ◌≤◌, inl, inr, List, [], ◌∷◌, ◌++◌, length, get_or, Option, Some, Result, Ok, Err, IfOk, Vec, sym, ap, subst, arith, length-append}
+use Rattle.std.proofs.Common.{◌≡◌, ℕ, ◌+◌, ◌-◌, ◌<◌, ◌≤◌, inl, inr, List, [], ◌∷◌, ◌++◌, length, get_or, Option, Some, Result, Ok, Err, IfOk, sym, ap, subst, arith, length-append}
 use Rattle.std.proofs.lemmas.Bool.{cases_lt}
 use Rattle.std.proofs.lemmas.List.{get_or_at, get_or_append_left, get_or_default}
 use Rattle.std.proofs.Math.Seq.{get_or-append_right}
 use Rattle.std.proofs.lemmas.Option.{slice_get-get_or}
-use Rattle.std.specs.Global.{Global}
 use Rattle.std.specs.Option.{MatchOption}
 use Rattle.cts_units.specs.declared.params.Sink.{Sink}
 use Rattle.cts_postorder.specs.BinaryTree.{tip, fork}
@@ -25,8 +24,10 @@ use Rattle.cts_up.proofs.Sides.{sides_merge}
 use Rattle.cts_up.proofs.Unique.{finished_not_beyond, finished_one}
 use Rattle.cts_memo.specs.Keys.{IsNarrow}
 use Rattle.cts_memo.specs.Passes.{params_of}
+use Rattle.cts_work.specs.declared.plan.Plan.{Plan}
 use Rattle.cts_work.specs.declared.work.Work.{Work}
 use Rattle.cts_work.specs.Built.{IsPairAt, tree_at}
+use Rattle.cts_work.specs.Plans.{nodes_of}
 use Rattle.cts_work.specs.Work.{AreMade, EndsAt, EndsIn, IsBeyondAt, IsMadeAt, IsReady}
 use Rattle.cts_work.proofs.Builts.{params_within}
 use Rattle.cts_work.proofs.Parts.{ends_at}
@@ -38,6 +39,11 @@ module _ (work : Work) where
   made_child first k fs i d made long from below =
       let here : first + (i - first) ≡ i = omega arith in
       subst (λ j. IsMadeAt work j (get_or fs (i - first) d)) here (made.each (i - first) d (omega arith))
+
+  -- and one that was read from its place
+  pub made_read : (first k : ℕ) (fs : List Finished) (i : ℕ) (f : Finished) → ((d : Finished) → f ≡ get_or fs (i - first) d) → AreMade work first fs
+      → first + length fs ≡ k → first ≤ i → i < k → IsMadeAt work i f
+  made_read first k fs i f is made long from below = subst (IsMadeAt work i) (sym (is f)) (made_child first k fs i f made long from below)
 
   -- nothing is made yet
   pub none_made : (first : ℕ) (fs : List Finished) → fs ≡ [] → AreMade work first fs
@@ -112,9 +118,9 @@ module _ (work : Work) where
         (get_or_default (trees_of children work.nodes.now) k (tip (Leaf 0)) d h)
         (from_zero k (get_or fs k e) (made.each k e (omega (arith, length-trees_of children work.nodes.now, long, h)))))
 
-  pub planned : (r : Result (Vec Finished Global) UpEnd) → IfOk r (λ v. length v.items ≡ length work.nodes.now) → IfOk r (λ v. AreMade work 0 v.items)
-      → IfOk r (λ v. IsPlan (params_of work.memo.now) work.sinks.now work.nodes.now v.items)
-  planned (Ok v) long made = plan_of_made v.items long made
+  pub planned : (r : Result Plan UpEnd) → IfOk r (λ v. length (nodes_of v) ≡ length work.nodes.now) → IfOk r (λ v. AreMade work 0 (nodes_of v))
+      → IfOk r (λ v. IsPlan (params_of work.memo.now) work.sinks.now work.nodes.now (nodes_of v))
+  planned (Ok v) long made = plan_of_made (nodes_of v) long made
   planned (Err end) long made = tt
 
   -- a node's side can be merged

@@ -1,5 +1,5 @@
 -- What is known of the nodes of a tree that was built before: it stays known, and answers for the memo.
-use Rattle.std.proofs.Common.{◌≡◌, ℕ, ◌<◌, Bool, true, false, not, true≢false, List, [], ◌∷◌, ◌++◌, length, get_or, slice_get, take, drop, ◌+◌, Option, Some, None, IfSome, All, ◌⊎◌, inl, inr, refl, sym, ap, ◌∙◌, subst, arith, length-append, length-take, length-drop}
+use Rattle.std.proofs.Common.{◌≡◌, ℕ, ◌<◌, Bool, true, false, not, true≢false, List, [], ◌∷◌, ◌++◌, length, get_or, slice_get, take, drop, ◌+◌, Option, Some, None, IfSome, All, inl, inr, refl, sym, ap, ◌∙◌, subst, arith, length-append, length-take, length-drop}
 use mathlib.Core.List.{IsPrefix}
 use Rattle.std.specs.List.{cons_option}
 use Rattle.std.proofs.lemmas.Bool.{cases_lt}

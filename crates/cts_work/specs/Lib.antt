@@ -5,3 +5,4 @@ pub mod Pieces
 pub mod Done
 pub mod Numbered
 pub mod Told
+pub mod Plans

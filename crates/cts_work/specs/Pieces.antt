@@ -21,3 +21,8 @@ pieces_of first lots (fork l r n) =
 unfoldable pub AreInOrder : List ShapeNode → ℕ → List Piece → ℕ → Type 0
 AreInOrder nodes from [] to = from ≤ to
 AreInOrder nodes from (p ∷ pieces) to = (from ≤ p.first) × IsPart nodes p.first p.root × AreInOrder nodes (p.root + 1) pieces to
+
+-- the number of the first node of the first piece, or `to` where there is none
+abbrev pub begins_at : List Piece → ℕ → ℕ
+begins_at [] to = to
+begins_at (p ∷ pieces) to = p.first

@@ -10,8 +10,11 @@ ghost use Rattle.cts_turn.specs.Passes.{seen_by, share_of};
 ghost use Rattle.cts_memo.specs.Numbers.{AreKnown};
 ghost use Rattle.cts_memo.specs.Passes.{IsPassOf, params_of};
 ghost use Rattle.cts_memo.specs.Sound.{max_entries};
+ghost use Rattle.cts_up.specs.declared.end.UpEnd.{UpEnd};
+ghost use Rattle.cts_work.specs.Plans.{nodes_of};
 
 use crate::gate::Gate;
+use crate::plan::Plan;
 use crate::planning::plan_all;
 use crate::publishing::publish_plan;
 use cts_memo::{Memo, MemoPass};
@@ -23,6 +26,14 @@ use cts_up::UpEnd;
 use std::alloc::Global;
 use std::sync::Wait;
 use std::thread::Threads;
+
+/// The nodes of a plan in one list.
+fn listed(alloc: Global, plan: &Plan) -> Result<Vec<Finished>, UpEnd>
+    ensures list { IfOk result (λ list. list.items ≡ nodes_of plan.now) }
+    ensures ends { IfErr result (λ end. end ≡ UpEnd.NoMemory) }
+{
+    Ok(plan.to_list(alloc)?)
+}
 
 /// The plan of a shape over sinks, as the upward pass gives it with the memo's parameters, made by so
 /// many workers beside each other, and then brought into the memo by the caller.
@@ -57,10 +68,8 @@ pub fn build_all<R: Threads + Wait + Sync, G: Gate>(
         Err(end) => return (Err(end), pass),
     };
     let mut pass = pass;
-    match publish_plan(
-        rt, alloc, gate, memo, &mut pass, sinks, shape, &plan, workers,
-    ) {
-        Ok(()) => (Ok(plan), pass),
+    match publish_plan(rt, alloc, gate, memo, &mut pass, sinks, shape, &plan) {
+        Ok(()) => (listed(alloc, &plan), pass),
         Err(NoMemory) => (Err(UpEnd::NoMemory), pass),
     }
 }

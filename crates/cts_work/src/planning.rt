@@ -1,18 +1,20 @@
 //! The plan of a shape, whose pieces workers make.
 
-ghost use Rattle.std.specs.Prelude.{◌≡◌, ◌+◌, ◌-◌, ◌<◌, ◌≤◌, ℕ, [], All, length, IfOk, IfErr};
+ghost use Rattle.std.specs.Prelude.{◌≡◌, ◌+◌, ◌-◌, ◌<◌, ◌≤◌, ◌++◌, ℕ, [], All, drop, length, IfOk, IfErr};
 ghost use Rattle.cts_topo.specs.Shape.{IsShapeOver};
 ghost use Rattle.cts_up.specs.Ends.{Ends};
 ghost use Rattle.cts_up.specs.Plan.{IsPlan};
 ghost use Rattle.cts_up.specs.Sinks.{AreSinksInRange};
 ghost use Rattle.cts_memo.specs.Passes.{params_of};
 ghost use Rattle.cts_work.specs.Done.{AreOnce, ArePieces, HavePieces, IsDone, IsSlot, numbers_of};
-ghost use Rattle.cts_work.specs.Pieces.{AreInOrder};
+ghost use Rattle.cts_work.specs.Pieces.{AreInOrder, begins_at};
+ghost use Rattle.cts_work.specs.Plans.{joined, nodes_of};
 ghost use Rattle.cts_work.specs.Work.{AreMade, EndsIn, IsPart, IsReady};
 
 use crate::gate::Gate;
-use crate::making::make_node;
+use crate::making::{Made, make_node};
 use crate::pieces::{Piece, pieces_for};
+use crate::plan::{Plan, PlanPart};
 use crate::work::Work;
 use crate::workers::{Done, make_pieces};
 use cts_memo::Memo;
@@ -46,103 +48,140 @@ fn by_number(
     Ok(slots)
 }
 
-/// The pairs above the pieces, from the next node up to, and without, `to`.
+/// The pairs above a piece, from the number `from` up to, and without, `to`.
 fn make_above<L: Ledger>(
     work: &Work<'_>,
+    from: u32,
     to: u32,
-    plan: &mut Vec<Finished>,
+    parts: &[PlanPart],
+    part: &mut Vec<Finished>,
     steps: &mut Steps<L>,
 ) -> Result<(), UpEnd>
     requires ready { IsReady work.now }
-    requires from { length plan.old.items ≤ to }
+    requires from { length (joined parts.now ++ part.old.items) ≡ from }
+    requires order { from ≤ to }
     requires to { to ≤ length work.now.nodes.now }
-    requires made { AreMade work.now 0 plan.old.items }
-    ensures long { IfOk result (λ _. length plan.new.items ≡ to) }
-    ensures made { IfOk result (λ _. AreMade work.now 0 plan.new.items) }
+    requires made { AreMade work.now 0 (joined parts.now ++ part.old.items) }
+    ensures long { IfOk result (λ _. length (joined parts.now ++ part.new.items) ≡ to) }
+    ensures made { IfOk result (λ _. AreMade work.now 0 (joined parts.now ++ part.new.items)) }
     ensures ends { IfErr result (EndsIn work.now 0 (length work.now.nodes.now - 1)) }
 {
-    for node in plan.len() as u32..to {
-        match make_node(work, 0, node, plan.as_slice(), steps) {
-            Ok(next) => plan.push(next)?,
+    for node in from..to {
+        let before = Made {
+            parts,
+            part: part.as_slice(),
+        };
+        match make_node(work, 0, node, before, steps) {
+            Ok(next) => part.push(next)?,
             Err(end) => return Err(end),
         }
     }
     Ok(())
 }
 
-/// The nodes up to the root of a piece: the pairs before the piece, and then its own nodes.
+/// A part more: the nodes of a piece, and the pairs above it up to, and without, `to`.
 fn add_piece<L: Ledger>(
     work: &Work<'_>,
     piece: Piece,
-    made: Result<Vec<Finished>, UpEnd>,
-    plan: &mut Vec<Finished>,
+    done: Done,
+    to: u32,
+    parts: &mut Vec<PlanPart>,
     steps: &mut Steps<L>,
 ) -> Result<(), UpEnd>
     requires ready { IsReady work.now }
     requires part { IsPart work.now.nodes.now piece.first piece.root }
-    requires long { IfOk made (λ part. piece.first + length part.items ≡ piece.root + 1) }
-    requires made { IfOk made (λ part. AreMade work.now piece.first part.items) }
-    requires ended { IfErr made (EndsIn work.now piece.first piece.root) }
-    requires from { length plan.old.items ≤ piece.first }
-    requires plan { AreMade work.now 0 plan.old.items }
-    ensures long { IfOk result (λ _. length plan.new.items ≡ piece.root + 1) }
-    ensures made { IfOk result (λ _. AreMade work.now 0 plan.new.items) }
+    requires long { IfOk done.made (λ nodes. piece.first + length nodes.items ≡ piece.root + 1) }
+    requires made { IfOk done.made (λ nodes. AreMade work.now piece.first nodes.items) }
+    requires ended { IfErr done.made (EndsIn work.now piece.first piece.root) }
+    requires from { length (joined parts.old.items) ≡ piece.first }
+    requires order { piece.root < to }
+    requires to { to ≤ length work.now.nodes.now }
+    requires parts { AreMade work.now 0 (joined parts.old.items) }
+    ensures long { IfOk result (λ _. length (joined parts.new.items) ≡ to) }
+    ensures made { IfOk result (λ _. AreMade work.now 0 (joined parts.new.items)) }
     ensures ends { IfErr result (EndsIn work.now 0 (length work.now.nodes.now - 1)) }
 {
-    make_above(work, piece.first, plan, steps)?;
+    let Done { number, made } = done;
     match made {
-        Ok(mut part) => Ok(plan.append(&mut part)?),
+        Ok(mut nodes) => {
+            make_above(
+                work,
+                piece.root + 1,
+                to,
+                parts.as_slice(),
+                &mut nodes,
+                steps,
+            )?;
+            Ok(parts.push(PlanPart {
+                piece: number,
+                nodes,
+            })?)
+        }
         Err(end) => Err(end),
     }
 }
 
-/// The nodes up to the root of the last piece: those of the pieces, and the pairs between them.
+/// The number of the first node of the piece that follows, or of all nodes where none does.
+fn next_first(work: &Work<'_>, pieces: &[Piece], number: usize) -> u32
+    requires ready { IsReady work.now }
+    requires number { number < length pieces.now }
+    ensures { result ≡ begins_at (drop (number + 1) pieces.now) (length work.now.nodes.now) }
+{
+    match pieces.get(number + 1) {
+        Some(next) => next.first,
+        None => work.nodes.len() as u32,
+    }
+}
+
+/// The parts of the whole plan.
 fn add_pieces<L: Ledger>(
     work: &Work<'_>,
     pieces: &[Piece],
     slots: &mut Vec<Option<Done>>,
-    plan: &mut Vec<Finished>,
+    parts: &mut Vec<PlanPart>,
     steps: &mut Steps<L>,
 ) -> Result<(), UpEnd>
     requires ready { IsReady work.now }
     requires pieces { ArePieces work.now.nodes.now pieces.now }
     requires order { AreInOrder work.now.nodes.now 0 pieces.now (length work.now.nodes.now) }
+    requires begin { begins_at pieces.now (length work.now.nodes.now) ≡ 0 }
     requires slots { HavePieces work.now pieces.now slots.old.items }
-    requires none { plan.old.items ≡ [] }
-    ensures within { IfOk result (λ _. length plan.new.items ≤ length work.now.nodes.now) }
-    ensures made { IfOk result (λ _. AreMade work.now 0 plan.new.items) }
+    requires none { parts.old.items ≡ [] }
+    ensures long { IfOk result (λ _. length (joined parts.new.items) ≡ length work.now.nodes.now) }
+    ensures made { IfOk result (λ _. AreMade work.now 0 (joined parts.new.items)) }
     ensures ends { IfErr result (EndsIn work.now 0 (length work.now.nodes.now - 1)) }
 {
     for number in 0..pieces.len() {
-        let Some(Done { made, .. }) = slots[number].take() else {
+        let Some(done) = slots[number].take() else {
             unreachable!()
         };
-        add_piece(work, pieces[number], made, plan, steps)?;
+        let to = next_first(work, pieces, number);
+        add_piece(work, pieces[number], done, to, parts, steps)?;
     }
     Ok(())
 }
 
-/// The nodes of the whole shape.
+/// The plan of the whole shape.
 fn complete<L: Ledger>(
     alloc: Global,
     work: &Work<'_>,
     pieces: &[Piece],
     mut slots: Vec<Option<Done>>,
     steps: &mut Steps<L>,
-) -> Result<Vec<Finished>, UpEnd>
+) -> Result<Plan, UpEnd>
     requires ready { IsReady work.now }
     requires pieces { ArePieces work.now.nodes.now pieces.now }
     requires order { AreInOrder work.now.nodes.now 0 pieces.now (length work.now.nodes.now) }
+    requires begin { begins_at pieces.now (length work.now.nodes.now) ≡ 0 }
     requires slots { HavePieces work.now pieces.now slots.items }
-    ensures long { IfOk result (λ plan. length plan.items ≡ length work.now.nodes.now) }
-    ensures made { IfOk result (λ plan. AreMade work.now 0 plan.items) }
+    ensures long { IfOk result (λ plan. length (nodes_of plan) ≡ length work.now.nodes.now) }
+    ensures made { IfOk result (λ plan. AreMade work.now 0 (nodes_of plan)) }
     ensures ends { IfErr result (EndsIn work.now 0 (length work.now.nodes.now - 1)) }
 {
-    let mut plan = Vec::with_capacity(alloc, work.nodes.len())?;
-    add_pieces(work, pieces, &mut slots, &mut plan, steps)?;
-    let end = work.nodes.len() as u32;
-    make_above(work, end, &mut plan, steps)?;
-    Ok(plan)
+    let mut parts = Vec::with_capacity(alloc, pieces.len())?;
+    add_pieces(work, pieces, &mut slots, &mut parts, steps)?;
+    let count = work.nodes.len();
+    Ok(Plan { parts, count })
 }
 
 /// The plan of the shape, once its pieces are done. The merges of the pairs above them are counted.
@@ -152,16 +191,17 @@ fn plan_counted<L: Ledger>(
     pieces: &[Piece],
     done: Vec<Done>,
     blank: Blank,
-) -> Result<Vec<Finished>, UpEnd>
+) -> Result<Plan, UpEnd>
     requires name { blank.name ≡ L.name }
     requires parts { blank.parts ≡ L.parts }
     requires some { 0 < L.parts }
     requires ready { IsReady work.now }
     requires pieces { ArePieces work.now.nodes.now pieces.now }
     requires order { AreInOrder work.now.nodes.now 0 pieces.now (length work.now.nodes.now) }
+    requires begin { begins_at pieces.now (length work.now.nodes.now) ≡ 0 }
     requires done { All (IsDone work.now pieces.now) done.items }
     requires once { AreOnce (length pieces.now) (numbers_of done.items) }
-    ensures plan { IfOk result (λ plan. IsPlan (params_of work.now.memo.now) work.now.sinks.now work.now.nodes.now plan.items) }
+    ensures plan { IfOk result (λ plan. IsPlan (params_of work.now.memo.now) work.now.sinks.now work.now.nodes.now (nodes_of plan)) }
     ensures ends { IfErr result (Ends (params_of work.now.memo.now) work.now.sinks.now work.now.nodes.now) }
 {
     let slots = by_number(alloc, pieces.len(), done)?;
@@ -170,18 +210,14 @@ fn plan_counted<L: Ledger>(
 }
 
 /// The plan of the shape, once its pieces are done.
-fn plan_of(
-    alloc: Global,
-    work: &Work<'_>,
-    pieces: &[Piece],
-    done: Vec<Done>,
-) -> Result<Vec<Finished>, UpEnd>
+fn plan_of(alloc: Global, work: &Work<'_>, pieces: &[Piece], done: Vec<Done>) -> Result<Plan, UpEnd>
     requires ready { IsReady work.now }
     requires pieces { ArePieces work.now.nodes.now pieces.now }
     requires order { AreInOrder work.now.nodes.now 0 pieces.now (length work.now.nodes.now) }
+    requires begin { begins_at pieces.now (length work.now.nodes.now) ≡ 0 }
     requires done { All (IsDone work.now pieces.now) done.items }
     requires once { AreOnce (length pieces.now) (numbers_of done.items) }
-    ensures plan { IfOk result (λ plan. IsPlan (params_of work.now.memo.now) work.now.sinks.now work.now.nodes.now plan.items) }
+    ensures plan { IfOk result (λ plan. IsPlan (params_of work.now.memo.now) work.now.sinks.now work.now.nodes.now (nodes_of plan)) }
     ensures ends { IfErr result (Ends (params_of work.now.memo.now) work.now.sinks.now work.now.nodes.now) }
 {
     plan_counted::<Brand>(alloc, work, pieces, done, Blank::new(1))
@@ -195,7 +231,8 @@ fn plan_of(
 /// part of one lot, or a leaf, is a piece. Pieces are numbered from the left, from 0. Each worker makes
 /// pieces, each of the next number that nobody drew, until none is left. A worker whose piece is beyond
 /// goes on with the next one; a worker that finds no memory draws no more, and then the whole answer is
-/// `NoMemory`. Once the workers are done the caller makes the pairs above the pieces. `Beyond` is exactly
+/// `NoMemory`. Once the workers are done the caller makes the pairs above the pieces. The nodes of a piece stay where its
+/// worker made them. `Beyond` is exactly
 /// that of the upward pass. Where no thread can be made the workers run one after another.
 pub fn plan_all<R: Threads + Sync, G: Gate>(
     rt: &R,
@@ -205,12 +242,12 @@ pub fn plan_all<R: Threads + Sync, G: Gate>(
     sinks: &[Sink],
     shape: &Shape,
     workers: u32,
-) -> Result<Vec<Finished>, UpEnd>
+) -> Result<Plan, UpEnd>
     requires some { 1 ≤ workers }
     requires few { workers ≤ 64 }
     requires sinks { AreSinksInRange sinks.now }
     requires shape { IsShapeOver (length sinks.now) shape.now }
-    ensures plan { IfOk result (λ plan. IsPlan (params_of memo.now) sinks.now shape.now plan.items) }
+    ensures plan { IfOk result (λ plan. IsPlan (params_of memo.now) sinks.now shape.now (nodes_of plan)) }
     ensures ends { IfErr result (Ends (params_of memo.now) sinks.now shape.now) }
 {
     let nodes = shape.nodes();

@@ -1,6 +1,6 @@
 //! A plan is brought into the memo.
 
-ghost use Rattle.std.specs.Prelude.{◌≡◌, ◌+◌, ◌^◌, ◌<◌, ◌≤◌, ◌⊎◌, List, length, IfOk, IfSome, OnOk};
+ghost use Rattle.std.specs.Prelude.{◌≡◌, ◌+◌, ◌-◌, ◌<◌, ◌≤◌, ◌⊎◌, List, length, IfOk, IfSome, OnOk};
 ghost use mathlib.Core.List.{IsPrefix};
 ghost use Rattle.cts_merge.specs.Merge.{IsLeaf};
 ghost use Rattle.cts_topo.specs.Shape.{IsShapeOver};
@@ -14,12 +14,13 @@ ghost use Rattle.cts_memo.specs.Passes.{IsPassOf, params_of};
 ghost use Rattle.cts_memo.specs.Sound.{IsMadeOf, NamesEntries, max_entries};
 ghost use Rattle.cts_work.specs.Built.{GoesOn, IsKept, IsPairAt, tree_at};
 ghost use Rattle.cts_work.specs.Numbered.{AreNumbered, HasNumber};
+ghost use Rattle.cts_work.specs.Plans.{nodes_of};
 ghost use Rattle.cts_work.specs.Told.{HoldsFor, MayTell, TellsTrue};
-ghost use Rattle.cts_work.specs.Work.{IsMadeAt, IsReady};
+ghost use Rattle.cts_work.specs.Work.{AreMade, IsMadeAt, IsReady};
 
 use crate::gate::Gate;
 use crate::node::{PairNumbers, keep};
-use crate::pieces::{Piece, pieces_for};
+use crate::plan::Plan;
 use crate::work::Work;
 use cts_memo::{Answer, Key, Memo, MemoPass, Part, Query, Question};
 use cts_merge::Finished;
@@ -212,14 +213,14 @@ fn part_named(before: &[Brought], part: u32) -> Part {
     }
 }
 
-/// The question for a node of the stretch that begins after these.
-fn question_for(work: &Work<'_>, plan: &[Finished], before: &[Brought], node: usize) -> Question
+/// The question for a node of the stretch that begins after these, by what it is made of.
+fn question_for(work: &Work<'_>, finished: &Finished, before: &[Brought], node: usize) -> Question
     requires ready { IsReady work.now }
-    requires plan { IsPlan (params_of work.now.memo.now) work.now.sinks.now work.now.nodes.now plan.now }
     requires node { node < length work.now.nodes.now }
+    requires made { IsMadeAt work.now node finished.now }
 {
     Question::new(match work.nodes[node] {
-        ShapeNode::Leaf { .. } => Query::of_key(Key::of_leaf(&plan[node])),
+        ShapeNode::Leaf { .. } => Query::of_key(Key::of_leaf(finished)),
         ShapeNode::Pair { left, right } => Query::Pair {
             left: part_named(before, left),
             right: part_named(before, right),
@@ -227,70 +228,103 @@ fn question_for(work: &Work<'_>, plan: &[Finished], before: &[Brought], node: us
     })
 }
 
-/// Asks for the nodes of the stretch that begins after these, in one call of the memo. The list that is
-/// handed in is used again.
+/// Asks for the next nodes of a part, so many as a stretch has, in one call of the memo. The list that is handed in
+/// is used again.
 fn ask_stretch<R: Wait>(
     rt: &R,
     work: &Work<'_>,
-    plan: &[Finished],
+    part: &[Finished],
+    from: usize,
     pass: &mut MemoPass,
     before: &[Brought],
     mut questions: Vec<Question>,
 ) -> Result<Vec<Question>, NoMemory>
     requires own { IsPassOf work.now.memo.now pass.old }
     requires ready { IsReady work.now }
-    requires plan { IsPlan (params_of work.now.memo.now) work.now.sinks.now work.now.nodes.now plan.now }
-    requires before { length before.now ≤ length work.now.nodes.now }
+    requires from { from ≤ length part.now }
+    requires within { length before.now + (length part.now - from) ≤ length work.now.nodes.now }
+    requires first { from ≤ length before.now }
+    requires made { AreMade work.now (length before.now - from) part.now }
     ensures pass { GoesOn work.now.memo.now pass.old pass.new }
     ensures told { IfOk result (λ told. MayTell (seen_by pass.new) told.items) }
 {
     questions.clear();
-    let end = work.nodes.len().min(before.len().saturating_add(STRETCH));
-    for node in before.len()..end {
-        questions.push(question_for(work, plan, before, node))?;
+    let first = before.len() - from;
+    let to = part.len().min(from.saturating_add(STRETCH));
+    for place in from..to {
+        let next = question_for(work, &part[place], before, first + place);
+        questions.push(next)?;
     }
     Ok(work.memo.ask_all(rt, pass, questions))
 }
 
-/// What is told of the stretch in which a node stands: it is asked for at the first node of the stretch.
+/// What is told of the stretch in which a node of a part stands: it is asked for at the first node of the stretch.
 #[inline(always)]
 fn stretch_told<R: Wait>(
     rt: &R,
     work: &Work<'_>,
-    plan: &[Finished],
+    part: &[Finished],
+    place: usize,
     pass: &mut MemoPass,
-    node: u32,
     before: &[Brought],
     told: Vec<Question>,
 ) -> Result<Vec<Question>, NoMemory>
     requires own { IsPassOf work.now.memo.now pass.old }
     requires ready { IsReady work.now }
-    requires plan { IsPlan (params_of work.now.memo.now) work.now.sinks.now work.now.nodes.now plan.now }
-    requires before { length before.now ≤ length work.now.nodes.now }
+    requires place { place ≤ length part.now }
+    requires within { length before.now + (length part.now - place) ≤ length work.now.nodes.now }
+    requires first { place ≤ length before.now }
+    requires made { AreMade work.now (length before.now - place) part.now }
     requires told { MayTell (seen_by pass.old) told.items }
     ensures pass { GoesOn work.now.memo.now pass.old pass.new }
     ensures told { IfOk result (λ told. MayTell (seen_by pass.new) told.items) }
 {
-    if node as usize % STRETCH == 0 {
-        ask_stretch(rt, work, plan, pass, before, told)
+    if place % STRETCH == 0 {
+        ask_stretch(rt, work, part, place, pass, before, told)
     } else {
         Ok(told)
     }
 }
 
-/// The number of the piece in which a leaf stands, by that of the node before it.
-fn piece_at(pieces: &[Piece], before: u32, node: u32) -> u32
-    requires { before < 2 ^ 31 }
-    ensures { result ≤ before + 1 }
+/// The nodes of a part of a plan, brought into the memo one after another. The list of what is told is used again.
+fn bring_part<R: Wait, G: Gate>(
+    rt: &R,
+    gate: &G,
+    work: &Work<'_>,
+    pass: &mut MemoPass,
+    piece: u32,
+    part: &[Finished],
+    before: &mut Vec<Brought>,
+    mut told: Vec<Question>,
+) -> Result<Vec<Question>, NoMemory>
+    requires own { IsPassOf work.now.memo.now pass.old }
+    requires ready { IsReady work.now }
+    requires within { length before.old.items + length part.now ≤ length work.now.nodes.now }
+    requires made { AreMade work.now (length before.old.items) part.now }
+    requires before { AreNumbered (seen_by pass.old) work.now.sinks.now work.now.nodes.now before.old.items }
+    requires told { MayTell (seen_by pass.old) told.items }
+    ensures pass { GoesOn work.now.memo.now pass.old pass.new }
+    ensures long { OnOk result (length before.new.items ≡ length before.old.items + length part.now) }
+    ensures before { OnOk result (AreNumbered (seen_by pass.new) work.now.sinks.now work.now.nodes.now before.new.items) }
+    ensures told { IfOk result (λ told. MayTell (seen_by pass.new) told.items) }
 {
-    let Some(next) = pieces.get(before as usize + 1) else {
-        return before;
-    };
-    if next.first <= node {
-        before + 1
-    } else {
-        before
+    let first = before.len();
+    for place in 0..part.len() {
+        told = stretch_told(rt, work, part, place, pass, before.as_slice(), told)?;
+        let next = bring_node(
+            rt,
+            gate,
+            work,
+            pass,
+            (first + place) as u32,
+            piece,
+            before.as_slice(),
+            told.get(place % STRETCH),
+            &part[place],
+        )?;
+        before.push(next)?;
     }
+    Ok(told)
 }
 
 /// The nodes of a plan, brought into the memo one after another.
@@ -300,48 +334,41 @@ fn bring_nodes<R: Wait, G: Gate>(
     gate: &G,
     work: &Work<'_>,
     pass: &mut MemoPass,
-    pieces: &[Piece],
-    plan: &[Finished],
+    plan: &Plan,
 ) -> Result<(), NoMemory>
     requires own { IsPassOf work.now.memo.now pass.old }
     requires ready { IsReady work.now }
-    requires plan { IsPlan (params_of work.now.memo.now) work.now.sinks.now work.now.nodes.now plan.now }
+    requires long { length (nodes_of plan.now) ≡ length work.now.nodes.now }
+    requires made { AreMade work.now 0 (nodes_of plan.now) }
     ensures pass { GoesOn work.now.memo.now pass.old pass.new }
     ensures known { OnOk result ((length (seen_by pass.new) ≡ max_entries) ⊎ AreKnown (seen_by pass.new) work.now.sinks.now work.now.nodes.now) }
 {
-    let mut before = Vec::with_capacity(alloc, plan.len())?;
-    let mut told = Vec::with_capacity(alloc, plan.len().min(STRETCH))?;
-    let mut piece = 0;
-    for node in 0..plan.len() as u32 {
-        told = stretch_told(rt, work, plan, pass, node, before.as_slice(), told)?;
-        piece = piece_at(pieces, piece, node);
-        let next = bring_node(
+    let mut before = Vec::with_capacity(alloc, work.nodes.len())?;
+    let mut told = Vec::with_capacity(alloc, work.nodes.len().min(STRETCH))?;
+    for number in 0..plan.parts.len() {
+        let part = &plan.parts[number];
+        told = bring_part(
             rt,
             gate,
             work,
             pass,
-            node,
-            piece,
-            before.as_slice(),
-            told.get(node as usize % STRETCH),
-            &plan[node as usize],
+            part.piece,
+            &part.nodes,
+            &mut before,
+            told,
         )?;
-        before.push(next)?;
     }
     Ok(())
 }
 
 /// Brings a plan of a shape over sinks into the memo with whose parameters it was made.
 ///
-/// The caller alone goes through the nodes in their order, in stretches of 1,024: those of a stretch are all
-/// asked for in one call of the memo, and then each takes its number where the memo has it; where it is
+/// The caller alone goes through the nodes in their order, in stretches of 1,024 nodes of a piece: those of a stretch are
+/// all asked for in one call of the memo, and then each takes its number where the memo has it; where it is
 /// absent, the gate's `between` is called with the number of its piece, outside every turn, and the node is
-/// published. The pieces are those that [`plan_all`] makes for as many workers, and a pair above them has the
-/// number of its leftmost one. Nothing is looked up or published above a node that the memo had no room for.
-/// `NoMemory` comes where an allocation fails, or the table could not grow; what was published stays in the
-/// memo.
-///
-/// [`plan_all`]: crate::plan_all
+/// published. A pair above the pieces has the number of its leftmost one. Nothing is looked up or published above a node
+/// that the memo had no room for. `NoMemory` comes where an allocation fails, or the table could not grow; what was
+/// published stays in the memo.
 pub fn publish_plan<R: Wait, G: Gate>(
     rt: &R,
     alloc: Global,
@@ -350,21 +377,18 @@ pub fn publish_plan<R: Wait, G: Gate>(
     pass: &mut MemoPass,
     sinks: &[Sink],
     shape: &Shape,
-    plan: &[Finished],
-    workers: u32,
+    plan: &Plan,
 ) -> Result<(), NoMemory>
     requires own { IsPassOf memo.now pass.old }
-    requires few { workers ≤ 64 }
     requires sinks { AreSinksInRange sinks.now }
     requires shape { IsShapeOver (length sinks.now) shape.now }
-    requires plan { IsPlan (params_of memo.now) sinks.now shape.now plan.now }
+    requires plan { IsPlan (params_of memo.now) sinks.now shape.now (nodes_of plan.now) }
     ensures own { IsPassOf memo.now pass.new }
     ensures share { share_of pass.new ≡ share_of pass.old }
     ensures goes_on { IsPrefix (seen_by pass.old) (seen_by pass.new) }
     ensures known { OnOk result ((length (seen_by pass.new) ≡ max_entries) ⊎ AreKnown (seen_by pass.new) sinks.now shape.now) }
 {
     let nodes = shape.nodes();
-    let pieces = pieces_for(alloc, nodes, sinks.len(), workers)?;
     let work = Work { memo, sinks, nodes };
-    bring_nodes(rt, alloc, gate, &work, pass, &pieces, plan)
+    bring_nodes(rt, alloc, gate, &work, pass, plan)
 }

@@ -26,11 +26,11 @@ make_node-requires-clause-starts g c =
     c.requires.part c.loop-node.invariant.from (omega (arith, c.loop-node-test.true))
 
 pub make_node-requires-clause-long : goal.make_node-requires-clause-long
-make_node-requires-clause-long g c = omega (arith, c.loop-node.invariant.long, ap length c.as_slice.ensures.value)
+make_node-requires-clause-long g c = omega (arith, c.loop-node.invariant.long, ap length c.as_slice-part.ensures.value)
 
 pub make_node-requires-clause-before : goal.make_node-requires-clause-before
 make_node-requires-clause-before g c =
-    subst (AreMade c.args.work.now c.args.first) (sym c.as_slice.ensures.value) c.loop-node.invariant.made
+    subst (AreMade c.args.work.now c.args.first) (sym c.as_slice-part.ensures.value) c.loop-node.invariant.made
 
 pub returns-in-Err-clause-ends : goal.returns-in-Err-clause-ends
 returns-in-Err-clause-ends g c =

@@ -3,7 +3,6 @@ use Rattle.std.proofs.lemmas.List.{get_or_default}
 use Rattle.cts_turn.specs.Passes.{seen_by}
 use Rattle.cts_memo.specs.Passes.{params_of}
 use Rattle.cts_topo.proofs.Counts.{leaf_within}
-use Rattle.cts_work.specs.Work.{IsBuiltAt}
 use Rattle.cts_work.specs.Built.{IsBuilt}
 use Rattle.cts_work.proofs.Nodes.{tip_at, pair_at_number, child_within, leaf_built}
 use Rattle.cts_work.specs.Known.{IsAtPlace}

@@ -1,7 +1,6 @@
-use Rattle.std.proofs.Common.{◌≡◌, List, ap, sym, subst}
+use Rattle.std.proofs.Common.{subst}
 use Rattle.cts_turn.specs.Passes.{seen_by}
 use Rattle.cts_memo.specs.Passes.{params_of}
-use Rattle.cts_work.specs.declared.node.Built.{Built}
 use Rattle.cts_work.specs.Known.{HasKeyAt}
 use Rattle.cts_work.proofs.Builts.{known_leaf, sound_for}
 use Rattle.cts_work.proofs.Noted.{all_noted_stay}

@@ -1,4 +1,5 @@
-use Rattle.std.proofs.Common.{◌-◌, ◌∷◌, [], length, sym, ap, subst, arith, length-append}
+use Rattle.std.proofs.Common.{◌-◌, ◌∷◌, [], ◌++◌, length, sym, ap, ◌∙◌, subst, append_assoc, arith, length-append}
+use Rattle.cts_work.specs.Plans.{joined}
 use Rattle.cts_work.specs.Work.{AreMade}
 use Rattle.cts_work.proofs.Parts.{starts_first}
 use Rattle.cts_work.proofs.Made.{made_push, made_end}
@@ -10,25 +11,29 @@ make_node-requires-clause-starts g c =
     (omega (arith, c.loop-node-test.true, c.requires.to))
 
 pub make_node-requires-clause-long : goal.make_node-requires-clause-long
-make_node-requires-clause-long g c = omega (arith, c.loop-node.invariant.long, ap length c.as_slice.ensures.value)
+make_node-requires-clause-long g c =
+    omega (arith, c.loop-node.invariant.long, ap (λ l. length (joined c.args.parts.now ++ l)) c.as_slice.ensures.value)
 
 pub make_node-requires-clause-before : goal.make_node-requires-clause-before
 make_node-requires-clause-before g c =
-    subst (AreMade c.args.work.now 0) (sym c.as_slice.ensures.value) c.loop-node.invariant.made
+    subst (λ l. AreMade c.args.work.now 0 (joined c.args.parts.now ++ l)) (sym c.as_slice.ensures.value) c.loop-node.invariant.made
 
 pub returns-in-Err-clause-ends : goal.returns-in-Err-clause-ends
 returns-in-Err-clause-ends g c =
-    made_end c.args.work.now 0 c.loop-node.node (length c.args.work.now.nodes.now - 1) c.loop-node.plan.items c.in-Err.end
+    made_end c.args.work.now 0 c.loop-node.node (length c.args.work.now.nodes.now - 1) (joined c.args.parts.now ++ c.loop-node.part.items) c.in-Err.end
     c.loop-node.invariant.made (omega (arith, c.loop-node.invariant.long)) (omega (arith, c.loop-node-test.true, c.requires.to)) c.in-Err.ensures.ends
 
 pub loop-node-preserved : goal.loop-node-preserved
 loop-node-preserved g c =
-    let items = c.in_ok-push-in-Ok.ensures.items in
+    let before = joined c.args.parts.now ++ c.loop-node.part.items in
+    let more = c.in-Ok.next ∷ [] in
+    let items = ap (λ l. joined c.args.parts.now ++ l) c.in_ok-push-in-Ok.ensures.items
+    ∙ sym (append_assoc (joined c.args.parts.now) c.loop-node.part.items more) in
     record {
       upto = omega (arith, c.loop-node-test.true);
-      long = omega (arith, ap length items, length-append c.loop-node.plan.items (c.in-Ok.next ∷ []), c.loop-node.invariant.long);
+      long = omega (arith, ap length items, length-append before more, c.loop-node.invariant.long);
       made = subst (AreMade c.args.work.now 0) (sym items)
-          (made_push c.args.work.now 0 c.loop-node.node c.loop-node.plan.items c.in-Ok.next c.loop-node.invariant.made
+          (made_push c.args.work.now 0 c.loop-node.node before c.in-Ok.next c.loop-node.invariant.made
           (omega (arith, c.loop-node.invariant.long)) c.in-Ok.ensures.made);
     }
 

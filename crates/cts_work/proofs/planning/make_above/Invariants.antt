@@ -1,4 +1,5 @@
-use Rattle.std.proofs.Common.{◌≡◌, ◌≤◌, length}
+use Rattle.std.proofs.Common.{◌≡◌, ◌≤◌, ◌++◌, length}
+use Rattle.cts_work.specs.Plans.{joined}
 use Rattle.cts_work.specs.Work.{AreMade}
 use Rattle.cts_work.proofs.planning.make_above.Given as goal
 
@@ -6,6 +7,6 @@ abbrev pub invariant-loop-node : goal.invariant-loop-node
 invariant-loop-node g l =
     record {
       upto : l.node ≤ l.to;
-      long : length l.plan.items ≡ l.node;
-      made : AreMade l.work 0 l.plan.items;
+      long : length (joined l.parts ++ l.part.items) ≡ l.node;
+      made : AreMade l.work 0 (joined l.parts ++ l.part.items);
     }

@@ -4,7 +4,8 @@ use Rattle.cts_topo.specs.Shape.{IsShapeOver}
 use Rattle.cts_up.specs.Ends.{Ends}
 use Rattle.cts_up.specs.Plan.{IsPlan}
 use Rattle.cts_memo.specs.Passes.{params_of}
-use Rattle.cts_work.proofs.Divisions.{whole_in_order, whole_pieces}
+use Rattle.cts_work.specs.Plans.{nodes_of}
+use Rattle.cts_work.proofs.Divisions.{whole_begins, whole_in_order, whole_pieces}
 use Rattle.cts_work.proofs.planning.plan_all.Goals as goal
 
 pub make_pieces-requires-clause-pieces : goal.make_pieces-requires-clause-pieces
@@ -25,6 +26,12 @@ plan_of-requires-clause-order g c =
     (subst (IsShapeOver (length c.args.sinks.now)) (sym c.nodes-nodes.ensures.nodes) c.requires.shape) c.args.workers c.requires.some c.requires.few
     c.deref-2.result.now (c.deref-2.ensures.value ∙ c.in_ok-pieces.ensures)
 
+pub plan_of-requires-clause-begin : goal.plan_of-requires-clause-begin
+plan_of-requires-clause-begin g c =
+    whole_begins c.nodes-nodes.result.now (length c.args.sinks.now)
+    (subst (IsShapeOver (length c.args.sinks.now)) (sym c.nodes-nodes.ensures.nodes) c.requires.shape) c.args.workers c.requires.some c.requires.few
+    c.deref-2.result.now (c.deref-2.ensures.value ∙ c.in_ok-pieces.ensures)
+
 pub make_pieces-requires-clause-ready : goal.make_pieces-requires-clause-ready
 make_pieces-requires-clause-ready g c κs within = record {
   sinks = c.requires.sinks;
@@ -39,7 +46,7 @@ plan_of-requires-clause-ready g c = record {
 
 pub returns-clause-plan : goal.returns-clause-plan
 returns-clause-plan g c =
-    subst (λ (ns : List ShapeNode). IfOk c.plan_of.result (λ plan. IsPlan (params_of c.args.memo.now) c.args.sinks.now ns plan.items))
+    subst (λ (ns : List ShapeNode). IfOk c.plan_of.result (λ plan. IsPlan (params_of c.args.memo.now) c.args.sinks.now ns (nodes_of plan)))
     c.nodes-nodes.ensures.nodes c.plan_of.ensures.plan
 
 pub returns-clause-ends : goal.returns-clause-ends

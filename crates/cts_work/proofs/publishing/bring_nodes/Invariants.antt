@@ -1,17 +1,16 @@
-use Rattle.std.proofs.Common.{◌≡◌, ◌≤◌, length}
+use Rattle.std.proofs.Common.{◌≡◌, length, take}
 use Rattle.cts_turn.specs.Passes.{seen_by}
 use Rattle.cts_work.specs.Built.{GoesOn}
 use Rattle.cts_work.specs.Numbered.{AreNumbered}
+use Rattle.cts_work.specs.Plans.{joined}
 use Rattle.cts_work.specs.Told.{MayTell}
 use Rattle.cts_work.proofs.publishing.bring_nodes.Given as goal
 
-abbrev pub invariant-loop-node : goal.invariant-loop-node
-invariant-loop-node g l =
+abbrev pub invariant-loop-number : goal.invariant-loop-number
+invariant-loop-number g l =
     record {
-      upto : l.node ≤ length l.plan;
       pass : GoesOn l.work.memo.now l.fn.pass l.pass;
-      long : length l.before.items ≡ l.node;
+      long : length l.before.items ≡ length (joined (take l.number l.plan.parts.items));
       before : AreNumbered (seen_by l.pass) l.work.sinks.now l.work.nodes.now l.before.items;
       told : MayTell (seen_by l.pass) l.told.items;
-      piece : l.piece ≤ l.node;
     }

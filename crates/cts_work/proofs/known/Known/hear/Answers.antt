@@ -1,7 +1,4 @@
-use Rattle.std.proofs.Common.{◌≡◌, ◌+◌, ℕ, List, Some, slice_get, length, sym, ap, ◌∙◌, subst, arith}
-use Rattle.std.proofs.lemmas.Option.{slice_get_read}
-use Rattle.cts_memo.specs.declared.entry.MemoEntry.{MemoEntry}
-use Rattle.cts_work.specs.Known.{StandFrom}
+use Rattle.std.proofs.Common.{arith}
 use Rattle.cts_work.proofs.Noted.{entry_stands}
 use Rattle.cts_work.proofs.known.Known.hear.Goals as goal
 

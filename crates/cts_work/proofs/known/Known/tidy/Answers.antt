@@ -1,4 +1,4 @@
-use Rattle.std.proofs.Common.{sym, ap, ◌∙◌, All, subst}
+use Rattle.std.proofs.Common.{sym, ◌∙◌, All, subst}
 use Rattle.cts_work.specs.Built.{IsNoted}
 use Rattle.cts_work.specs.Known.{picked}
 use Rattle.cts_work.proofs.Noted.{noted_picked}
