@@ -1,4 +1,4 @@
-use Rattle.std.proofs.Common.{◌-◌, ◌∷◌, [], ◌++◌, length, sym, ap, ◌∙◌, subst, append_assoc, arith, length-append}
+use Rattle.std.proofs.Common.{◌≡◌, ◌-◌, ◌∷◌, [], ◌++◌, length, sym, ap, ◌∙◌, subst, append_assoc, arith, length-append}
 use Rattle.cts_work.specs.Plans.{joined}
 use Rattle.cts_work.specs.Work.{AreMade}
 use Rattle.cts_work.proofs.Parts.{starts_first}
@@ -27,7 +27,8 @@ pub loop-node-preserved : goal.loop-node-preserved
 loop-node-preserved g c =
     let before = joined c.args.parts.now ++ c.loop-node.part.items in
     let more = c.in-Ok.next ∷ [] in
-    let items = ap (λ l. joined c.args.parts.now ++ l) c.in_ok-push-in-Ok.ensures.items
+    let items : joined c.args.parts.now ++ c.push.new.self.items ≡ before ++ more =
+    ap (λ l. joined c.args.parts.now ++ l) c.in_ok-push-in-Ok.ensures.items
     ∙ sym (append_assoc (joined c.args.parts.now) c.loop-node.part.items more) in
     record {
       upto = omega (arith, c.loop-node-test.true);

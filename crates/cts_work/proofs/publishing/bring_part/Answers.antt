@@ -1,10 +1,12 @@
-use Rattle.std.proofs.Common.{◌+◌, ◌∷◌, [], length, sym, ap, subst, arith, length-append}
+use Rattle.std.proofs.Common.{◌≡◌, ◌+◌, ◌-◌, ◌∷◌, [], length, get_or, sym, ap, subst, arith, length-append}
 use Rattle.cts_topo.proofs.Counts.{length-shape}
 use Rattle.cts_turn.specs.Passes.{seen_by}
 use Rattle.cts_work.specs.Numbered.{AreNumbered}
+use Rattle.cts_work.specs.Told.{MayTell}
+use Rattle.cts_work.specs.Work.{AreMade, IsMadeAt}
 use Rattle.cts_work.proofs.Nodes.{goes_further, stands_still}
 use Rattle.cts_work.proofs.Numbered.{numbered_longer, numbered_push}
-use Rattle.cts_work.proofs.Told.{told_longer}
+use Rattle.cts_work.proofs.Told.{told_at, told_longer}
 use Rattle.cts_work.proofs.publishing.bring_part.Goals as goal
 
 pub loop-place-init : goal.loop-place-init
@@ -56,3 +58,79 @@ loop-place-preserved g c =
           (omega (arith, c.loop-place.invariant.long, c.len-first.ensures)) c.in_ok-next.ensures.number);
       told = told_longer (seen_by c.stretch_told.new.pass) (seen_by c.bring_node.new.pass) step.goes_on c.in_ok-told.told.items c.in_ok-told.ensures.told;
     }
+
+pub stretch_told-requires-clause-own : goal.stretch_told-requires-clause-own
+stretch_told-requires-clause-own g c = c.loop-place.invariant.pass.own
+
+pub stretch_told-requires-clause-place : goal.stretch_told-requires-clause-place
+stretch_told-requires-clause-place g c = omega (arith, c.loop-place.invariant.upto)
+
+pub stretch_told-requires-clause-within : goal.stretch_told-requires-clause-within
+stretch_told-requires-clause-within g c =
+    omega (arith, c.loop-place.invariant.long, ap length c.as_slice.ensures.value, c.loop-place-test.true, c.requires.within)
+
+pub stretch_told-requires-clause-first : goal.stretch_told-requires-clause-first
+stretch_told-requires-clause-first g c = omega (arith, c.loop-place.invariant.long, ap length c.as_slice.ensures.value)
+
+pub stretch_told-requires-clause-made : goal.stretch_told-requires-clause-made
+stretch_told-requires-clause-made g c =
+    let same : length c.args.before.now.items ≡ length c.as_slice.result.now - c.loop-place.place =
+    omega (arith, c.loop-place.invariant.long, ap length c.as_slice.ensures.value) in
+    subst (λ n. AreMade c.args.work.now n c.args.part.now) same c.requires.made
+
+pub stretch_told-requires-clause-told : goal.stretch_told-requires-clause-told
+stretch_told-requires-clause-told g c = c.loop-place.invariant.told
+
+pub bring_node-requires-clause-own : goal.bring_node-requires-clause-own
+bring_node-requires-clause-own g c κs within = c.stretch_told.ensures.pass.own
+
+pub bring_node-requires-clause-node : goal.bring_node-requires-clause-node
+bring_node-requires-clause-node g c κs within = omega (arith, c.loop-place-test.true, c.requires.within, c.len-first.ensures)
+
+pub bring_node-requires-clause-long : goal.bring_node-requires-clause-long
+bring_node-requires-clause-long g c κs within =
+    omega (arith, c.loop-place.invariant.long, ap length c.as_slice-in-loop-place.ensures.value, c.len-first.ensures)
+
+pub bring_node-requires-clause-told : goal.bring_node-requires-clause-told
+bring_node-requires-clause-told g c κs within =
+    told_at (seen_by c.stretch_told.new.pass) c.deref.result.now _ c.get.result (c.get.ensures.lookup.3)
+    (subst (MayTell (seen_by c.stretch_told.new.pass)) (sym c.deref.ensures.value) c.in_ok-told.ensures.told)
+
+pub bring_node-requires-clause-made : goal.bring_node-requires-clause-made
+bring_node-requires-clause-made g c κs within =
+    let place = c.loop-place.place in
+    let made = c.index-part-place.result in
+    let first : length c.args.before.now.items ≡ c.len-first.result = omega (arith, c.len-first.ensures) in
+    subst (IsMadeAt c.args.work.now (c.len-first.result + place)) (sym c.index-part-place.is)
+    (subst (λ n. IsMadeAt c.args.work.now (n + place) (get_or c.args.part.now place made)) first
+    (c.requires.made.each place made c.loop-place-test.true))
+
+pub returns-clause-pass : goal.returns-clause-pass
+returns-clause-pass g c = c.loop-place.invariant.pass
+
+pub returns-clause-long : goal.returns-clause-long
+returns-clause-long g c = omega (arith, c.loop-place.invariant.long, c.loop-place.invariant.upto, c.loop-place-test.false)
+
+pub returns-clause-before : goal.returns-clause-before
+returns-clause-before g c = c.loop-place.invariant.before
+
+pub returns-clause-told : goal.returns-clause-told
+returns-clause-told g c = c.loop-place.invariant.told
+
+pub returns-in_err-told-clause-pass : goal.returns-in_err-told-clause-pass
+returns-in_err-told-clause-pass g c =
+    goes_further c.args.work.now.memo.now c.args.pass.now c.loop-place.pass c.stretch_told.new.pass c.loop-place.invariant.pass c.stretch_told.ensures.pass
+
+pub returns-in_err-next-clause-pass : goal.returns-in_err-next-clause-pass
+returns-in_err-next-clause-pass g c =
+    let memo = c.args.work.now.memo.now in
+    goes_further memo c.args.pass.now c.stretch_told.new.pass c.bring_node.new.pass
+    (goes_further memo c.args.pass.now c.loop-place.pass c.stretch_told.new.pass c.loop-place.invariant.pass c.stretch_told.ensures.pass)
+    c.bring_node.ensures.pass
+
+pub returns-in_err-push-clause-pass : goal.returns-in_err-push-clause-pass
+returns-in_err-push-clause-pass g c =
+    let memo = c.args.work.now.memo.now in
+    goes_further memo c.args.pass.now c.stretch_told.new.pass c.bring_node.new.pass
+    (goes_further memo c.args.pass.now c.loop-place.pass c.stretch_told.new.pass c.loop-place.invariant.pass c.stretch_told.ensures.pass)
+    c.bring_node.ensures.pass
