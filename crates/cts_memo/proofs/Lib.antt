@@ -10,5 +10,6 @@ pub mod Capacitances
 pub mod Answering
 pub mod OneAnswer
 pub mod Readings
+pub mod Owned
 mod Example
 pub mod Sent

@@ -40,6 +40,7 @@ impl Key {
     }
 
     /// The key of the leaf that a finished node is: the place of its sink is the point of its region.
+    #[inline]
     pub fn of_leaf(leaf: &Finished) -> Key
         requires narrow { IsNarrow leaf.now.side }
         ensures { (sink : Sink) → IsLeaf sink leaf.now → result ≡ leaf_key sink }
@@ -55,6 +56,7 @@ impl Key {
     }
 
     /// The key of a pair whose two parts have these numbers, or `None` where one has none.
+    #[inline]
     pub fn of_pair(left: Option<u32>, right: Option<u32>) -> Option<Key>
         ensures { result ≡ pair_key left right }
     {

@@ -179,6 +179,7 @@ impl Memo {
     /// `At` tells the number of the key's entry, which was appended or found. `Full` comes exactly where
     /// the key isn't there and there are 2^21 entries, `NoMemory` where the table could not grow; then
     /// the table is as before.
+    #[inline(always)]
     pub fn put<R: Wait>(&self, rt: &R, pass: &mut MemoPass, key: Key, finished: Finished) -> PutEnd
         requires own { IsPassOf self.now pass.old }
         requires key { NamesEntries (seen_by pass.old) key }

@@ -55,6 +55,7 @@ impl Part {
 
 impl Query {
     /// What asks for a key.
+    #[inline]
     pub fn of_key(key: Key) -> Query
         ensures { result ≡ query_for key }
     {
@@ -80,6 +81,7 @@ impl Query {
 
 impl Question {
     /// A question that isn't answered yet.
+    #[inline]
     pub fn new(query: Query) -> Question
         ensures { result ≡ unanswered query }
     {

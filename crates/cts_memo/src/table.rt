@@ -68,8 +68,9 @@ impl Table {
         })
     }
 
-    /// Looks a key up.
-    fn find(&self, key: Key) -> Answer
+    /// Looks a key up. Callers who share a table ask its memo; who owns it needs no turn.
+    #[inline]
+    pub fn find(&self, key: Key) -> Answer
         ensures { IsFound (told_by self.now) key result }
     {
         match self.map.get_full(&key) {
@@ -128,8 +129,13 @@ impl Table {
     }
 
     /// Appends what was made of a key, unless the key is there or there is no room. What is made of a
-    /// key that is there is what its entry has, so the entry stays as it is.
-    fn publish(&mut self, key: Key, finished: Finished) -> PutEnd
+    /// key that is there is what its entry has, so the entry stays as it is. Callers who share a table publish in its
+    /// memo; who owns it needs no turn.
+    ///
+    /// `At` tells the number of the key's entry. `Full` comes exactly where the key isn't there and there are 2^21
+    /// entries, `NoMemory` where the table could not grow.
+    #[inline(always)]
+    pub fn publish(&mut self, key: Key, finished: Finished) -> PutEnd
         requires { IsMadeOf (base_of self.old) (told_by self.old) key finished }
         ensures base { base_of self.new ≡ base_of self.old }
         ensures end { IsPut (told_by self.old) key result }
@@ -186,6 +192,7 @@ impl Object for Table {
         self.map.len() as u64
     }
 
+    #[inline(always)]
     fn act(&mut self, call: MemoCall) -> MemoReply {
         match call {
             MemoCall::Ask(key) => MemoReply::Asked(self.find(key)),

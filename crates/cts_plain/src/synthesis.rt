@@ -57,15 +57,16 @@ pub fn finish(
     settle(alloc, instance, placed)
 }
 
-/// The tree of a shape by the sites of its plan, as [`finish`] gives it: nothing else of a plan has a part in it.
+/// The tree of a shape by the sites of its plan, as [`finish`] gives it: nothing else of a plan has a part in it. The
+/// sites go once the nodes have their places.
 pub fn finish_sites(
     alloc: Global,
     instance: &Instance,
     shape: &Shape,
-    sites: &[Site],
+    sites: Vec<Site>,
 ) -> Result<(Tree, Figures), NoTree>
     requires shape { IsShapeOver (length instance.now.sinks) shape.now }
-    requires sites { AreSites instance.now.params instance.now.sinks shape.now sites.now }
+    requires sites { AreSites instance.now.params instance.now.sinks shape.now sites.items }
     ensures tree { IfOk result (λ r. IsSynthesisOver instance.now shape.now (made r.0)) }
     ensures figures { IfOk result (λ r. AreFigures instance.now r.0 r.1) }
     ensures sound { IfOk result (λ r. IsSound instance.now r.0) }
@@ -74,7 +75,8 @@ pub fn finish_sites(
     ensures in_die { IfOk result (λ r. All (StandsInDie instance.now.die) r.0) }
     ensures ends { IfErr result (EndsWithPlan instance.now shape.now) }
 {
-    let placed = embed_sites(alloc, instance, shape, sites)?;
+    let placed = embed_sites(alloc, instance, shape, sites.as_slice())?;
+    drop(sites);
     settle(alloc, instance, placed)
 }
 

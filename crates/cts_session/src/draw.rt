@@ -138,7 +138,7 @@ pub(crate) fn draw<L: Ledger, R: Wait, G: Gate>(
     let sites = rebuild_with(
         rt, alloc, memo, pass, gate, caller, sinks, &shape, known, steps,
     )?;
-    finish_sites(alloc, instance, &shape, &sites)
+    finish_sites(alloc, instance, &shape, sites)
 }
 
 /// The tree of the sinks as they are when it is this call's turn. Nothing of an earlier draw is kept but

@@ -17,4 +17,3 @@ pub mod TrunkKinds
 pub mod TautTrunk
 pub mod Trunks
 pub mod Replaying
-pub mod Sent

@@ -1,15 +1,12 @@
 -- The memo of a run, by the synthesis that was made over it.
-use Rattle.std.proofs.Common.{◌≡◌, ◌↔◌, ◌⊎◌, ℕ, inl, List, length, Option, None, Some, IfSome, IsSome, Result, Ok, Err, IfErr, OnOk, IsErrOf, refl, sym, subst, ap, ◌∙◌}
+use Rattle.std.proofs.Common.{◌≡◌, ◌↔◌, ◌⊎◌, ℕ, inl, List, length, Option, None, Some, IfSome, IsSome, Result, Ok, Err, IsErrOf, refl, sym, subst, ap, ◌∙◌}
 use Rattle.cts_instance.specs.declared.parts.Parts.{Parts}
 use Rattle.cts_instance.specs.Validity.{IsValid}
 use Rattle.cts_io.specs.declared.write.WriteEnd.{WriteEnd}
 use Rattle.cts_topo.specs.declared.shape.ShapeNode.{ShapeNode}
 use Rattle.cts_topo.specs.Topology.{shape_of}
 use Rattle.cts_tree.specs.declared.nodes.TreeNode.{TreeNode}
-use Rattle.cts_up.specs.Ends.{Ends}
 use Rattle.cts_up.specs.Plan.{IsLeastBeyond}
-use Rattle.cts_up.specs.declared.end.UpEnd.{UpEnd}
-use Rattle.cts_up.specs.declared.end.UpEnd.TheVariants as up
 use Rattle.cts_elmore.specs.declared.figures.Figures.{Figures}
 use Rattle.cts_memo.specs.declared.table.Table.{Table}
 use Rattle.cts_memo.specs.Numbers.{AreKnown}

@@ -10,7 +10,7 @@ use Rattle.cts_top.specs.declared.stop.Answer.{Answer}
 use Rattle.cts_top.specs.declared.stop.Stop.{Stop}
 use Rattle.cts_top.specs.declared.stop.Stop.TheVariants as stop
 use Rattle.cts_top.specs.declared.words.Form.{Form}
-use Rattle.cts_top.specs.declared.words.Form.TheVariants.{Synth, Check, Edit, Make, Job, Trunk, Near, Replay}
+use Rattle.cts_top.specs.declared.words.Form.TheVariants.{Synth, Check, Edit, Make, Job, Near, Replay}
 use Rattle.cts_notes.specs.Front.{SpellsFront, front_of}
 use Rattle.cts_top.specs.Input.{Spells, SpellsScripts, input_of, scripted_of}
 use Rattle.cts_top.specs.Log.{Log, no_log}

@@ -1,5 +1,5 @@
 -- Of one synthesis there is one kind of text for its trunk.
-use Rattle.std.proofs.Common.{◌≡◌, ◌≢◌, ℕ, List, refl, sym, subst, ◌∙◌}
+use Rattle.std.proofs.Common.{◌≡◌, ℕ, List, refl, sym, subst, ◌∙◌}
 use Rattle.cts_instance.specs.declared.parts.Parts.{Parts}
 use Rattle.cts_trunk.specs.declared.trunk.TrunkEnd.{TrunkEnd}
 use Rattle.cts_trunk.specs.declared.trunk.TrunkEnd.TheVariants as end

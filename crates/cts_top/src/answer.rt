@@ -27,7 +27,6 @@ use cts_tree::Tree;
 use cts_work::Gate;
 use std::alloc::Global;
 use std::marker::Brand;
-use std::sync::Wait;
 use std::sync::ledger::{Blank, Ledger};
 use std::thread::Threads;
 
@@ -197,7 +196,7 @@ pub fn answer_instance<K: ByteSink>(
 
 /// Writes the text for the synthesis of an instance by so many workers, and gives the table of the memo,
 /// unless memory ran out.
-pub fn answer_by_workers<R: Threads + Wait + Sync, K: ByteSink, G: Gate>(
+pub fn answer_by_workers<R: Threads + Sync, K: ByteSink, G: Gate>(
     rt: &R,
     alloc: Global,
     gate: &G,

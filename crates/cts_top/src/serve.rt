@@ -260,7 +260,7 @@ pub fn serve_by_threads<R: Threads + Wait + Sync, S: ByteSource, K: ByteSink, G:
 }
 
 /// Reads an instance, and writes the report of its tree, which so many workers make.
-fn synth_by_workers<R: Threads + Wait + Sync, S: ByteSource, K: ByteSink, G: Gate>(
+fn synth_by_workers<R: Threads + Sync, S: ByteSource, K: ByteSink, G: Gate>(
     rt: &R,
     alloc: Global,
     gate: &G,
@@ -286,7 +286,7 @@ fn synth_by_workers<R: Threads + Wait + Sync, S: ByteSource, K: ByteSink, G: Gat
 }
 
 /// Writes the summary of the tree of the instance that is made from a seed, which so many workers make.
-fn job_by_workers<R: Threads + Wait + Sync, K: ByteSink, G: Gate>(
+fn job_by_workers<R: Threads + Sync, K: ByteSink, G: Gate>(
     rt: &R,
     alloc: Global,
     gate: &G,

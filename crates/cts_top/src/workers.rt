@@ -18,7 +18,6 @@ ghost use Rattle.cts_work.specs.Plans.{nodes_of};
 use crate::valid::instance_is_valid;
 use cts_elmore::Figures;
 use cts_instance::Instance;
-use cts_memo::laws::memo_is_shared;
 use cts_memo::{Memo, MemoPass, Secret, Table};
 use cts_num::NoMemory;
 use cts_plain::{NoTree, finish_sites};
@@ -27,36 +26,32 @@ use cts_topo_workers::topology_by;
 use cts_tree::Tree;
 use cts_units::Sink;
 use cts_up::UpEnd;
-use cts_work::{Gate, Plan, plan_all, publish_plan};
+use cts_work::{Gate, Plan, fill_table, plan_all};
 use std::alloc::Global;
-use std::sync::Wait;
 use std::thread::{Threads, join};
 
 /// What a synthesis comes to, and the table of its memo.
 type Made = (Result<(Tree, Figures), NoTree>, Table);
 
-/// Brings the plan of an instance into the memo. The pass comes back.
-fn publish<R: Wait, G: Gate>(
-    rt: &R,
+/// Brings the plan of an instance into a table. The table comes back.
+fn fill<G: Gate>(
     alloc: Global,
     gate: &G,
-    memo: &Memo,
-    mut pass: MemoPass,
+    mut table: Table,
     instance: &Instance,
     shape: &Shape,
     plan: &Plan,
-) -> (Result<(), NoMemory>, MemoPass)
-    requires own { IsPassOf memo.now pass }
-    requires params { params_of memo.now ≡ instance.now.params }
+) -> (Result<(), NoMemory>, Table)
+    requires base { base_of table ≡ instance.now.params }
     requires shape { IsShapeOver (length instance.now.sinks) shape.now }
     requires plan { IsPlan instance.now.params instance.now.sinks shape.now (nodes_of plan.now) }
-    ensures own { IsPassOf memo.now result.1 }
-    ensures share { share_of result.1 ≡ share_of pass }
-    ensures known { OnOk result.0 ((length (seen_by result.1) ≡ max_entries) ⊎ AreKnown (seen_by result.1) instance.now.sinks shape.now) }
+    ensures base { base_of result.1 ≡ instance.now.params }
+    ensures sound { IsSound (base_of result.1) (told_by result.1) }
+    ensures known { OnOk result.0 ((length (told_by result.1) ≡ max_entries) ⊎ AreKnown (told_by result.1) instance.now.sinks shape.now) }
 {
     let sinks = instance.sinks();
-    let published = publish_plan(rt, alloc, gate, memo, &mut pass, sinks, shape, plan);
-    (published, pass)
+    let filled = fill_table(alloc, gate, &mut table, sinks, shape, plan);
+    (filled, table)
 }
 
 /// The table of a memo whose passes are all joined.
@@ -88,73 +83,67 @@ fn finish_plan(
 {
     instance_is_valid(instance);
     let sites = plan.sites(alloc)?;
-    finish_sites(alloc, instance, shape, &sites)
+    finish_sites(alloc, instance, shape, sites)
 }
 
-/// What the plan of an instance comes to, while a thread of its own brings it into the memo.
-fn finish_beside<R: Threads + Wait + Sync, G: Gate>(
+/// What the plan of an instance comes to, while a thread of its own brings it into the table of the memo. Nobody shares
+/// the memo of a run by workers, so it is closed before that, and there are no turns.
+fn finish_beside<R: Threads + Sync, G: Gate>(
     rt: &R,
     alloc: Global,
     gate: &G,
-    memo: Memo,
-    pass: MemoPass,
+    table: Table,
     instance: &Instance,
     shape: &Shape,
     plan: &Plan,
 ) -> Result<Made, NoMemory>
     requires definition { shape.now ≡ shape_of instance.now.sinks }
-    requires own { IsPassOf memo pass }
-    requires whole { share_of pass ≡ 65536 }
-    requires params { params_of memo ≡ instance.now.params }
+    requires base { base_of table ≡ instance.now.params }
     requires shape { IsShapeOver (length instance.now.sinks) shape.now }
     requires plan { IsPlan instance.now.params instance.now.sinks shape.now (nodes_of plan.now) }
     ensures synthesised { IfOk result (λ made. IsSynthesised instance.now made.0) }
     ensures memo { IfOk result (λ made. IsMemoOf instance.now made.1) }
 {
-    memo_is_shared();
-    let shared = &memo;
-    let bring = move || -> (Result<(), NoMemory>, MemoPass)
-        requires { IsPassOf shared.now pass × (params_of shared.now ≡ instance.now.params) × IsShapeOver (length instance.now.sinks) shape.now
+    let bring = move || -> (Result<(), NoMemory>, Table)
+        requires { (base_of table ≡ instance.now.params) × IsShapeOver (length instance.now.sinks) shape.now
             × IsPlan instance.now.params instance.now.sinks shape.now (nodes_of plan.now) }
-        ensures { IsPassOf shared.entry.now result.1 × (share_of result.1 ≡ share_of pass)
-            × OnOk result.0 ((length (seen_by result.1) ≡ max_entries) ⊎ AreKnown (seen_by result.1) instance.entry.now.sinks shape.entry.now) }
-    { publish(rt, alloc, gate, shared, pass, instance, shape, plan) };
+        ensures { (base_of result.1 ≡ instance.entry.now.params) × IsSound (base_of result.1) (told_by result.1)
+            × OnOk result.0 ((length (told_by result.1) ≡ max_entries) ⊎ AreKnown (told_by result.1) instance.entry.now.sinks shape.entry.now) }
+    { fill(alloc, gate, table, instance, shape, plan) };
     let go_on = move || -> Result<(Tree, Figures), NoTree>
         requires { (shape.now ≡ shape_of instance.now.sinks) × IsShapeOver (length instance.now.sinks) shape.now
             × IsPlan instance.now.params instance.now.sinks shape.now (nodes_of plan.now) }
         ensures { IsSynthesised instance.entry.now result }
     { finish_plan(alloc, instance, shape, plan) };
-    let (published, synthesis) = join(rt, bring, go_on);
-    let (published, pass) = published;
-    published?;
-    Ok((synthesis, closed(memo, pass)))
+    let (filled, synthesis) = join(rt, bring, go_on);
+    let (filled, table) = filled;
+    filled?;
+    Ok((synthesis, table))
 }
 
 /// What an instance comes to that has no plan, with the table of its memo.
 fn without_plan(
     instance: &Instance,
     shape: &Shape,
-    memo: Memo,
-    pass: MemoPass,
+    table: Table,
     end: UpEnd,
 ) -> Result<Made, NoMemory>
     requires definition { shape.now ≡ shape_of instance.now.sinks }
-    requires own { IsPassOf memo pass }
-    requires whole { share_of pass ≡ 65536 }
-    requires params { params_of memo ≡ instance.now.params }
+    requires base { base_of table ≡ instance.now.params }
+    requires sound { IsSound (base_of table) (told_by table) }
     requires ends { Ends instance.now.params instance.now.sinks shape.now end }
     ensures synthesised { IfOk result (λ made. IsSynthesised instance.now made.0) }
     ensures memo { IfOk result (λ made. IsMemoOf instance.now made.1) }
 {
     instance_is_valid(instance);
     match end {
-        UpEnd::Beyond { node } => Ok((Err(NoTree::Beyond { node }), closed(memo, pass))),
+        UpEnd::Beyond { node } => Ok((Err(NoTree::Beyond { node }), table)),
         UpEnd::NoMemory => Err(NoMemory),
     }
 }
 
 /// What the synthesis of an instance over its shape comes to.
-fn make_over<R: Threads + Wait + Sync, G: Gate>(
+fn make_over<R: Threads + Sync, G: Gate>(
     rt: &R,
     alloc: Global,
     gate: &G,
@@ -173,9 +162,11 @@ fn make_over<R: Threads + Wait + Sync, G: Gate>(
     let sinks = instance.sinks();
     let nodes = shape.nodes().len();
     let (memo, pass) = Memo::start_with_room(alloc, instance.params(), secret, nodes)?;
-    match plan_all(rt, alloc, &memo, gate, sinks, shape, workers) {
-        Ok(plan) => finish_beside(rt, alloc, gate, memo, pass, instance, shape, &plan),
-        Err(end) => without_plan(instance, shape, memo, pass, end),
+    let planned = plan_all(rt, alloc, &memo, gate, sinks, shape, workers);
+    let table = closed(memo, pass);
+    match planned {
+        Ok(plan) => finish_beside(rt, alloc, gate, table, instance, shape, &plan),
+        Err(end) => without_plan(instance, shape, table, end),
     }
 }
 
@@ -201,7 +192,7 @@ fn make_shape<R: Threads + Sync>(
 }
 
 /// What the synthesis of an instance comes to.
-fn make<R: Threads + Wait + Sync, G: Gate>(
+fn make<R: Threads + Sync, G: Gate>(
     rt: &R,
     alloc: Global,
     gate: &G,
@@ -231,7 +222,7 @@ fn kept(synthesis: &Result<(Tree, Figures), NoTree>, table: Table) -> Option<Tab
 
 /// The synthesis of an instance by so many workers, as one thread makes it; and the table of the memo,
 /// unless memory ran out.
-pub fn synthesise_by_workers<R: Threads + Wait + Sync, G: Gate>(
+pub fn synthesise_by_workers<R: Threads + Sync, G: Gate>(
     rt: &R,
     alloc: Global,
     gate: &G,

@@ -134,6 +134,7 @@ impl<O: Object> Turn<O> {
 
     /// Calls the object where it lies, in the slot that the seat holds. Its reply, and how long the list is that it
     /// tells now.
+    #[inline(always)]
     fn act(&self, seat: &mut Seat<O>, call: O::Call) -> (O::Reply, u64)
         requires own { seat.old.table_id ≡ self.now.table.shared.table_id }
         requires holds { MayAct ⟦<O as Object>⟧ seat.old.me.1 call }
@@ -244,6 +245,7 @@ impl<O: Object> Turn<O> {
     ///
     /// The reply is one that the object's base allows at a told list that begins with all that the
     /// pass had seen. Afterwards the pass has seen the list after it.
+    #[inline(always)]
     pub fn call<R: Wait>(&self, rt: &R, pass: &mut Pass<O>, call: O::Call) -> O::Reply
         requires own { IsPassOf ⟦<O as Object>⟧ self.now pass.old }
         requires fits { O.fits (O.base (start_of self.now)) (seen_by pass.old) call }

@@ -3,6 +3,7 @@ pub mod Builts
 pub mod Misses
 pub mod Nodes
 pub mod Parts
+pub mod Leaves
 pub mod Made
 pub mod Divisions
 pub mod Drawn
@@ -13,3 +14,4 @@ pub mod Numbered
 pub mod Picked
 pub mod Told
 pub mod Plans
+pub mod Filled

@@ -30,6 +30,7 @@ use Rattle.cts_work.specs.Built.{IsPairAt, tree_at}
 use Rattle.cts_work.specs.Plans.{nodes_of}
 use Rattle.cts_work.specs.Work.{AreMade, EndsAt, EndsIn, IsBeyondAt, IsMadeAt, IsReady}
 use Rattle.cts_work.proofs.Builts.{params_within}
+use Rattle.cts_work.proofs.Leaves.{finished_leaf, finished_narrow, leaf_finished}
 use Rattle.cts_work.proofs.Parts.{ends_at}
 
 module _ (work : Work) where
@@ -130,31 +131,21 @@ module _ (work : Work) where
 
   -- a leaf's numbers are those of a sink
   pub leaf_narrow : (k s : ℕ) (f : Finished) → tree_at work.nodes.now k ≡ tip (Leaf s) → IsReady work → IsMadeAt work k f → IsNarrow f.side
-  unfolding IsFinished
   leaf_narrow k s f here ready made =
-      let leaf : LeafOf work.sinks.now (Leaf s) f =
-      leaf_of work.sinks.now (Leaf s) f (subst (λ t. IsFinished (params_of work.memo.now) work.sinks.now t f) here made) in
-      let sink : IsSinkInRange leaf.sink = sink_has IsSinkInRange work.sinks.now (Leaf s) leaf.sink ready.sinks.each leaf.named in
-      record { region = (made_merges k f ready made).region; greatest = omega (arith, leaf.leaf.greatest, sink.offset) }
+      finished_narrow (params_of work.memo.now) work.sinks.now s f (params_within work.memo.now) ready.sinks
+      (subst (λ t. IsFinished (params_of work.memo.now) work.sinks.now t f) here made)
 
   -- a leaf is what its sink gives
   module _ (k s : ℕ) (d : Sink) (f : Finished) (within : s < length work.sinks.now) (here : tree_at work.nodes.now k ≡ tip (Leaf s)) where
-    found : sink_of work.sinks.now (Leaf s) ≡ Some (get_or work.sinks.now s d)
-    found = slice_get-get_or work.sinks.now s d within
-
-    finished_leaf : IsLeaf (get_or work.sinks.now s d) f → IsFinished (params_of work.memo.now) work.sinks.now (tip (Leaf s)) f
-    unfolding IsFinished
-    finished_leaf leaf = subst (λ (o : Option Sink). MatchOption o ⊥ (λ x. IsLeaf x f)) (sym found) leaf
-
-    leaf_finished : IsFinished (params_of work.memo.now) work.sinks.now (tip (Leaf s)) f → IsLeaf (get_or work.sinks.now s d) f
-    unfolding IsFinished
-    leaf_finished made = subst (λ (o : Option Sink). MatchOption o ⊥ (λ x. IsLeaf x f)) found made
-
     pub made_leaf : IsLeaf (get_or work.sinks.now s d) f → IsMadeAt work k f
-    made_leaf leaf = subst (λ t. IsFinished (params_of work.memo.now) work.sinks.now t f) (sym here) (finished_leaf leaf)
+    made_leaf leaf =
+        subst (λ t. IsFinished (params_of work.memo.now) work.sinks.now t f) (sym here)
+        (finished_leaf (params_of work.memo.now) work.sinks.now s f d within leaf)
 
     pub leaf_made : IsMadeAt work k f → IsLeaf (get_or work.sinks.now s d) f
-    leaf_made made = leaf_finished (subst (λ t. IsFinished (params_of work.memo.now) work.sinks.now t f) here made)
+    leaf_made made =
+        leaf_finished (params_of work.memo.now) work.sinks.now s f d within
+        (subst (λ t. IsFinished (params_of work.memo.now) work.sinks.now t f) here made)
 
   -- a pair is what the sides of its two parts give
   module _ (k left right : ℕ) (a b : Finished) (here : IsPairAt work.nodes.now k left right) (first : IsMadeAt work left a) (second : IsMadeAt work right b) where

@@ -9,13 +9,15 @@ use Rattle.cts_postorder.specs.PostOrder.{trees_of}
 use Rattle.cts_postorder.proofs.Growth.{length-trees_of}
 use Rattle.cts_postorder.proofs.Zips.{all_zip-at}
 use Rattle.cts_topo.specs.Shape.{children}
+use Rattle.cts_topo.specs.declared.shape.ShapeNode.{ShapeNode}
 use Rattle.cts_topo.specs.declared.shape.ShapeNode.TheVariants.{Leaf}
+use Rattle.cts_units.specs.declared.params.Sink.{Sink}
+use Rattle.cts_units.specs.declared.params.Params.{Params}
 use Rattle.cts_merge.specs.declared.side.Finished.{Finished}
 use Rattle.cts_up.specs.Plan.{IsFinished, IsPlan}
-use Rattle.cts_memo.specs.Passes.{params_of}
 use Rattle.cts_work.specs.declared.plan.PlanPart.{PlanPart}
-use Rattle.cts_work.specs.declared.work.Work.{Work}
-use Rattle.cts_work.specs.Work.{AreMade, IsMadeAt}
+use Rattle.cts_work.specs.Built.{tree_at}
+use Rattle.cts_work.specs.Work.{AreFinished}
 use Rattle.cts_work.specs.Plans.{joined}
 
 -- the nodes of a part
@@ -45,29 +47,28 @@ pub part_within : (parts : List PlanPart) (k : ℕ) (d : PlanPart) → k < lengt
 part_within parts k d h = length-flat_map-take nodes_in parts k d h
 
 -- what the nodes of a plan are
-module _ (work : Work) where
-  pub made_plan : (fs : List Finished) → IsPlan (params_of work.memo.now) work.sinks.now work.nodes.now fs
-      → (length fs ≡ length work.nodes.now) × AreMade work 0 fs
+module _ (params : Params) (sinks : List Sink) (nodes : List ShapeNode) where
+  pub made_plan : (fs : List Finished) → IsPlan params sinks nodes fs → (length fs ≡ length nodes) × AreFinished params sinks nodes 0 fs
   made_plan fs plan =
-      let finished = IsFinished (params_of work.memo.now) work.sinks.now in
-      let trees = trees_of children work.nodes.now in
-      let long = AllZip-long finished trees fs plan in (
-        omega (arith, long, length-trees_of children work.nodes.now),
+      let trees = trees_of children nodes in
+      let long = AllZip-long (IsFinished params sinks) trees fs plan in (
+        omega (arith, long, length-trees_of children nodes),
         record {
           each = λ i d h.
               let here : i ≡ 0 + i = omega arith in
-              subst (λ j. IsMadeAt work j (get_or fs i d)) here (all_zip-at finished trees fs i (tip (Leaf 0)) d plan (omega (arith, long, h)));
+              subst (λ j. IsFinished params sinks (tree_at nodes j) (get_or fs i d)) here
+              (all_zip-at (IsFinished params sinks) trees fs i (tip (Leaf 0)) d plan (omega (arith, long, h)));
         },
       )
 
   -- each part has what its nodes are
-  pub part_made : (parts : List PlanPart) (k : ℕ) (e : PlanPart) → k < length parts → AreMade work 0 (joined parts)
-      → AreMade work (length (joined (take k parts))) (get_or parts k e).nodes.items
+  pub part_made : (parts : List PlanPart) (k : ℕ) (e : PlanPart) → k < length parts → AreFinished params sinks nodes 0 (joined parts)
+      → AreFinished params sinks nodes (length (joined (take k parts))) (get_or parts k e).nodes.items
   part_made parts k e h made = record {
     each = λ i d w.
         let n = length (joined (take k parts)) in
         let here : 0 + (n + i) ≡ n + i = omega arith in
-        subst (λ j. IsMadeAt work j (get_or (get_or parts k e).nodes.items i d)) here
-        (subst (IsMadeAt work (0 + (n + i))) (get_or-flat_map nodes_in parts k i e d h w)
+        subst (λ j. IsFinished params sinks (tree_at nodes j) (get_or (get_or parts k e).nodes.items i d)) here
+        (subst (IsFinished params sinks (tree_at nodes (0 + (n + i)))) (get_or-flat_map nodes_in parts k i e d h w)
         (made.each (n + i) d (omega (arith, w, part_within parts k e h))));
   }

@@ -6,3 +6,4 @@ pub mod Done
 pub mod Numbered
 pub mod Told
 pub mod Plans
+pub mod Filling

@@ -10,6 +10,7 @@ use Rattle.cts_up.specs.declared.end.UpEnd.TheVariants.{Beyond, NoMemory}
 use Rattle.cts_up.specs.Plan.{IsBeyondPair, IsFinished}
 use Rattle.cts_up.specs.Sinks.{AreSinksInRange}
 use Rattle.cts_units.specs.declared.params.Sink.{Sink}
+use Rattle.cts_units.specs.declared.params.Params.{Params}
 use Rattle.cts_merge.specs.declared.side.Finished.{Finished}
 use Rattle.cts_memo.specs.declared.memo.Memo.{Memo}
 use Rattle.cts_memo.specs.declared.entry.MemoEntry.{MemoEntry}
@@ -65,9 +66,13 @@ pub record IsPart (nodes : List ShapeNode) (first root : ℕ) : Type 0 where
 pub record AreBuilt (work : Work) (seen : List MemoEntry) (first : ℕ) (bs : List Built) : Type 0 where
   pub each : (i : ℕ) (d : Built) → i < length bs → IsBuiltAt work seen (first + i) (slice_index_or bs i d)
 
--- what the upward pass makes of the nodes from a number on
-pub record AreMade (work : Work) (first : ℕ) (fs : List Finished) : Type 0 where
-  pub each : (i : ℕ) (d : Finished) → i < length fs → IsMadeAt work (first + i) (slice_index_or fs i d)
+-- what the upward pass makes, with these parameters, of the nodes of a shape over sinks from a number on
+pub record AreFinished (params : Params) (sinks : List Sink) (nodes : List ShapeNode) (first : ℕ) (fs : List Finished) : Type 0 where
+  pub each : (i : ℕ) (d : Finished) → i < length fs → IsFinished params sinks (tree_at nodes (first + i)) (slice_index_or fs i d)
+
+-- what it makes of those of a work
+abbrev pub AreMade : Work → ℕ → List Finished → Type 0
+AreMade work first fs = AreFinished (params_of work.memo.now) work.sinks.now work.nodes.now first fs
 
 -- the least number from `first` on of a node that is beyond
 pub record IsLeastFrom (work : Work) (first k : ℕ) : Type 0 where

@@ -38,8 +38,9 @@ fn listed(alloc: Global, plan: &Plan) -> Result<Vec<Finished>, UpEnd>
 /// The plan of a shape over sinks, as the upward pass gives it with the memo's parameters, made by so
 /// many workers beside each other, and then brought into the memo by the caller.
 ///
-/// This is [`plan_all`], and then [`publish_plan`]. `Beyond` is exactly that of the upward pass, and then
-/// nothing is published.
+/// This is [`plan_all`], and then [`publish_plan`], and at the end the nodes are put into one list. `Beyond` is exactly that
+/// of the upward pass, and then nothing is published. `NoMemory` comes where an allocation fails, that of the list
+/// too, when all is published; what was published stays in the memo.
 pub fn build_all<R: Threads + Wait + Sync, G: Gate>(
     rt: &R,
     alloc: Global,

@@ -37,7 +37,7 @@ fn add_sites(nodes: &[Finished], sites: &mut Vec<Site>) -> Result<(), NoMemory>
 }
 
 impl Plan {
-    /// The sites of the nodes, by number.
+    /// The sites of the nodes, by number. `NoMemory` comes where an allocation fails.
     pub fn sites(&self, alloc: Global) -> Result<Vec<Site>, NoMemory>
         ensures { IfOk result (λ sites. sites.items ≡ map place_of (nodes_of self.now)) }
     {

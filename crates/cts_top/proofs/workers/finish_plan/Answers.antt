@@ -1,11 +1,10 @@
-use Rattle.std.proofs.Common.{◌∙◌}
 use Rattle.cts_work.specs.Plans.{nodes_of}
 use Rattle.cts_top.proofs.Synthesising.{finished}
 use Rattle.cts_top.proofs.workers.finish_plan.Goals as goal
 
 pub finish_sites-requires-clause-sites : goal.finish_sites-requires-clause-sites
 finish_sites-requires-clause-sites c =
-    (nodes_of c.args.plan.now, c.requires.plan, c.deref.ensures.value ∙ c.in_ok-sites.ensures)
+    (nodes_of c.args.plan.now, c.requires.plan, c.in_ok-sites.ensures)
 
 pub returns : goal.returns
 returns c =

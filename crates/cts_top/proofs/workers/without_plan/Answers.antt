@@ -1,4 +1,4 @@
-use Rattle.std.proofs.Common.{◌∙◌, subst}
+use Rattle.std.proofs.Common.{subst}
 use Rattle.cts_up.specs.Ends.{Ends}
 use Rattle.cts_up.specs.declared.end.UpEnd.TheVariants.{Beyond}
 use Rattle.cts_plain.specs.declared.end.NoTree.TheVariants as end
@@ -16,4 +16,4 @@ pub returns-in-Beyond-clause-memo : goal.returns-in-Beyond-clause-memo
 returns-in-Beyond-clause-memo c =
     memo_beyond c.args.instance.now c.instance_is_valid.ensures c.args.shape.now c.requires.definition c.in-Beyond.node
     (subst (Ends c.args.instance.now.params c.args.instance.now.sinks c.args.shape.now) c.in-Beyond.is c.requires.ends)
-    c.closed.result (c.closed.ensures.base ∙ c.requires.params) c.closed.ensures.sound
+    c.args.table c.requires.base c.requires.sound

@@ -1,6 +1,7 @@
 use Rattle.std.proofs.Common.{◌+◌, ◌<◌, ◌≤◌, length, take, sym, ap, subst, arith}
 use Rattle.std.proofs.lemmas.List.{take_all}
 use Rattle.cts_turn.specs.Passes.{seen_by}
+use Rattle.cts_memo.specs.Passes.{params_of}
 use Rattle.cts_work.specs.declared.plan.PlanPart.{PlanPart}
 use Rattle.cts_work.specs.Plans.{joined}
 use Rattle.cts_work.specs.Work.{AreMade}
@@ -45,7 +46,7 @@ bring_part-requires-clause-made g c κs within =
     subst (λ n. AreMade c.args.work.now n c.deref.result.now) (sym c.loop-number.invariant.long)
     (subst (AreMade c.args.work.now (length (joined (take k parts)))) (sym c.deref.ensures.value)
     (subst (λ (p : PlanPart). AreMade c.args.work.now (length (joined (take k parts))) p.nodes.items) (sym c.index-part.ensures)
-    (part_made c.args.work.now parts k e h c.requires.made)))
+    (part_made (params_of c.args.work.now.memo.now) c.args.work.now.sinks.now c.args.work.now.nodes.now parts k e h c.requires.made)))
 
 pub returns-clause-known : goal.returns-clause-known
 returns-clause-known g c =

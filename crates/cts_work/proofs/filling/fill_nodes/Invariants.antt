@@ -1,0 +1,14 @@
+use Rattle.std.proofs.Common.{◌≡◌, length, take}
+use Rattle.cts_memo.specs.Tables.{told_by}
+use Rattle.cts_work.specs.Filling.{Grows}
+use Rattle.cts_work.specs.Numbered.{AreNumbered}
+use Rattle.cts_work.specs.Plans.{joined}
+use Rattle.cts_work.proofs.filling.fill_nodes.Given as goal
+
+abbrev pub invariant-loop-number : goal.invariant-loop-number
+invariant-loop-number g l =
+    record {
+      table : Grows l.fn.table l.table;
+      long : length l.before.items ≡ length (joined (take l.number l.plan.parts.items));
+      before : AreNumbered (told_by l.table) l.filling.sinks.now l.filling.nodes.now l.before.items;
+    }

@@ -1,0 +1,14 @@
+use Rattle.std.proofs.Common.{◌≡◌, ◌+◌, ◌≤◌, length}
+use Rattle.cts_memo.specs.Tables.{told_by}
+use Rattle.cts_work.specs.Filling.{Grows}
+use Rattle.cts_work.specs.Numbered.{AreNumbered}
+use Rattle.cts_work.proofs.filling.fill_part.Given as goal
+
+abbrev pub invariant-loop-place : goal.invariant-loop-place
+invariant-loop-place g l =
+    record {
+      upto : l.place ≤ length l.part;
+      table : Grows l.fn.table l.table;
+      long : length l.before.items ≡ length l.fn.before.items + l.place;
+      before : AreNumbered (told_by l.table) l.filling.sinks.now l.filling.nodes.now l.before.items;
+    }
