@@ -27,6 +27,9 @@ const LOOKS: u32 = 1_000;
 /// How many tickets may be served before that of a call that is near.
 const NEAR: u64 = 3;
 
+/// How long a call steps aside where others are at the turn, in looks: for some ten times as long as a call takes.
+const ASIDE: u32 = 300;
+
 /// How many bells there are. Up to so many calls that wait each sleep by a bell of their own.
 const BELLS: usize = 64;
 
@@ -105,6 +108,16 @@ impl<O: Object> Turn<O> {
         if self.table.shared.peek(bell) % 2 == 1 {
             self.table.shared.fetch_add::<Ring>(seat, bell, 1);
             self.table.shared.wake_all(bell);
+        }
+    }
+
+    /// Steps aside for a moment where others are at the turn. So whoever is served, and calls again at once, finds nobody
+    /// there, and the object stays near one processor for many calls.
+    fn step_aside(&self) {
+        if self.table.shared.peek(TICKETS) != self.table.shared.peek(SERVING) {
+            for _ in 0..ASIDE {
+                spin_loop();
+            }
         }
     }
 
@@ -254,6 +267,7 @@ impl<O: Object> Turn<O> {
         ensures goes_on { IsPrefix (seen_by pass.old) (seen_by pass.new) }
         ensures answer { IsAnswer ⟦<O as Object>⟧ (O.base (start_of self.now)) (seen_by pass.old) (made_by pass.old) call result (seen_by pass.new) (made_by pass.new) }
     {
+        self.step_aside();
         let seat = &mut pass.seat;
         let ticket = self.draw(seat);
         self.wait(rt, seat, ticket);
