@@ -6,7 +6,8 @@
 //! from a number on, so that a thread learns what others have published. An entry is what `leaf` or `merge` gives for its
 //! key (`specs/Sound.antt`); entries never change and never move, so that a number in one list is the same number in every
 //! longer one. A memo of 2^21 entries is full: it still answers, and takes no more. A memo that is closed leaves its
-//! [`Table`], in which its owner looks keys up and publishes without turns. The [`laws`] say what its entries are, how many a shape lacks, and that questions have one list of answers.
+//! [`Table`], in which its owner looks keys up and publishes without turns. The [`laws`] say what its entries are, how many
+//! a shape lacks, and that questions have one list of answers.
 #![tactic(auto)]
 
 mod entry;

@@ -32,29 +32,33 @@ pub struct Table {
 }
 
 impl Table {
-    ghost use Rattle.std.specs.Prelude.{◌≡◌, drop, slice_get, take, [], IfOk};
-    ghost use Rattle.cts_memo.specs.Sound.{IsMadeOf};
+    ghost use Rattle.std.specs.Prelude.{◌≡◌, ◌≢◌, ◌+◌, ◌<◌, min, drop, slice_get, take, [], IfOk, OnOk};
+    ghost use Rattle.cts_memo.specs.Sound.{IsMadeOf, max_entries};
     ghost use Rattle.cts_memo.specs.Replies.{IsFound, IsPut, after_put};
     ghost use Rattle.cts_memo.specs.Questions.{AreAnswers, IsAnswered};
-    ghost use Rattle.cts_memo.specs.Tables.{base_of, told_by};
+    ghost use Rattle.cts_memo.specs.Tables.{base_of, room_of, told_by};
 
-    /// A table without entries, with room for so many of them, or for 2^21 where that is less.
-    pub(crate) fn with_room(
-        alloc: Global,
-        params: &Params,
-        secret: Secret,
-        entries: usize,
-    ) -> Result<Table, NoMemory>
+    /// A table without entries. It takes no memory yet.
+    pub(crate) fn new(alloc: Global, params: &Params, secret: Secret) -> Table
         requires { IsParams params.now }
-        ensures told { IfOk result (λ table. told_by table ≡ []) }
-        ensures base { IfOk result (λ table. base_of table ≡ params.now) }
+        ensures told { told_by result ≡ [] }
+        ensures base { base_of result ≡ params.now }
+    {
+        Table {
+            map: IndexMap::with_hasher(alloc, Seeded::new(secret)),
+            params: Snapshot::of(params),
+        }
+    }
+
+    /// Makes room for so many entries in all, or for 2^21 where that is less, for the table's owner, who knows how many
+    /// are to come. `NoMemory` comes where the room can't be had.
+    pub fn reserve(&mut self, entries: usize) -> Result<(), NoMemory>
+        ensures base { base_of self.new ≡ base_of self.old }
+        ensures told { told_by self.new ≡ told_by self.old }
+        ensures room { OnOk result (min entries max_entries ≤ length (told_by self.new) + room_of self.new) }
     {
         let room = entries.min(MAX_ENTRIES);
-        let map = IndexMap::with_capacity_and_hasher(alloc, room, Seeded::new(secret))?;
-        Ok(Table {
-            map,
-            params: Snapshot::of(params),
-        })
+        Ok(self.map.reserve_exact(room.saturating_sub(self.map.len()))?)
     }
 
     /// The entry of a number.
@@ -133,13 +137,15 @@ impl Table {
     /// memo; who owns it needs no turn.
     ///
     /// `At` tells the number of the key's entry. `Full` comes exactly where the key isn't there and there are 2^21
-    /// entries, `NoMemory` where the table could not grow.
+    /// entries, `NoMemory` where the table could not grow, so never where it has room.
     #[inline(always)]
     pub fn publish(&mut self, key: Key, finished: Finished) -> PutEnd
         requires { IsMadeOf (base_of self.old) (told_by self.old) key finished }
         ensures base { base_of self.new ≡ base_of self.old }
         ensures end { IsPut (told_by self.old) key result }
         ensures told { told_by self.new ≡ after_put (told_by self.old) key finished result }
+        ensures room { 0 < room_of self.old → result ≢ PutEnd.NoMemory }
+        ensures left { room_of self.old ≤ room_of self.new + 1 }
     {
         if self.map.len() == MAX_ENTRIES {
             return match self.find(key) {

@@ -160,8 +160,7 @@ fn make_over<R: Threads + Sync, G: Gate>(
     ensures memo { IfOk result (λ made. IsMemoOf instance.now made.1) }
 {
     let sinks = instance.sinks();
-    let nodes = shape.nodes().len();
-    let (memo, pass) = Memo::start_with_room(alloc, instance.params(), secret, nodes)?;
+    let (memo, pass) = Memo::start_seeded(alloc, instance.params(), secret)?;
     let planned = plan_all(rt, alloc, &memo, gate, sinks, shape, workers);
     let table = closed(memo, pass);
     match planned {

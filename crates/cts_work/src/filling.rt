@@ -207,7 +207,7 @@ fn fill_nodes<G: Gate>(
 /// Brings a plan of a shape over sinks into a table with whose parameters it was made, for the table's owner: nobody
 /// shares it, so there are no turns.
 ///
-/// The nodes are gone through in their order. Each is looked up, and takes its number where the table has it; where it
+/// Room for all nodes is had first, and they are gone through in their order. Each is looked up, and takes its number where the table has it; where it
 /// is absent, the gate's `between` is called with the number of its piece, and the node is published. A pair above the pieces
 /// has the number of its leftmost one. Nothing is looked up or published above a node that the table had no room for.
 /// `NoMemory` comes where an allocation fails, or the table could not grow; what was published stays in the table.
@@ -228,6 +228,7 @@ pub fn fill_table<G: Gate>(
     ensures known { OnOk result ((length (told_by table.new) ≡ max_entries) ⊎ AreKnown (told_by table.new) sinks.now shape.now) }
 {
     let nodes = shape.nodes();
+    table.reserve(nodes.len())?;
     let filling = Filling { sinks, nodes };
     fill_nodes(alloc, gate, &filling, table, plan)
 }
