@@ -1,5 +1,5 @@
 -- Plans in parts.
-use Rattle.std.proofs.Common.{◌≡◌, ℕ, ◌+◌, ◌<◌, ◌≤◌, List, [], ◌∷◌, ◌++◌, drop, take, length, get_or, sym, ap, ◌∙◌, subst, arith}
+use Rattle.std.proofs.Common.{◌≡◌, ℕ, ◌+◌, ◌<◌, ◌≤◌, List, [], ◌∷◌, ◌++◌, drop, take, length, get_or, sym, ap, ◌∙◌, subst, arith, length-append}
 use Rattle.std.proofs.lemmas.List.{drop_more, drop_all, flat_map_more, take_more}
 use Rattle.std.proofs.lemmas.List.Concat.{get_or-flat_map}
 use Rattle.std.proofs.lemmas.List.Folds.{length-flat_map-take}
@@ -40,6 +40,10 @@ joined-past parts k h = ap joined (drop_all k parts h)
 pub joined-upto : (parts : List PlanPart) (k : ℕ) (d : PlanPart) → k < length parts
     → joined (take (k + 1) parts) ≡ joined (take k parts) ++ (get_or parts k d).nodes.items
 joined-upto parts k d h = ap joined (take_more parts k d h) ∙ joined-push (take k parts) (get_or parts k d)
+
+pub length-joined-upto : (parts : List PlanPart) (k : ℕ) (d : PlanPart) → k < length parts
+    → length (joined (take (k + 1) parts)) ≡ length (joined (take k parts)) + length (get_or parts k d).nodes.items
+length-joined-upto parts k d h = ap length (joined-upto parts k d h) ∙ length-append (joined (take k parts)) (get_or parts k d).nodes.items
 
 -- a part is no longer than what is left of all
 pub part_within : (parts : List PlanPart) (k : ℕ) (d : PlanPart) → k < length parts

@@ -4,9 +4,9 @@ use Rattle.cts_memo.specs.Tables.{base_of, told_by}
 use Rattle.cts_work.specs.declared.plan.PlanPart.{PlanPart}
 use Rattle.cts_work.specs.Plans.{joined}
 use Rattle.cts_work.specs.Work.{AreFinished}
-use Rattle.cts_work.proofs.Filled.{stays}
+use Rattle.cts_work.proofs.Filled.{grows_on, stays}
 use Rattle.cts_work.proofs.Numbered.{none_numbered, numbered_known}
-use Rattle.cts_work.proofs.Plans.{part_made, part_within}
+use Rattle.cts_work.proofs.Plans.{length-joined-upto, part_made, part_within}
 use Rattle.cts_work.proofs.filling.fill_nodes.Goals as goal
 
 pub loop-number-init : goal.loop-number-init
@@ -60,3 +60,26 @@ returns-clause-known g c =
       c.requires.long,
     ))
     c.loop-number.invariant.before
+
+pub loop-number-preserved : goal.loop-number-preserved
+loop-number-preserved g c =
+    let parts = c.args.plan.now.parts.items in
+    let k = c.loop-number.number in
+    let e : PlanPart = c.index-part.result.now in
+    let h : k < length parts = omega (arith, c.loop-number-test.true, c.len-number-end.ensures) in
+    record {
+      table = grows_on c.args.table.now c.loop-number.table c.fill_part.new.table c.loop-number.invariant.table c.fill_part.ensures.table;
+      long = omega (
+        arith,
+        c.in_ok-fill_part.ensures.long,
+        c.loop-number.invariant.long,
+        ap length c.deref.ensures.value,
+        ap (λ (p : PlanPart). length p.nodes.items) c.index-part.ensures,
+        length-joined-upto parts k e h,
+      );
+      before = c.in_ok-fill_part.ensures.before;
+    }
+
+pub returns-in_err-fill_part-clause-table : goal.returns-in_err-fill_part-clause-table
+returns-in_err-fill_part-clause-table g c =
+    grows_on c.args.table.now c.loop-number.table c.fill_part.new.table c.loop-number.invariant.table c.fill_part.ensures.table

@@ -112,3 +112,15 @@ pub returns-clause-merges : goal.returns-clause-merges
 returns-clause-merges g c =
     merges_within c.args.work.now (seen_by c.args.pass.now) c.args.first (c.loop-node.node - c.args.first) (c.args.root + 1 - c.args.first)
     c.args.steps.now c.loop-node.steps (omega (arith, c.loop-node.invariant.upto)) c.loop-node.invariant.merges
+
+pub returns-in_err-tree-clause-pass : goal.returns-in_err-tree-clause-pass
+returns-in_err-tree-clause-pass g c = stands_still c.args.work.now.memo.now c.args.pass.now c.requires.own
+
+pub returns-in_err-tree-clause-noted : goal.returns-in_err-tree-clause-noted
+returns-in_err-tree-clause-noted g c = c.requires.noted
+
+pub returns-in_err-push-in-Ok-clause-noted : goal.returns-in_err-push-in-Ok-clause-noted
+returns-in_err-push-in-Ok-clause-noted g c = c.place_node.ensures.noted
+
+pub returns-in-Err-clause-noted : goal.returns-in-Err-clause-noted
+returns-in-Err-clause-noted g c = c.place_node.ensures.noted

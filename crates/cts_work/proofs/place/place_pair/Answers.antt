@@ -1,4 +1,7 @@
-use Rattle.std.proofs.Common.{sym, subst, ◌∙◌}
+use Rattle.std.proofs.Common.{arith, sym, subst, ◌∙◌}
+use Rattle.std.proofs.lemmas.Option.{slice_get_within}
+use Rattle.cts_turn.proofs.Prefixes.{prefix_self}
+use Rattle.cts_work.proofs.Nodes.{stands_still}
 use Rattle.cts_turn.specs.Passes.{seen_by}
 use Rattle.cts_topo.specs.declared.shape.ShapeNode.TheVariants.{Pair}
 use Rattle.cts_memo.specs.Passes.{params_of}
@@ -51,3 +54,20 @@ returns-in_ok-add-in-Ok-clause-built g c = (c.in-Ok.pair, c.in_ok-add-in-Ok.ensu
 pub returns-in-Err-clause-noted : goal.returns-in-Err-clause-noted
 returns-in-Err-clause-noted g c =
     all_noted_stay (seen_by c.args.pass.now) (seen_by c.build_pair.new.pass) c.build_pair.ensures.pass.goes_on c.args.nodes.now.items c.requires.noted
+
+pub returns-in-Some-find-clause-pass : goal.returns-in-Some-find-clause-pass
+returns-in-Some-find-clause-pass g c = stands_still c.args.work.now.memo.now c.args.pass.now c.requires.own
+
+pub returns-in-Some-find-clause-more : goal.returns-in-Some-find-clause-more
+returns-in-Some-find-clause-more g c = prefix_self c.args.nodes.now.items
+
+pub returns-in-Err-clause-more : goal.returns-in-Err-clause-more
+returns-in-Err-clause-more g c = prefix_self c.args.nodes.now.items
+
+pub index-a-requires : goal.index-a-requires
+index-a-requires g c =
+    omega (arith, slice_get_within c.args.nodes.now.items c.args.left c.requires.left.0 c.requires.left.1, c.args.nodes.now.ok.0)
+
+pub index-b-requires : goal.index-b-requires
+index-b-requires g c =
+    omega (arith, slice_get_within c.args.nodes.now.items c.args.right c.requires.right.0 c.requires.right.1, c.args.nodes.now.ok.0)

@@ -5,8 +5,8 @@ use Rattle.cts_memo.specs.Passes.{params_of}
 use Rattle.cts_work.specs.declared.plan.PlanPart.{PlanPart}
 use Rattle.cts_work.specs.Plans.{joined}
 use Rattle.cts_work.specs.Work.{AreMade}
-use Rattle.cts_work.proofs.Plans.{part_made, part_within}
-use Rattle.cts_work.proofs.Nodes.{stands_still}
+use Rattle.cts_work.proofs.Plans.{length-joined-upto, part_made, part_within}
+use Rattle.cts_work.proofs.Nodes.{goes_further, stands_still}
 use Rattle.cts_work.proofs.Numbered.{none_numbered, numbered_known}
 use Rattle.cts_work.proofs.Told.{none_told}
 use Rattle.cts_work.proofs.publishing.bring_nodes.Goals as goal
@@ -59,3 +59,34 @@ returns-clause-known g c =
       c.requires.long,
     ))
     c.loop-number.invariant.before
+
+pub loop-number-preserved : goal.loop-number-preserved
+loop-number-preserved g c =
+    let parts = c.args.plan.now.parts.items in
+    let k = c.loop-number.number in
+    let e : PlanPart = c.index-part.result.now in
+    let h : k < length parts = omega (arith, c.loop-number-test.true, c.len-number-end.ensures) in
+    let more = c.in_ok-told-2.ensures in
+    record {
+      pass = goes_further c.args.work.now.memo.now c.args.pass.now c.loop-number.pass c.bring_part.new.pass c.loop-number.invariant.pass c.bring_part.ensures.pass;
+      long = omega (
+        arith,
+        more.long,
+        c.loop-number.invariant.long,
+        ap length c.deref.ensures.value,
+        ap (λ (p : PlanPart). length p.nodes.items) c.index-part.ensures,
+        length-joined-upto parts k e h,
+      );
+      before = more.before;
+      told = more.told;
+    }
+
+pub returns-in_err-before-clause-pass : goal.returns-in_err-before-clause-pass
+returns-in_err-before-clause-pass g c = stands_still c.args.work.now.memo.now c.args.pass.now c.requires.own
+
+pub returns-in_err-told-clause-pass : goal.returns-in_err-told-clause-pass
+returns-in_err-told-clause-pass g c = stands_still c.args.work.now.memo.now c.args.pass.now c.requires.own
+
+pub returns-in_err-told-2-clause-pass : goal.returns-in_err-told-2-clause-pass
+returns-in_err-told-2-clause-pass g c =
+    goes_further c.args.work.now.memo.now c.args.pass.now c.loop-number.pass c.bring_part.new.pass c.loop-number.invariant.pass c.bring_part.ensures.pass

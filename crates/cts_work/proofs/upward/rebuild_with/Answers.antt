@@ -5,6 +5,7 @@ use Rattle.cts_turn.specs.Passes.{seen_by}
 use Rattle.cts_work.specs.declared.node.Built.{Built}
 use Rattle.cts_work.specs.Known.{picked}
 use Rattle.cts_work.proofs.Misses.{fewer_missing}
+use Rattle.cts_work.proofs.Nodes.{goes_further}
 use Rattle.cts_work.proofs.upward.rebuild_with.Goals as goal
 
 pub returns-in_ok-sites-in-Ok-clause-sites : goal.returns-in_ok-sites-in-Ok-clause-sites
@@ -31,3 +32,15 @@ pub returns-in-Err-clause-merges : goal.returns-in-Err-clause-merges
 returns-in-Err-clause-merges g c =
     fewer_missing (seen_by c.args.pass.now) (seen_by c.listen.new.pass) c.args.sinks.now c.args.shape.now c.args.steps.now c.build_over.new.steps
     c.listen.ensures.pass.goes_on c.build_over.ensures.merges
+
+pub returns-in_ok-sites-in-Ok-clause-goes_on : goal.returns-in_ok-sites-in-Ok-clause-goes_on
+returns-in_ok-sites-in-Ok-clause-goes_on g c =
+    (goes_further c.args.memo.now c.args.pass.now c.listen.new.pass c.build_over.new.pass c.listen.ensures.pass c.build_over.ensures.pass).goes_on
+
+pub returns-in_err-sites-in-Ok-clause-goes_on : goal.returns-in_err-sites-in-Ok-clause-goes_on
+returns-in_err-sites-in-Ok-clause-goes_on g c =
+    (goes_further c.args.memo.now c.args.pass.now c.listen.new.pass c.build_over.new.pass c.listen.ensures.pass c.build_over.ensures.pass).goes_on
+
+pub returns-in-Err-clause-goes_on : goal.returns-in-Err-clause-goes_on
+returns-in-Err-clause-goes_on g c =
+    (goes_further c.args.memo.now c.args.pass.now c.listen.new.pass c.build_over.new.pass c.listen.ensures.pass c.build_over.ensures.pass).goes_on
