@@ -32,7 +32,7 @@ pub struct Table {
 }
 
 impl Table {
-    ghost use Rattle.std.specs.Prelude.{◌≡◌, ◌≢◌, ◌+◌, ◌<◌, min, drop, slice_get, take, [], IfOk, OnOk};
+    ghost use Rattle.std.specs.Prelude.{◌≡◌, ◌≢◌, ◌+◌, ◌<◌, min, drop, slice_get, take, [], IfOk, IsOk, OnOk};
     ghost use Rattle.cts_memo.specs.Sound.{IsMadeOf, max_entries};
     ghost use Rattle.cts_memo.specs.Replies.{IsFound, IsPut, after_put};
     ghost use Rattle.cts_memo.specs.Questions.{AreAnswers, IsAnswered};
@@ -51,11 +51,12 @@ impl Table {
     }
 
     /// Makes room for so many entries in all, or for 2^21 where that is less, for the table's owner, who knows how many
-    /// are to come. `NoMemory` comes where the room can't be had.
+    /// are to come. `NoMemory` comes where the room can't be had, so never where it is there.
     pub fn reserve(&mut self, entries: usize) -> Result<(), NoMemory>
         ensures base { base_of self.new ≡ base_of self.old }
         ensures told { told_by self.new ≡ told_by self.old }
         ensures room { OnOk result (min entries max_entries ≤ length (told_by self.new) + room_of self.new) }
+        ensures succeeds { min entries max_entries ≤ length (told_by self.old) + room_of self.old → IsOk result }
     {
         let room = entries.min(MAX_ENTRIES);
         Ok(self.map.reserve_exact(room.saturating_sub(self.map.len()))?)

@@ -27,7 +27,8 @@ const LOOKS: u32 = 1_000;
 /// How many tickets may be served before that of a call that is near.
 const NEAR: u64 = 3;
 
-/// How long a call steps aside where others are at the turn, in looks: for some ten times as long as a call takes.
+/// How long a call steps aside where others are at the turn, in looks: they take some 10 to 20 µs, in which a caller that
+/// does nothing else makes some fifty calls or more.
 const ASIDE: u32 = 300;
 
 /// How many bells there are. Up to so many calls that wait each sleep by a bell of their own.
