@@ -5,7 +5,7 @@ use cts_route::Grid;
 
 /// The free points of an instance, and its routes.
 #[derive(Drop)]
-pub(crate) struct Ground {
+pub struct Ground {
     pub(crate) free: FreeMap,
     pub(crate) grid: Grid,
 }

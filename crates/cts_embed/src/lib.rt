@@ -2,7 +2,8 @@
 //!
 //! A layer above hands the plan of a shape to [`embed`], or the sites of the plan alone to [`embed_sites`], and takes the
 //! placed tree; it cites `specs/Places.antt` for where a node stands and `specs/PlacedTree.antt` for the tree of the
-//! same form whose nodes are told one by one, each by its subtree and the pairs above it. It hands a placed tree to
+//! same form whose nodes are told one by one, each by its subtree and the pairs above it. A layer whose workers place nodes
+//! beside each other prepares the [`Ground`] of an instance and places one node at a time with [`place_node`]. It hands a placed tree to
 //! [`balance`], or to [`balance_with`] where it has listed the pins of the leaves (`cts_elmore::pins`),
 //! and takes the tree, or the least node that is beyond; it cites `specs/Balance.antt`, which tells by a recursion on
 //! the tree what the balance makes of each node, and `specs/BalancedTree.antt`, which tells the nodes of the balanced
@@ -24,4 +25,6 @@ mod wires;
 pub use balancing::{balance, balance_with};
 pub use embedding::{embed, embed_sites};
 pub use end::{BalanceEnd, EmbedEnd};
+pub use ground::Ground;
 pub use node::NodeBalance;
+pub use placing::{ground_of, place_node, source_place};

@@ -26,7 +26,7 @@ use cts_up::Site;
 use std::alloc::Global;
 
 /// The place of the clock source.
-pub(crate) fn source_place(instance: &Instance) -> Spot
+pub fn source_place(instance: &Instance) -> Spot
     ensures place { result ≡ source_of instance.now }
     ensures valid { IsValid instance.now }
 {
@@ -34,7 +34,7 @@ pub(crate) fn source_place(instance: &Instance) -> Spot
 }
 
 /// Prepares an instance.
-pub(crate) fn ground_of(alloc: Global, instance: &Instance) -> Result<Ground, NoMemory>
+pub fn ground_of(alloc: Global, instance: &Instance) -> Result<Ground, NoMemory>
     ensures { IfOk result (IsGroundOf instance.now) }
 {
     let blocks = instance.blocks();
@@ -102,7 +102,7 @@ fn stand(free: &FreeMap, node: ShapeNode, id: u32, site: &Site, from: Spot) -> (
 
 /// A node of a shape, with the id of a leaf's sink, placed from the place where its route starts; or why there is no
 /// route.
-pub(crate) fn place_node(
+pub fn place_node(
     alloc: Global,
     ground: &Ground,
     node: ShapeNode,

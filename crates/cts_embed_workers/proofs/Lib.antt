@@ -1,0 +1,3 @@
+pub mod Ids
+pub mod Stretches
+pub mod AllNodes
