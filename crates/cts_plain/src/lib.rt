@@ -1,7 +1,8 @@
 //! The synthesis of a clock tree by one thread: shape, plan, places and routes, balance, figures.
 //!
 //! A layer above hands an instance to [`synthesise`], another shape of its sinks to [`synthesise_over`], or a plan
-//! that it made itself to [`finish`], or its sites to [`finish_sites`], and takes the tree with its figures, or why there is none. `specs/Synthesis.antt` says what the synthesis
+//! that it made itself to [`finish`], its sites to [`finish_sites`], or nodes that it placed itself to [`settle`], and takes the
+//! tree with its figures, or why there is none. `specs/Synthesis.antt` says what the synthesis
 //! of an instance is, without a thread, a memo or an order of steps in it. The laws of [`laws`] say that
 //! a valid instance has exactly one synthesis, and that its tree is sound: each sink is reached once, the
 //! routes are legal, no buffer stands in a block, and no node is over the limits.
@@ -12,4 +13,4 @@ pub mod laws;
 mod synthesis;
 
 pub use end::NoTree;
-pub use synthesis::{finish, finish_sites, synthesise, synthesise_over};
+pub use synthesis::{finish, finish_sites, settle, synthesise, synthesise_over};

@@ -81,8 +81,8 @@ pub fn finish_sites(
 }
 
 /// The tree of a placed tree, with its figures: the wires balanced upward, and what each node's load,
-/// delay and slew then are.
-fn settle(alloc: Global, instance: &Instance, placed: Placed) -> Result<(Tree, Figures), NoTree>
+/// delay and slew then are. It is that of the shape by whose plan the nodes were placed, as [`finish`] gives it.
+pub fn settle(alloc: Global, instance: &Instance, placed: Placed) -> Result<(Tree, Figures), NoTree>
     requires fits { Fits instance.now placed }
     requires of_shape { (shape : List ShapeNode) × IsShapeOver (length instance.now.sinks) shape × IsPlacedBy instance.now shape placed }
     ensures tree { (shape : List ShapeNode) → IsPlacedBy instance.now shape placed

@@ -14,7 +14,7 @@ use Rattle.cts_memo.specs.Sound.{IsSound, max_entries}
 use Rattle.cts_memo.specs.Tables.{base_of, told_by}
 use Rattle.cts_plain.specs.declared.end.NoTree.{NoTree}
 use Rattle.cts_plain.specs.declared.end.NoTree.TheVariants as end
-use Rattle.cts_plain.specs.Synthesis.{IsSynthesis, made, beyond}
+use Rattle.cts_plain.specs.Synthesis.{IsSynthesis, Synthesis, made, beyond, cut}
 use Rattle.cts_script.specs.declared.script.ScriptStep.{ScriptStep}
 use Rattle.cts_script.specs.Generator.{made_parts}
 use Rattle.cts_session.specs.Desks.{version_of}
@@ -26,9 +26,10 @@ use Rattle.cts_top.specs.declared.words.Form.{Form}
 use Rattle.cts_top.specs.declared.words.Form.TheVariants.{Synth, Edit, Job}
 use Rattle.cts_top.specs.Input.{Spells, SpellsScripts}
 use Rattle.cts_top.specs.Log.{Log, no_log}
-use Rattle.cts_top.specs.Memos.{HasLog, HoldsMemo, IsKept, IsMemoOf, TellsEnd, TellsOfTree}
+use Rattle.cts_top.specs.Memos.{HasLog, HoldsMemo, IsKeptFor, IsMemoOf, TellsOfTree}
 use Rattle.cts_top.specs.Outcome.{status_of}
-use Rattle.cts_top.specs.Written.{ended_of}
+use Rattle.cts_top.specs.Text.{TellsSynthesis, TreeText, answer_of}
+use Rattle.cts_top.specs.Written.{Answers, ended_of}
 use Rattle.cts_top.proofs.Endings.{Scripted, one_instance, one_scripted}
 use Rattle.cts_top.proofs.Serving.{on_left}
 use Rattle.cts_plain.proofs.Valid.{synthesis_same}
@@ -68,12 +69,25 @@ pub tells_ended : (written : Result Unit WriteEnd) (kind : Answer) → TellsOfTr
 tells_ended (Ok done) kind t = t
 tells_ended (Err end) kind t = tt
 
+answer_tells : (s : Synthesis) → TellsOfTree (status_of (Ok (answer_of s)))
+answer_tells (made tree) = tt
+answer_tells (beyond node) = tt
+answer_tells (cut node) = tt
+
 -- the table is kept exactly where the status tells of the tree
-pub kept_told : (synthesis : Made) (s : Status) (memo : Option Table) → IsKept synthesis memo → TellsEnd synthesis s → IsSome memo ↔ TellsOfTree s
-kept_told (Ok r) s memo kept told = (λ m. told, λ t. kept)
-kept_told (Err (end.Beyond n)) s memo kept told = (λ m. told, λ t. kept)
-kept_told (Err (end.Cut n)) s memo kept told = (λ m. told, λ t. kept)
-kept_told (Err end.NoMemory) s memo kept told = (λ m. absurd (kept m), λ t. absurd (told t))
+pub kept_answered : {K : Type 0} (tell : TreeText) (i : Parts) (held : K → Option (List ℕ)) (faults : K → ℕ) (old new : K)
+    (r : Result Answer Stop) (memo : Option Table) → Answers (TellsSynthesis tell i) held faults old new r → IsKeptFor r memo
+    → IsSome memo ↔ TellsOfTree (status_of r)
+kept_answered tell i held faults old new (Ok kind) memo a kept =
+    let tells : TellsSynthesis tell i kind a.done.0 = a.done.1 in
+    (λ m. subst (λ k. TellsOfTree (status_of (Ok k))) (sym tells.kind_is) (answer_tells tells.synthesis), λ t. kept)
+kept_answered tell i held faults old new (Err stop.Words) memo a kept = (λ m. absurd (kept m), λ t. absurd t)
+kept_answered tell i held faults old new (Err stop.TooLong) memo a kept = (λ m. absurd (kept m), λ t. absurd t)
+kept_answered tell i held faults old new (Err stop.Many) memo a kept = (λ m. absurd (kept m), λ t. absurd t)
+kept_answered tell i held faults old new (Err (stop.Refused line cause)) memo a kept = (λ m. absurd (kept m), λ t. absurd t)
+kept_answered tell i held faults old new (Err stop.ReadFault) memo a kept = (λ m. absurd (kept m), λ t. absurd t)
+kept_answered tell i held faults old new (Err stop.WriteFault) memo a kept = (λ m. tt, λ t. kept)
+kept_answered tell i held faults old new (Err stop.NoMemory) memo a kept = (λ m. absurd (kept m), λ t. absurd t)
 
 -- a run that stopped before it wrote tells of no tree
 pub stopped_untold : (end : Stop) → (IsErrOf {T = Answer} (Err end) stop.WriteFault → ⊥) → TellsOfTree (status_of (Err end)) → ⊥

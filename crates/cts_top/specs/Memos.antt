@@ -1,13 +1,16 @@
 -- What the memo of a run holds, and when a run keeps it.
 use Rattle.std.specs.Prelude.{◌≡◌, ◌⊎◌, ◌≤◌, ℕ, List, length, Option, IfSome, IsSome, Result, Ok, Err}
 use Rattle.cts_instance.specs.declared.parts.Parts.{Parts}
+use Rattle.cts_topo.specs.declared.shape.ShapeNode.{ShapeNode}
 use Rattle.cts_topo.specs.Topology.{shape_of}
 use Rattle.cts_tree.specs.declared.nodes.TreeNode.{TreeNode}
 use Rattle.cts_elmore.specs.declared.figures.Figures.{Figures}
 use Rattle.cts_memo.specs.declared.table.Table.{Table}
 use Rattle.cts_memo.specs.Numbers.{AreKnown}
 use Rattle.cts_memo.specs.Sound.{IsSound, max_entries}
-use Rattle.cts_memo.specs.Tables.{base_of, told_by}
+use Rattle.cts_memo.specs.Tables.{base_of, room_of, told_by}
+use Rattle.cts_work.specs.declared.filling.Numbers.{Numbers}
+use Rattle.cts_work.specs.Filling.{HasRoom}
 use Rattle.cts_plain.specs.declared.end.NoTree.{NoTree}
 use Rattle.cts_plain.specs.declared.end.NoTree.TheVariants as end
 use Rattle.cts_plain.specs.Synthesis.{IsSynthesis, made}
@@ -16,6 +19,9 @@ use Rattle.cts_script.specs.Generator.{made_parts}
 use Rattle.cts_session.specs.Desks.{version_of}
 use Rattle.cts_notes.specs.declared.status.Status.{Status}
 use Rattle.cts_notes.specs.declared.status.Status.TheVariants as status
+use Rattle.cts_top.specs.declared.stop.Answer.{Answer}
+use Rattle.cts_top.specs.declared.stop.Stop.{Stop}
+use Rattle.cts_top.specs.declared.stop.Stop.TheVariants as stop
 use Rattle.cts_top.specs.declared.words.Form.{Form}
 use Rattle.cts_top.specs.declared.words.Form.TheVariants.{Synth, Check, Edit, Make, Job, Trunk, Near, Replay}
 use Rattle.cts_top.specs.Input.{Spells, SpellsScripts}
@@ -31,6 +37,18 @@ pub record IsMemoOf (i : Parts) (table : Table) : Type 0 where
   pub known : (tree : List TreeNode) → IsSynthesis i (made tree)
       → (length (told_by table) ≡ max_entries) ⊎ AreKnown (told_by table) i.sinks (shape_of i.sinks)
 
+-- a table for the entries of an instance, with room for all nodes of a shape, and room for their numbers
+pub record IsReadyFor (i : Parts) (shape : List ShapeNode) (ready : Table × Numbers) : Type 0 where
+  pub base : base_of ready.0 ≡ i.params
+  pub room : length shape ≤ room_of ready.0
+  pub numbers : HasRoom ready.1 (length shape)
+
+-- a sound table of an instance that has a number for every node of a shape, or as many entries as it can have
+pub record IsFilled (i : Parts) (shape : List ShapeNode) (table : Table) : Type 0 where
+  pub base : base_of table ≡ i.params
+  pub sound : IsSound (base_of table) (told_by table)
+  pub known : (length (told_by table) ≡ max_entries) ⊎ AreKnown (told_by table) i.sinks shape
+
 -- at these statuses a run tells of a synthesis: a tree, or that there is none, whole or in part
 abbrev pub TellsOfTree : Status → Type 0
 TellsOfTree status.Done = Unit
@@ -43,12 +61,16 @@ TellsOfTree status.WriteFault = Unit
 TellsOfTree status.NoMemory = ⊥
 TellsOfTree status.NoTrunk = ⊥
 
--- a table is kept exactly where memory did not run out
-abbrev pub IsKept : Result (List TreeNode × Figures) NoTree → Option Table → Type 0
-IsKept (Ok r) memo = IsSome memo
-IsKept (Err (end.Beyond node)) memo = IsSome memo
-IsKept (Err (end.Cut node)) memo = IsSome memo
-IsKept (Err end.NoMemory) memo = IsSome memo → ⊥
+-- a table is kept exactly where a run wrote of its answer, whole or in part
+abbrev pub IsKeptFor : Result Answer Stop → Option Table → Type 0
+IsKeptFor (Ok kind) memo = IsSome memo
+IsKeptFor (Err stop.WriteFault) memo = IsSome memo
+IsKeptFor (Err stop.Words) memo = IsSome memo → ⊥
+IsKeptFor (Err stop.TooLong) memo = IsSome memo → ⊥
+IsKeptFor (Err stop.Many) memo = IsSome memo → ⊥
+IsKeptFor (Err (stop.Refused line cause)) memo = IsSome memo → ⊥
+IsKeptFor (Err stop.ReadFault) memo = IsSome memo → ⊥
+IsKeptFor (Err stop.NoMemory) memo = IsSome memo → ⊥
 
 -- a run that tells of this answer of a synthesis has such a status
 abbrev pub TellsEnd : Result (List TreeNode × Figures) NoTree → Status → Type 0

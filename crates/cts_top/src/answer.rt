@@ -1,11 +1,11 @@
 //! The synthesis of an instance, and the text for it.
 
-ghost use Rattle.std.specs.Prelude.{◌≡◌, ◌<◌, ◌≤◌, ◌↔◌, Err, IfOk, IfSome, IsSome};
+ghost use Rattle.std.specs.Prelude.{◌≡◌, ◌<◌, ◌≤◌, Err, IfOk};
 ghost use Rattle.cts_elmore.specs.Measurement.{HasFigures};
 ghost use Rattle.cts_io.specs.Text.{Writes};
 ghost use Rattle.cts_report.specs.Report.{IsPrintable};
 ghost use Rattle.cts_plain.specs.Ends.{EndsBy};
-ghost use Rattle.cts_top.specs.Memos.{IsMemoOf, TellsEnd, TellsOfTree};
+ghost use Rattle.cts_top.specs.Memos.{TellsEnd};
 ghost use Rattle.cts_top.specs.Outcome.{status_of};
 ghost use Rattle.cts_top.specs.Synthesised.{ComesOver, IsSynthesised, IsSynthesisedBy, Topology};
 ghost use Rattle.cts_top.specs.Text.{TellsComing, TellsSynthesis, TreeText, no_tree_text, told_by};
@@ -13,18 +13,15 @@ ghost use Rattle.cts_top.specs.Written.{Answers};
 
 use crate::stop::{Answer, Stop, ended};
 use crate::valid::instance_is_valid;
-use crate::workers::synthesise_by_workers;
 use cts_elmore::Figures;
 use cts_instance::Instance;
 use cts_io::{ByteSink, SinkBuffer, WriteEnd};
-use cts_memo::Table;
 use cts_merge::Steps;
 use cts_notes::put_numbered;
 use cts_plain::{NoTree, synthesise};
 use cts_report::{write_report, write_summary};
 use cts_report_workers::write_report_by;
 use cts_tree::Tree;
-use cts_work::Gate;
 use std::alloc::Global;
 use std::marker::Brand;
 use std::sync::ledger::{Blank, Ledger};
@@ -155,7 +152,7 @@ fn write_tree_by<R: Threads + Sync, K: ByteSink>(
 }
 
 /// As [`answer_synthesis`], with so many workers for a report.
-fn answer_synthesis_by<R: Threads + Sync, K: ByteSink>(
+pub(crate) fn answer_synthesis_by<R: Threads + Sync, K: ByteSink>(
     rt: &R,
     alloc: Global,
     workers: u32,
@@ -192,26 +189,4 @@ pub fn answer_instance<K: ByteSink>(
     ensures { Answers (TellsSynthesis (told_by telling) instance.now) K.held K.faults sink.old sink.new result }
 {
     answer_synthesis(sink, telling, instance, synthesise_alone(alloc, instance))
-}
-
-/// Writes the text for the synthesis of an instance by so many workers, and gives the table of the memo,
-/// unless memory ran out.
-pub fn answer_by_workers<R: Threads + Sync, K: ByteSink, G: Gate>(
-    rt: &R,
-    alloc: Global,
-    gate: &G,
-    sink: &mut K,
-    telling: Telling,
-    instance: &Instance,
-    workers: u32,
-) -> (Result<Answer, Stop>, Option<Table>)
-    requires some { 1 ≤ workers }
-    requires few { workers ≤ 64 }
-    ensures answers { Answers (TellsSynthesis (told_by telling) instance.now) K.held K.faults sink.old sink.new result.0 }
-    ensures kept { IsSome result.1 ↔ TellsOfTree (status_of result.0) }
-    ensures memo { IfSome result.1 (IsMemoOf instance.now) }
-{
-    let (synthesis, memo) = synthesise_by_workers(rt, alloc, gate, instance, workers);
-    let answer = answer_synthesis_by(rt, alloc, workers, sink, telling, instance, synthesis);
-    (answer, memo)
 }

@@ -16,7 +16,8 @@ ghost use Rattle.cts_top.specs.Text.{TellsSynthesis, summary_in};
 ghost use Rattle.cts_top.specs.Words.{IsAlone, IsWithinLimits};
 ghost use Rattle.cts_top.specs.Written.{Answers};
 
-use crate::answer::{Telling, answer_by_workers, answer_instance};
+use crate::answer::{Telling, answer_instance};
+use crate::by_workers::answer_by_workers;
 use crate::edit::serve_edit;
 use crate::input::{give_back, read_input};
 use crate::near::answer_near;

@@ -1,61 +1,81 @@
-//! The synthesis of an instance by many workers, over a memo.
+//! The parts of a synthesis by many workers: the shape, the table of the memo, and what a plan comes to.
 
-ghost use Rattle.std.specs.Prelude.{◌≡◌, ◌≤◌, ◌⊎◌, length, IfOk, IfSome, OnOk};
+ghost use Rattle.std.specs.Prelude.{◌≡◌, ◌≤◌, [], length, map, IfErr, IfOk, MatchOption};
 ghost use Rattle.cts_topo.specs.Shape.{IsShapeOver};
 ghost use Rattle.cts_topo.specs.Sinks.{AreSinks};
 ghost use Rattle.cts_topo.specs.Topology.{shape_of};
-ghost use Rattle.cts_up.specs.Ends.{Ends};
 ghost use Rattle.cts_up.specs.Plan.{IsPlan};
+ghost use Rattle.cts_up.specs.Sites.{site_of};
+ghost use Rattle.cts_embed.specs.Fitting.{Fits};
+ghost use Rattle.cts_plain.specs.Ends.{EndsWithPlan};
+ghost use Rattle.cts_plain.specs.Synthesis.{IsPlacedBy};
 ghost use Rattle.cts_turn.specs.Passes.{seen_by, share_of};
-ghost use Rattle.cts_memo.specs.Numbers.{AreKnown};
 ghost use Rattle.cts_memo.specs.Passes.{IsPassOf, params_of};
 ghost use Rattle.cts_memo.specs.Sound.{IsSound, max_entries};
-ghost use Rattle.cts_memo.specs.Tables.{base_of, told_by};
-ghost use Rattle.cts_top.specs.Memos.{IsKept, IsMemoOf};
+ghost use Rattle.cts_memo.specs.Tables.{base_of, room_of, told_by};
+ghost use Rattle.cts_top.specs.Memos.{IsFilled, IsReadyFor};
 ghost use Rattle.cts_top.specs.Synthesised.{IsSynthesised};
+ghost use Rattle.cts_work.specs.Filling.{HasRoom};
 ghost use Rattle.cts_work.specs.Plans.{nodes_of};
 
 use crate::valid::instance_is_valid;
 use cts_elmore::Figures;
+use cts_embed::embed_sites;
+use cts_embed_workers::{embed_by, room_for};
 use cts_instance::Instance;
 use cts_memo::{Memo, MemoPass, Secret, Table};
 use cts_num::NoMemory;
-use cts_plain::{NoTree, finish_sites};
+use cts_plain::{NoTree, settle};
 use cts_topo::Shape;
 use cts_topo_workers::topology_by;
-use cts_tree::Tree;
+use cts_tree::{Placed, Tree, TreeNode};
 use cts_units::Sink;
-use cts_up::UpEnd;
-use cts_work::{Gate, Plan, fill_table, plan_all};
+use cts_up::Site;
+use cts_work::{Gate, Numbers, Plan, fill_table};
 use std::alloc::Global;
 use std::thread::{Threads, join};
 
-/// What a synthesis comes to, and the table of its memo.
-type Made = (Result<(Tree, Figures), NoTree>, Table);
-
-/// Brings the plan of an instance into a table. The table comes back.
-fn fill<G: Gate>(
+/// Room for the plan of a shape in a table that has no entries yet, so that it can be brought there without memory.
+pub(crate) fn make_room(
     alloc: Global,
-    gate: &G,
     mut table: Table,
+    shape: &Shape,
+) -> Result<(Table, Numbers), NoMemory>
+    requires none { told_by table ≡ [] }
+    requires few { length shape.now ≤ max_entries }
+    ensures base { IfOk result (λ made. base_of made.0 ≡ base_of table) }
+    ensures room { IfOk result (λ made. length shape.now ≤ room_of made.0) }
+    ensures numbers { IfOk result (λ made. HasRoom made.1 (length shape.now)) }
+{
+    let nodes = shape.nodes().len();
+    table.reserve(nodes)?;
+    let numbers = Numbers::with_room(alloc, nodes)?;
+    Ok((table, numbers))
+}
+
+/// Brings the plan of an instance into a table, which has room for it beside room for its numbers. The table comes back.
+pub(crate) fn fill<G: Gate>(
+    gate: &G,
     instance: &Instance,
     shape: &Shape,
     plan: &Plan,
-) -> (Result<(), NoMemory>, Table)
-    requires base { base_of table ≡ instance.now.params }
+    ready: Option<(Table, Numbers)>,
+) -> Table
     requires shape { IsShapeOver (length instance.now.sinks) shape.now }
     requires plan { IsPlan instance.now.params instance.now.sinks shape.now (nodes_of plan.now) }
-    ensures base { base_of result.1 ≡ instance.now.params }
-    ensures sound { IsSound (base_of result.1) (told_by result.1) }
-    ensures known { OnOk result.0 ((length (told_by result.1) ≡ max_entries) ⊎ AreKnown (told_by result.1) instance.now.sinks shape.now) }
+    requires ready { MatchOption ready ⊥ (IsReadyFor instance.now shape.now) }
+    ensures { IsFilled instance.now shape.now result }
 {
+    let Some((mut table, numbers)) = ready else {
+        unreachable!()
+    };
     let sinks = instance.sinks();
-    let filled = fill_table(alloc, gate, &mut table, sinks, shape, plan);
-    (filled, table)
+    fill_table(gate, &mut table, numbers, sinks, shape, plan);
+    table
 }
 
 /// The table of a memo whose passes are all joined.
-fn closed(memo: Memo, pass: MemoPass) -> Table
+pub(crate) fn closed(memo: Memo, pass: MemoPass) -> Table
     requires own { IsPassOf memo pass }
     requires whole { share_of pass ≡ 65536 }
     ensures told { told_by result ≡ seen_by pass }
@@ -69,12 +89,76 @@ fn closed(memo: Memo, pass: MemoPass) -> Table
     }
 }
 
-/// What the plan of an instance comes to.
-fn finish_plan(
+/// Room for the nodes of a tree, which a thread of its own has meanwhile, and the sites of its plan.
+fn list_sites<R: Threads>(
+    rt: &R,
+    alloc: Global,
+    shape: &Shape,
+    plan: &Plan,
+) -> (Result<Vec<TreeNode>, NoMemory>, Result<Vec<Site>, NoMemory>)
+    ensures room { IfOk result.0 (λ room. length room.items ≡ length shape.now) }
+    ensures sites { IfOk result.1 (λ sites. sites.items ≡ map site_of (nodes_of plan.now)) }
+{
+    let count = shape.nodes().len();
+    let room = move || -> Result<Vec<TreeNode>, NoMemory>
+        ensures { IfOk result (λ room. length room.items ≡ count) }
+    { room_for(alloc, count) };
+    let list = move || -> Result<Vec<Site>, NoMemory>
+        ensures { IfOk result (λ sites. sites.items ≡ map site_of (nodes_of plan.entry.now)) }
+    { plan.sites(alloc) };
+    join(rt, room, list)
+}
+
+/// The nodes of the shape of an instance in their places, by its plan, which one thread places.
+fn place_alone(
     alloc: Global,
     instance: &Instance,
     shape: &Shape,
     plan: &Plan,
+) -> Result<Placed, NoTree>
+    requires shape { IsShapeOver (length instance.now.sinks) shape.now }
+    requires plan { IsPlan instance.now.params instance.now.sinks shape.now (nodes_of plan.now) }
+    ensures fits { IfOk result (Fits instance.now) }
+    ensures placed { IfOk result (IsPlacedBy instance.now shape.now) }
+    ensures ends { IfErr result (EndsWithPlan instance.now shape.now) }
+{
+    let sites = plan.sites(alloc)?;
+    Ok(embed_sites(alloc, instance, shape, sites.as_slice())?)
+}
+
+/// The same by so many workers, of whom one brings the plan into the table of the memo meanwhile: of two, the other one is
+/// the caller.
+fn place_plan<R: Threads + Sync>(
+    rt: &R,
+    alloc: Global,
+    instance: &Instance,
+    shape: &Shape,
+    plan: &Plan,
+    workers: u32,
+) -> Result<Placed, NoTree>
+    requires shape { IsShapeOver (length instance.now.sinks) shape.now }
+    requires plan { IsPlan instance.now.params instance.now.sinks shape.now (nodes_of plan.now) }
+    ensures fits { IfOk result (Fits instance.now) }
+    ensures placed { IfOk result (IsPlacedBy instance.now shape.now) }
+    ensures ends { IfErr result (EndsWithPlan instance.now shape.now) }
+{
+    if workers < 3 {
+        return place_alone(alloc, instance, shape, plan);
+    }
+    let (room, sites) = list_sites(rt, alloc, shape, plan);
+    let sites = sites?;
+    let sites = sites.as_slice();
+    Ok(embed_by(rt, alloc, workers, instance, shape, sites, room?)?)
+}
+
+/// What the plan of an instance comes to, whose nodes so many workers place.
+pub(crate) fn finish_plan<R: Threads + Sync>(
+    rt: &R,
+    alloc: Global,
+    instance: &Instance,
+    shape: &Shape,
+    plan: &Plan,
+    workers: u32,
 ) -> Result<(Tree, Figures), NoTree>
     requires definition { shape.now ≡ shape_of instance.now.sinks }
     requires shape { IsShapeOver (length instance.now.sinks) shape.now }
@@ -82,95 +166,14 @@ fn finish_plan(
     ensures { IsSynthesised instance.now result }
 {
     instance_is_valid(instance);
-    let sites = plan.sites(alloc)?;
-    finish_sites(alloc, instance, shape, sites)
-}
-
-/// What the plan of an instance comes to, while a thread of its own brings it into the table of the memo. Nobody shares
-/// the memo of a run by workers, so it is closed before that, and there are no turns.
-fn finish_beside<R: Threads + Sync, G: Gate>(
-    rt: &R,
-    alloc: Global,
-    gate: &G,
-    table: Table,
-    instance: &Instance,
-    shape: &Shape,
-    plan: &Plan,
-) -> Result<Made, NoMemory>
-    requires definition { shape.now ≡ shape_of instance.now.sinks }
-    requires base { base_of table ≡ instance.now.params }
-    requires shape { IsShapeOver (length instance.now.sinks) shape.now }
-    requires plan { IsPlan instance.now.params instance.now.sinks shape.now (nodes_of plan.now) }
-    ensures synthesised { IfOk result (λ made. IsSynthesised instance.now made.0) }
-    ensures memo { IfOk result (λ made. IsMemoOf instance.now made.1) }
-{
-    let bring = move || -> (Result<(), NoMemory>, Table)
-        requires { (base_of table ≡ instance.now.params) × IsShapeOver (length instance.now.sinks) shape.now
-            × IsPlan instance.now.params instance.now.sinks shape.now (nodes_of plan.now) }
-        ensures { (base_of result.1 ≡ instance.entry.now.params) × IsSound (base_of result.1) (told_by result.1)
-            × OnOk result.0 ((length (told_by result.1) ≡ max_entries) ⊎ AreKnown (told_by result.1) instance.entry.now.sinks shape.entry.now) }
-    { fill(alloc, gate, table, instance, shape, plan) };
-    let go_on = move || -> Result<(Tree, Figures), NoTree>
-        requires { (shape.now ≡ shape_of instance.now.sinks) × IsShapeOver (length instance.now.sinks) shape.now
-            × IsPlan instance.now.params instance.now.sinks shape.now (nodes_of plan.now) }
-        ensures { IsSynthesised instance.entry.now result }
-    { finish_plan(alloc, instance, shape, plan) };
-    let (filled, synthesis) = join(rt, bring, go_on);
-    let (filled, table) = filled;
-    filled?;
-    Ok((synthesis, table))
-}
-
-/// What an instance comes to that has no plan, with the table of its memo.
-fn without_plan(
-    instance: &Instance,
-    shape: &Shape,
-    table: Table,
-    end: UpEnd,
-) -> Result<Made, NoMemory>
-    requires definition { shape.now ≡ shape_of instance.now.sinks }
-    requires base { base_of table ≡ instance.now.params }
-    requires sound { IsSound (base_of table) (told_by table) }
-    requires ends { Ends instance.now.params instance.now.sinks shape.now end }
-    ensures synthesised { IfOk result (λ made. IsSynthesised instance.now made.0) }
-    ensures memo { IfOk result (λ made. IsMemoOf instance.now made.1) }
-{
-    instance_is_valid(instance);
-    match end {
-        UpEnd::Beyond { node } => Ok((Err(NoTree::Beyond { node }), table)),
-        UpEnd::NoMemory => Err(NoMemory),
-    }
-}
-
-/// What the synthesis of an instance over its shape comes to.
-fn make_over<R: Threads + Sync, G: Gate>(
-    rt: &R,
-    alloc: Global,
-    gate: &G,
-    instance: &Instance,
-    shape: &Shape,
-    secret: Secret,
-    workers: u32,
-) -> Result<Made, NoMemory>
-    requires definition { shape.now ≡ shape_of instance.now.sinks }
-    requires shape { IsShapeOver (length instance.now.sinks) shape.now }
-    requires some { 1 ≤ workers }
-    requires few { workers ≤ 64 }
-    ensures synthesised { IfOk result (λ made. IsSynthesised instance.now made.0) }
-    ensures memo { IfOk result (λ made. IsMemoOf instance.now made.1) }
-{
-    let sinks = instance.sinks();
-    let (memo, pass) = Memo::start_seeded(alloc, instance.params(), secret)?;
-    let planned = plan_all(rt, alloc, &memo, gate, sinks, shape, workers);
-    let table = closed(memo, pass);
-    match planned {
-        Ok(plan) => finish_beside(rt, alloc, gate, table, instance, shape, &plan),
-        Err(end) => without_plan(instance, shape, table, end),
+    match place_plan(rt, alloc, instance, shape, plan, workers) {
+        Ok(placed) => settle(alloc, instance, placed),
+        Err(end) => Err(end),
     }
 }
 
 /// The shape over sinks, by so many workers, and the secret of the memo, which a thread of its own makes meanwhile.
-fn make_shape<R: Threads + Sync>(
+pub(crate) fn make_shape<R: Threads + Sync>(
     rt: &R,
     alloc: Global,
     sinks: &[Sink],
@@ -188,57 +191,4 @@ fn make_shape<R: Threads + Sync>(
     { topology_by(rt, alloc, sinks, workers) };
     let (secret, shape) = join(rt, mix, divide);
     (shape, secret)
-}
-
-/// What the synthesis of an instance comes to.
-fn make<R: Threads + Sync, G: Gate>(
-    rt: &R,
-    alloc: Global,
-    gate: &G,
-    instance: &Instance,
-    workers: u32,
-) -> Result<Made, NoMemory>
-    requires some { 1 ≤ workers }
-    requires few { workers ≤ 64 }
-    ensures synthesised { IfOk result (λ made. IsSynthesised instance.now made.0) }
-    ensures memo { IfOk result (λ made. IsMemoOf instance.now made.1) }
-{
-    let (shape, secret) = make_shape(rt, alloc, instance.sinks(), workers);
-    let shape = shape?;
-    make_over(rt, alloc, gate, instance, &shape, secret, workers)
-}
-
-/// The table of a synthesis, unless memory ran out for it.
-fn kept(synthesis: &Result<(Tree, Figures), NoTree>, table: Table) -> Option<Table>
-    ensures kept { IsKept synthesis.now result }
-    ensures same { IfSome result (λ kept. kept ≡ table) }
-{
-    match synthesis {
-        Err(NoTree::NoMemory) => None,
-        _ => Some(table),
-    }
-}
-
-/// The synthesis of an instance by so many workers, as one thread makes it; and the table of the memo,
-/// unless memory ran out.
-pub fn synthesise_by_workers<R: Threads + Sync, G: Gate>(
-    rt: &R,
-    alloc: Global,
-    gate: &G,
-    instance: &Instance,
-    workers: u32,
-) -> (Result<(Tree, Figures), NoTree>, Option<Table>)
-    requires some { 1 ≤ workers }
-    requires few { workers ≤ 64 }
-    ensures synthesised { IsSynthesised instance.now result.0 }
-    ensures kept { IsKept result.0 result.1 }
-    ensures memo { IfSome result.1 (IsMemoOf instance.now) }
-{
-    match make(rt, alloc, gate, instance, workers) {
-        Ok((synthesis, table)) => {
-            let memo = kept(&synthesis, table);
-            (synthesis, memo)
-        }
-        Err(NoMemory) => (Err(NoTree::NoMemory), None),
-    }
 }

@@ -1,13 +1,21 @@
-use Rattle.cts_work.specs.Plans.{nodes_of}
+use Rattle.std.proofs.Common.{Err}
+use Rattle.cts_plain.proofs.Settled.{settled_result}
 use Rattle.cts_top.proofs.Synthesising.{finished}
 use Rattle.cts_top.proofs.workers.finish_plan.Goals as goal
 
-pub finish_sites-requires-clause-sites : goal.finish_sites-requires-clause-sites
-finish_sites-requires-clause-sites c =
-    (nodes_of c.args.plan.now, c.requires.plan, c.in_ok-sites.ensures)
+pub settle-requires-clause-of_shape : goal.settle-requires-clause-of_shape
+settle-requires-clause-of_shape g c = (c.args.shape.now, c.requires.shape, c.in-Ok.ensures.placed)
 
-pub returns : goal.returns
-returns c =
-    finished c.args.instance.now c.instance_is_valid.ensures c.args.shape.now c.requires.definition c.finish_sites.result c.finish_sites.ensures.tree
-    c.finish_sites.ensures.figures c.finish_sites.ensures.sound c.finish_sites.ensures.one_each c.finish_sites.ensures.in_range
-    c.finish_sites.ensures.in_die c.finish_sites.ensures.ends
+pub returns-in-Ok : goal.returns-in-Ok
+returns-in-Ok g c =
+    let i = c.args.instance.now in
+    let shape = c.args.shape.now in
+    let by = c.in-Ok.ensures.placed in
+    finished i c.instance_is_valid.ensures shape c.requires.definition c.settle.result (c.settle.ensures.tree shape by)
+    c.settle.ensures.figures c.settle.ensures.sound c.settle.ensures.one_each c.settle.ensures.in_range c.settle.ensures.in_die
+    (settled_result i shape c.settle.result (c.settle.ensures.ends shape by))
+
+pub returns-in-Err : goal.returns-in-Err
+returns-in-Err g c =
+    finished c.args.instance.now c.instance_is_valid.ensures c.args.shape.now c.requires.definition (Err c.in-Err.end) tt tt tt tt tt tt
+    c.in-Err.ensures.ends

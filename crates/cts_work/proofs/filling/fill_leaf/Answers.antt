@@ -1,5 +1,4 @@
 use Rattle.std.proofs.Common.{subst}
-use Rattle.std.proofs.lemmas.Result.{IfOk-weaker}
 use Rattle.cts_memo.specs.Tables.{base_of, told_by}
 use Rattle.cts_work.specs.Built.{IsKept}
 use Rattle.cts_work.proofs.Numbered.{leaf_of_key}
@@ -12,6 +11,5 @@ fill_key-requires-clause-made g c κs within =
 
 pub returns-clause-kept : goal.returns-clause-kept
 returns-clause-kept g c =
-    IfOk-weaker c.fill_key.result _ _
-    (λ n kept. subst (λ k. IsKept (told_by c.fill_key.new.table) k c.args.finished.now n) (c.of_leaf-key.ensures c.args.sink.now c.requires.leaf) kept)
-    c.fill_key.ensures.kept
+    subst (λ k. IsKept (told_by c.fill_key.new.table) k c.args.finished.now c.fill_key.result)
+    (c.of_leaf-key.ensures c.args.sink.now c.requires.leaf) c.fill_key.ensures.kept

@@ -14,16 +14,16 @@ pub bounds-filling-sink : goal.bounds-filling-sink
 bounds-filling-sink g c =
     leaf_within (length c.args.filling.now.sinks.now) c.args.filling.now.nodes.now c.requires.ready.shape c.args.node _ _ c.requires.node c.in-Leaf.is
 
-pub fill_leaf-requires-clause-narrow : goal.fill_leaf-requires-clause-narrow
-fill_leaf-requires-clause-narrow g c κs within =
+pub fill_leaf-number-requires-clause-narrow : goal.fill_leaf-number-requires-clause-narrow
+fill_leaf-number-requires-clause-narrow g c κs within =
     let nodes = c.args.filling.now.nodes.now in
     let sinks = c.args.filling.now.sinks.now in
     finished_narrow (base_of c.args.table.now) sinks c.in-Leaf.sink c.args.finished.now c.args.table.now.within c.requires.ready.sinks
     (subst (λ t. IsFinished (base_of c.args.table.now) sinks t c.args.finished.now)
     (tip_at nodes c.args.node c.requires.node _ c.in-Leaf.sink c.in-Leaf.is) c.requires.made)
 
-pub fill_leaf-requires-clause-leaf : goal.fill_leaf-requires-clause-leaf
-fill_leaf-requires-clause-leaf g c κs within =
+pub fill_leaf-number-requires-clause-leaf : goal.fill_leaf-number-requires-clause-leaf
+fill_leaf-number-requires-clause-leaf g c κs within =
     let nodes = c.args.filling.now.nodes.now in
     let sinks = c.args.filling.now.sinks.now in
     leaf_finished (base_of c.args.table.now) sinks c.in-Leaf.sink c.args.finished.now _
@@ -47,34 +47,34 @@ bounds-before-right g c =
     (starts_first c.args.filling.now.nodes.now (length c.args.filling.now.sinks.now) c.requires.ready.shape c.args.node c.requires.node) in
     omega (arith, c.requires.long, w.3)
 
-pub fill_pair-requires-clause-here : goal.fill_pair-requires-clause-here
-fill_pair-requires-clause-here g c κs within =
+pub fill_pair-number-requires-clause-here : goal.fill_pair-number-requires-clause-here
+fill_pair-number-requires-clause-here g c κs within =
     pair_at_number c.args.filling.now.sinks.now c.args.filling.now.nodes.now c.requires.ready.shape c.args.node c.requires.node _
     c.in-Pair.left c.in-Pair.right c.in-Pair.is
 
-pub fill_pair-requires-clause-left : goal.fill_pair-requires-clause-left
-fill_pair-requires-clause-left g c κs within =
+pub fill_pair-number-requires-clause-left : goal.fill_pair-number-requires-clause-left
+fill_pair-number-requires-clause-left g c κs within =
     let w =
     child_within c.args.filling.now.sinks.now c.args.filling.now.nodes.now c.requires.ready.shape c.args.node c.requires.node _ 0
     c.in-Pair.left c.in-Pair.right c.in-Pair.is
     (starts_first c.args.filling.now.nodes.now (length c.args.filling.now.sinks.now) c.requires.ready.shape c.args.node c.requires.node) in
     c.requires.before.each c.in-Pair.left _ (omega (arith, c.requires.long, w.1))
 
-pub fill_pair-requires-clause-right : goal.fill_pair-requires-clause-right
-fill_pair-requires-clause-right g c κs within =
+pub fill_pair-number-requires-clause-right : goal.fill_pair-number-requires-clause-right
+fill_pair-number-requires-clause-right g c κs within =
     let w =
     child_within c.args.filling.now.sinks.now c.args.filling.now.nodes.now c.requires.ready.shape c.args.node c.requires.node _ 0
     c.in-Pair.left c.in-Pair.right c.in-Pair.is
     (starts_first c.args.filling.now.nodes.now (length c.args.filling.now.sinks.now) c.requires.ready.shape c.args.node c.requires.node) in
     c.requires.before.each c.in-Pair.right _ (omega (arith, c.requires.long, w.3))
 
-pub returns-in_ok-number-in-Leaf-clause-number : goal.returns-in_ok-number-in-Leaf-clause-number
-returns-in_ok-number-in-Leaf-clause-number g c =
+pub returns-in-Leaf-clause-number : goal.returns-in-Leaf-clause-number
+returns-in-Leaf-clause-number g c =
     let sinks = c.args.filling.now.sinks.now in
     let nodes = c.args.filling.now.nodes.now in
-    let after = c.fill_leaf.new.table in
+    let after = c.fill_leaf-number.new.table in
     let within = leaf_within (length sinks) nodes c.requires.ready.shape c.args.node _ c.in-Leaf.sink c.requires.node c.in-Leaf.is in
-    subst (λ t. HasNumber (told_by after) sinks t c.in_ok-number-in-Leaf.number)
+    subst (λ t. HasNumber (told_by after) sinks t c.fill_leaf-number.result)
     (sym (tip_at nodes c.args.node c.requires.node _ c.in-Leaf.sink c.in-Leaf.is))
     (leaf_number (base_of after) (told_by after) sinks c.in-Leaf.sink _ c.args.finished.now
-    c.in_ok-number-in-Leaf.number within (table_sound after) c.in_ok-number-in-Leaf.ensures.kept)
+    c.fill_leaf-number.result within (table_sound after) c.fill_leaf-number.ensures.kept)

@@ -13,8 +13,10 @@ pub loop-number-init : goal.loop-number-init
 loop-number-init g c =
     record {
       table = stays c.args.table.now;
-      long = omega (arith, ap length c.in_ok-before.ensures.items);
-      before = none_numbered c.args.filling.now.sinks.now c.args.filling.now.nodes.now (told_by c.args.table.now) c.in_ok-before.before.items c.in_ok-before.ensures.items;
+      long = omega (arith, ap length c.requires.none);
+      room = omega (arith, c.requires.room);
+      places = c.requires.places;
+      before = none_numbered c.args.filling.now.sinks.now c.args.filling.now.nodes.now (told_by c.args.table.now) c.args.before.items c.requires.none;
     }
 
 pub fill_part-requires-clause-within : goal.fill_part-requires-clause-within
@@ -33,6 +35,22 @@ fill_part-requires-clause-within g c κs within =
       ap (λ (p : PlanPart). length p.nodes.items) c.index-part.ensures,
     ) in
     fits
+
+pub fill_part-requires-clause-room : goal.fill_part-requires-clause-room
+fill_part-requires-clause-room g c κs within =
+    let parts = c.args.plan.now.parts.items in
+    let k = c.loop-number.number in
+    let e : PlanPart = c.index-part.result.now in
+    let h : k < length parts = omega (arith, c.loop-number-test.true, c.len-number-end.ensures) in
+    omega (
+      arith,
+      c.requires.long,
+      c.loop-number.invariant.long,
+      c.loop-number.invariant.room,
+      ap length c.deref.ensures.value,
+      part_within parts k e h,
+      ap (λ (p : PlanPart). length p.nodes.items) c.index-part.ensures,
+    )
 
 pub fill_part-requires-clause-made : goal.fill_part-requires-clause-made
 fill_part-requires-clause-made g c κs within =
@@ -71,15 +89,13 @@ loop-number-preserved g c =
       table = grows_on c.args.table.now c.loop-number.table c.fill_part.new.table c.loop-number.invariant.table c.fill_part.ensures.table;
       long = omega (
         arith,
-        c.in_ok-fill_part.ensures.long,
+        c.fill_part.ensures.long,
         c.loop-number.invariant.long,
         ap length c.deref.ensures.value,
         ap (λ (p : PlanPart). length p.nodes.items) c.index-part.ensures,
         length-joined-upto parts k e h,
       );
-      before = c.in_ok-fill_part.ensures.before;
+      room = omega (arith, c.loop-number.invariant.room, c.fill_part.ensures.left, c.fill_part.ensures.long);
+      places = omega (arith, c.loop-number.invariant.places, c.fill_part.ensures.places);
+      before = c.fill_part.ensures.before;
     }
-
-pub returns-in_err-fill_part-clause-table : goal.returns-in_err-fill_part-clause-table
-returns-in_err-fill_part-clause-table g c =
-    grows_on c.args.table.now c.loop-number.table c.fill_part.new.table c.loop-number.invariant.table c.fill_part.ensures.table

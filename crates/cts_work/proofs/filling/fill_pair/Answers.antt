@@ -1,5 +1,4 @@
 use Rattle.std.proofs.Common.{None, sym, subst}
-use Rattle.std.proofs.lemmas.Result.{IfOk-weaker}
 use Rattle.cts_topo.specs.declared.shape.ShapeNode.TheVariants.{Pair}
 use Rattle.cts_up.specs.Plan.{IsFinished}
 use Rattle.cts_memo.specs.Tables.{base_of, told_by}
@@ -26,11 +25,10 @@ returns-in-Some-clause-number g c =
     let more = c.fill_key.ensures.table.goes_on in
     let a = number_kept before (told_by after) sinks _ c.args.left.number more (table_short after) c.requires.left in
     let b = number_kept before (told_by after) sinks _ c.args.right.number more (table_short after) c.requires.right in
-    IfOk-weaker c.fill_key.result _ _
-    (λ n kept. subst (λ t. HasNumber (told_by after) sinks t n) (sym c.requires.here)
+    subst (λ t. HasNumber (told_by after) sinks t c.fill_key.result) (sym c.requires.here)
     (pair_number_kept (base_of after) (told_by after) sinks _ _ (Pair c.args.at.left c.args.at.right)
-    c.args.left.number c.args.right.number a b c.in-Some.key (sym c.in-Some.ensures) c.args.finished.now n (table_sound after) kept))
-    c.fill_key.ensures.kept
+    c.args.left.number c.args.right.number a b c.in-Some.key (sym c.in-Some.ensures) c.args.finished.now c.fill_key.result
+    (table_sound after) c.fill_key.ensures.kept)
 
 pub returns-in-None-clause-table : goal.returns-in-None-clause-table
 returns-in-None-clause-table g c = stays c.args.table.now

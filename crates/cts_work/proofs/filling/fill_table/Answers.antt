@@ -4,7 +4,6 @@ use Rattle.cts_up.specs.Plan.{IsPlan}
 use Rattle.cts_memo.specs.Tables.{base_of}
 use Rattle.cts_memo.proofs.Owned.{table_sound}
 use Rattle.cts_work.specs.Plans.{nodes_of}
-use Rattle.cts_work.specs.Work.{AreFinished}
 use Rattle.cts_work.proofs.Plans.{made_plan}
 use Rattle.cts_work.proofs.filling.fill_table.Goals as goal
 
@@ -16,13 +15,9 @@ fill_nodes-requires-clause-long g c κs within =
 
 pub fill_nodes-requires-clause-made : goal.fill_nodes-requires-clause-made
 fill_nodes-requires-clause-made g c κs within =
-    subst (λ p. AreFinished p c.args.sinks.now c.nodes-nodes.result.now 0 (nodes_of c.args.plan.now)) (sym c.reserve.ensures.base)
     (made_plan (base_of c.args.table.now) c.args.sinks.now c.nodes-nodes.result.now (nodes_of c.args.plan.now)
     (subst (λ (ns : List ShapeNode). IsPlan (base_of c.args.table.now) c.args.sinks.now ns (nodes_of c.args.plan.now))
     (sym c.nodes-nodes.ensures.nodes) c.requires.plan)).1
 
 pub returns-clause-sound : goal.returns-clause-sound
 returns-clause-sound g c = table_sound c.fill_nodes.new.table
-
-pub returns-in_err-reserve-clause-sound : goal.returns-in_err-reserve-clause-sound
-returns-in_err-reserve-clause-sound g c = table_sound c.reserve.new.self

@@ -1,4 +1,4 @@
-use Rattle.cts_memo.specs.declared.entry.PutEnd.TheVariants.{At, Full, NoMemory}
+use Rattle.cts_memo.specs.declared.entry.PutEnd.TheVariants.{At, Full}
 use Rattle.cts_work.proofs.Filled.{put_grows, put_published}
 use Rattle.cts_work.proofs.filling.put.Goals as goal
 
@@ -20,8 +20,3 @@ returns-in-Full-clause-table c =
 pub returns-in-Full-clause-kept : goal.returns-in-Full-clause-kept
 returns-in-Full-clause-kept c =
     put_published c.args.table.now c.publish.new.self c.args.key c.args.finished.now Full c.in-Full.ensures.end c.in-Full.ensures.told c.requires.made
-
-pub returns-in-NoMemory-clause-table : goal.returns-in-NoMemory-clause-table
-returns-in-NoMemory-clause-table c =
-    put_grows c.args.table.now c.publish.new.self c.args.key c.args.finished.now NoMemory c.in-NoMemory.ensures.end c.in-NoMemory.ensures.told
-    c.publish.ensures.base
