@@ -157,15 +157,15 @@ module _ (parts : Parts) (nodes : List TreeNode) (ok : IsPostOrder (map tree_chi
 
         -- over the two latest that wait
         module _ (rest : List NodeBalance) (a b : NodeBalance) (taken : waiting ≡ rest ++ a ∷ b ∷ []) where
-          pub left_ready : IsValid parts → IsInRange a
-          left_ready valid =
+          pub left_ready : IsValid parts → Fits parts nodes → IsInRange a
+          left_ready valid fits =
               steps.left_ready parts.params parts.sinks nodes ok k h waiting ascent.waits l r buffer e kind rest a b taken valid.params
-              (sinks_small parts valid)
+              (sinks_small parts valid) fits.few
 
-          pub right_ready : IsValid parts → IsInRange b
-          right_ready valid =
+          pub right_ready : IsValid parts → Fits parts nodes → IsInRange b
+          right_ready valid fits =
               steps.right_ready parts.params parts.sinks nodes ok k h waiting ascent.waits l r buffer e kind rest a b taken valid.params
-              (sinks_small parts valid)
+              (sinks_small parts valid) fits.few
 
           -- the lengths of their routes are read of the nodes as they are now
           module _ (lent : Params) (same : lent ≡ parts.params) (f g : TreeNode) where

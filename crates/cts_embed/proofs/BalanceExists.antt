@@ -25,7 +25,7 @@ use Rattle.cts_tree.specs.declared.nodes.TreeNode.{TreeNode}
 use Rattle.cts_tree.specs.Nodes.{children_of, tree_children, buffer_of}
 use Rattle.cts_instance.specs.declared.parts.Parts.{Parts}
 use Rattle.cts_embed.specs.declared.node.NodeBalance.{NodeBalance}
-use Rattle.cts_embed.specs.Balance.{IsBalance, IsBeyondBalance, IsLeafBalance, IsPairBalance, IsPairBeyond, IsRootWithin, delay_below, delay_through, load_below, sink_of, source_load_of}
+use Rattle.cts_embed.specs.Balance.{IsBalance, IsBeyondBalance, IsLeafBalance, IsPairBalance, IsPairBeyond, IsRootWithin, delay_below, delay_through, least_below, load_below, sink_of, source_load_of}
 use Rattle.cts_embed.specs.BalancedTree.{IsBalancedNode, IsBalancedTree, IsLeastBeyond, IsWireLength}
 use Rattle.cts_embed.specs.Fitting.{Fits, NamesWithin}
 use Rattle.cts_embed.specs.Laws.{PlacedTreesAreBalancedOrBeyond}
@@ -55,11 +55,20 @@ pair_or_beyond params buffer a la b lb ok =
             | inl slow ↦ inr (record { xa = wires.ea; xb = wires.eb; wires = wires.least; over = inr (inr (inr slow)) })
             | inr fast ↦
                 inl (
-                  record { greatest = greatest; load = seen_load_of params.library buffer load; left_wire = wires.ea; right_wire = wires.eb },
+                  record {
+                    greatest = greatest;
+                    least = least_below params.wire a b wires.ea wires.eb + added_delay_of params.library buffer load;
+                    load = seen_load_of params.library buffer load;
+                    left_wire = wires.ea;
+                    right_wire = wires.eb;
+                    wires = a.wires + b.wires + wires.ea + wires.eb;
+                  },
                   record {
                     wires = wires.least;
                     load = refl;
                     greatest = refl;
+                    least = refl;
+                    total = refl;
                     left_within = omega arith;
                     right_within = omega arith;
                     load_within = omega arith;
@@ -93,8 +102,8 @@ module _ (parts : Parts) where
       → (b : NodeBalance) × IsBalance parts.params parts.sinks (tip n) b
   unfolding IsBalance
   leaf_balanced n sink is =
-      let b : NodeBalance = record { greatest = 2 * sink.offset; load = sink.cap; left_wire = 0; right_wire = 0 } in
-      let leaf : IsLeafBalance sink b = record { greatest = refl; load = refl; left_wire = refl; right_wire = refl } in
+      let b : NodeBalance = record { greatest = 2 * sink.offset; least = 2 * sink.offset; load = sink.cap; left_wire = 0; right_wire = 0; wires = 0 } in
+      let leaf : IsLeafBalance sink b = record { greatest = refl; least = refl; load = refl; left_wire = refl; right_wire = refl; total = refl } in
       (b, subst (λ o. MatchOption o ⊥ (λ s. IsLeafBalance s b)) (sym is) leaf)
 
   balance_or_beyond : IsWire parts.params.wire → (offset : ℕ) (t : BinaryTree TreeNode) → IsNumbered tree_children offset t
@@ -159,10 +168,10 @@ module _ (parts : Parts) where
       ]
 
 module _ (parts : Parts) (placed : List TreeNode) (ok : IsPostOrder (map tree_children placed)) where
-  w : Whole tree_children placed
+  pub w : Whole tree_children placed
   w = whole_of tree_children placed ok
 
-  balanced_tree : (b : NodeBalance) → IsBalance parts.params parts.sinks w.tree b → IsRootWithin parts (label w.tree).route.length b
+  pub balanced_tree : (b : NodeBalance) → IsBalance parts.params parts.sinks w.tree b → IsRootWithin parts (label w.tree).route.length b
       → (tree : List TreeNode) × IsBalancedTree parts placed tree
   unfolding IsWireLength
   balanced_tree b is within =

@@ -42,10 +42,10 @@ abbrev root : TreeNode
 root = record { kind = Pair 0 1 None; place = spot_at (pos 2) (pos 0); wire = 0; route = record { corners = []; length = 2 } }
 
 abbrev below : NodeBalance
-below = record { greatest = 0; load = 5; left_wire = 0; right_wire = 0 }
+below = record { greatest = 0; least = 0; load = 5; left_wire = 0; right_wire = 0; wires = 0 }
 
 abbrev pair : NodeBalance
-pair = record { greatest = 39; load = 16; left_wire = 3; right_wire = 3 }
+pair = record { greatest = 39; least = 39; load = 16; left_wire = 3; right_wire = 3; wires = 6 }
 
 delay_is : (x : ℕ) → delay_through params.wire below x ≡ x * (x + 10)
 unfolding wire_delay_of
@@ -99,6 +99,8 @@ pair_is = record {
   wires = wires_are_least;
   load = refl;
   greatest = refl;
+  least = refl;
+  total = refl;
   left_within = omega arith;
   right_within = omega arith;
   load_within = omega arith;
@@ -110,8 +112,8 @@ unfolding IsBalance label
 example_balance = (
   below,
   below,
-  record { greatest = refl; load = refl; left_wire = refl; right_wire = refl },
-  record { greatest = refl; load = refl; left_wire = refl; right_wire = refl },
+  record { greatest = refl; least = refl; load = refl; left_wire = refl; right_wire = refl; total = refl },
+  record { greatest = refl; least = refl; load = refl; left_wire = refl; right_wire = refl; total = refl },
   pair_is,
 )
 
@@ -121,10 +123,10 @@ abbrev early_sinks : List Sink
 early_sinks = record { id = 1; x = pos 0; y = pos 0; cap = 5; offset = 40 } ∷ record { id = 2; x = pos 10; y = pos 0; cap = 5; offset = 0 } ∷ []
 
 abbrev early : NodeBalance
-early = record { greatest = 80; load = 5; left_wire = 0; right_wire = 0 }
+early = record { greatest = 80; least = 80; load = 5; left_wire = 0; right_wire = 0; wires = 0 }
 
 abbrev early_pair : NodeBalance
-early_pair = record { greatest = 119; load = 20; left_wire = 3; right_wire = 7 }
+early_pair = record { greatest = 119; least = 119; load = 20; left_wire = 3; right_wire = 7; wires = 10 }
 
 early_wires : IsWirePair params.wire early 3 below 7 3 7
 unfolding wire_delay_of
@@ -143,6 +145,8 @@ early_pair_is = record {
   wires = early_wires;
   load = refl;
   greatest = refl;
+  least = refl;
+  total = refl;
   left_within = omega arith;
   right_within = omega arith;
   load_within = omega arith;
@@ -154,7 +158,7 @@ unfolding IsBalance label
 early_balance = (
   early,
   below,
-  record { greatest = refl; load = refl; left_wire = refl; right_wire = refl },
-  record { greatest = refl; load = refl; left_wire = refl; right_wire = refl },
+  record { greatest = refl; least = refl; load = refl; left_wire = refl; right_wire = refl; total = refl },
+  record { greatest = refl; least = refl; load = refl; left_wire = refl; right_wire = refl; total = refl },
   early_pair_is,
 )

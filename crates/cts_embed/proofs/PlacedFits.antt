@@ -39,7 +39,7 @@ chosen_within params load count l r None choice = tt
 chosen_within params load count l r (Some index) choice =
     slice_get_within params.library index choice.1.buffer choice.1.found
 
-names_of : (parts : Parts) (t : BinaryTree ShapeNode) (f : Finished) (kind : NodeKind) → IsFinished parts.params parts.sinks t f
+pub names_of : (parts : Parts) (t : BinaryTree ShapeNode) (f : Finished) (kind : NodeKind) → IsFinished parts.params parts.sinks t f
     → kind_of parts.sinks (label t) f.buffer ≡ Some kind → NamesWithin (length parts.sinks) (length parts.params.library) kind
 unfolding IsFinished NamesWithin label
 names_of parts (tip (Leaf s)) f kind made is =

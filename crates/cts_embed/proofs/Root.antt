@@ -13,6 +13,7 @@ use Rattle.cts_instance.specs.Validity.{IsValid}
 use Rattle.cts_embed.specs.declared.node.NodeBalance.{NodeBalance}
 use Rattle.cts_embed.specs.Balance.{IsBalance, IsRootWithin}
 use Rattle.cts_embed.specs.BalancedTree.{IsBalancedWhole, IsBalancedWithin, IsBeyondRoot}
+use Rattle.cts_embed.specs.Fitting.{Fits}
 use Rattle.cts_embed.specs.Range.{IsInRange}
 use Rattle.cts_embed.proofs.Pins.{sinks_small}
 use Rattle.cts_embed.proofs.Range.{in_range}
@@ -51,9 +52,10 @@ module _ (parts : Parts) (nodes : List TreeNode) (ok : IsPostOrder (map tree_chi
       ∙ same_route nodes now same (length nodes - 1) e (omega (arith, length_pos tree_children nodes ok))
       ∙ ap (λ (n : TreeNode). n.route.length) (sym (root_label nodes ok e w.tree w.root_is))
 
-  pub root_in_range : IsValid parts → IsInRange b
-  root_in_range valid =
+  pub root_in_range : IsValid parts → Fits parts nodes → IsInRange b
+  root_in_range valid fits =
       in_range parts.params parts.sinks w.tree b root_balance valid.params (sinks_small parts valid)
+      (omega (arith, w.size_is, fits.few))
 
   pub all_within : IsRootWithin parts len b → IsBalancedWithin parts nodes
   all_within within = record {

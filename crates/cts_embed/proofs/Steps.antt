@@ -5,10 +5,11 @@ use Rattle.std.proofs.lemmas.Option.{slice_get-get_or}
 use Rattle.cts_units.specs.declared.params.Sink.{Sink}
 use Rattle.cts_units.specs.declared.params.Params.{Params}
 use Rattle.cts_units.specs.Limits.{IsParams}
-use Rattle.cts_postorder.specs.BinaryTree.{BinaryTree, tip, fork, label}
+use Rattle.cts_postorder.specs.BinaryTree.{BinaryTree, tip, fork, label, size}
 use Rattle.cts_postorder.specs.PostOrder.{IsPostOrder, trees_of}
 use Rattle.cts_postorder.specs.Waiting.{AreWaiting, StandsAt}
 use Rattle.cts_postorder.proofs.Growth.{length-trees_of, label-tree}
+use Rattle.cts_postorder.proofs.Failures.{size-tree}
 use Rattle.cts_postorder.proofs.Lists.{IsPair, is_pair}
 use Rattle.cts_postorder.proofs.Upward.{leaf_here}
 use Rattle.cts_postorder.proofs.Waiting.{AtPair, waiting_at_leaf, waiting_at_pair, two_wait}
@@ -112,11 +113,19 @@ module _ (params : Params) (sinks : List Sink) (nodes : List TreeNode) (ok : IsP
           stood tree_children (IsBalance params sinks) nodes right at_pair.right (tip e) b right_within (at_pair.right_tree (tip e))
           values.right_value
 
-      pub left_ready : IsParams params → All IsSmallSink sinks → IsInRange a
-      left_ready ranged small = in_range params sinks at_pair.left a left_is ranged small
+      -- each of which has no more nodes than there are
+      few_below : (number : ℕ) (u : BinaryTree TreeNode) → number < length nodes
+          → ((d : BinaryTree TreeNode) → get_or (trees_of tree_children nodes) number d ≡ u) → length nodes ≤ 131071 → size u ≤ 131071
+      few_below number u within is few =
+          omega (arith, size-tree tree_children nodes ok number (tip e) within, ap size (is (tip e)), few, within)
 
-      pub right_ready : IsParams params → All IsSmallSink sinks → IsInRange b
-      right_ready ranged small = in_range params sinks at_pair.right b right_is ranged small
+      pub left_ready : IsParams params → All IsSmallSink sinks → length nodes ≤ 131071 → IsInRange a
+      left_ready ranged small few =
+          in_range params sinks at_pair.left a left_is ranged small (few_below left at_pair.left left_within at_pair.left_tree few)
+
+      pub right_ready : IsParams params → All IsSmallSink sinks → length nodes ≤ 131071 → IsInRange b
+      right_ready ranged small few =
+          in_range params sinks at_pair.right b right_is ranged small (few_below right at_pair.right right_within at_pair.right_tree few)
 
       -- the lengths of the routes to them
       module _ (f g : TreeNode) (la lb : ℕ) (first_route : la ≡ (get_or nodes left f).route.length)

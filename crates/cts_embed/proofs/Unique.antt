@@ -17,24 +17,25 @@ use Rattle.cts_geom.specs.declared.points.Spot.{Spot}
 use Rattle.cts_tree.specs.Nodes.{tree_children, buffer_of}
 use Rattle.cts_instance.specs.declared.parts.Parts.{Parts}
 use Rattle.cts_embed.specs.declared.node.NodeBalance.{NodeBalance}
-use Rattle.cts_embed.specs.Balance.{IsBalance, IsBeyondBalance, IsLeafBalance, IsPairBalance, IsPairBeyond, delay_through, load_below, delay_below}
+use Rattle.cts_embed.specs.Balance.{IsBalance, IsBeyondBalance, IsLeafBalance, IsPairBalance, IsPairBeyond, delay_through, load_below, delay_below, least_below}
 use Rattle.cts_embed.specs.BalancedTree.{IsWireLength, IsBalancedNode}
 use Rattle.cts_embed.specs.Laws.{BalanceIsOne, BalancedTreeIsOne}
 
-node_same : (p q : NodeBalance) → p.greatest ≡ q.greatest → p.load ≡ q.load → p.left_wire ≡ q.left_wire
-    → p.right_wire ≡ q.right_wire → p ≡ q
-node_same p q greatest load left right =
-    let with_greatest : ℕ → NodeBalance = λ x. record { greatest = x; load = p.load; left_wire = p.left_wire; right_wire = p.right_wire } in
-    let with_load : ℕ → NodeBalance = λ x. record { greatest = q.greatest; load = x; left_wire = p.left_wire; right_wire = p.right_wire } in
-    let with_left : ℕ → NodeBalance = λ x. record { greatest = q.greatest; load = q.load; left_wire = x; right_wire = p.right_wire } in
-    let with_right : ℕ → NodeBalance = λ x. record { greatest = q.greatest; load = q.load; left_wire = q.left_wire; right_wire = x } in
-    ap with_greatest greatest ∙ ap with_load load ∙ ap with_left left ∙ ap with_right right
+node_same : (p q : NodeBalance) → p.greatest ≡ q.greatest → p.least ≡ q.least → p.load ≡ q.load → p.left_wire ≡ q.left_wire
+    → p.right_wire ≡ q.right_wire → p.wires ≡ q.wires → p ≡ q
+node_same p q greatest least load left right wires =
+    ap (λ (x : ℕ). record p { greatest = x }) greatest
+    ∙ ap (λ (x : ℕ). record p { greatest = q.greatest; least = x }) least
+    ∙ ap (λ (x : ℕ). record p { greatest = q.greatest; least = q.least; load = x }) load
+    ∙ ap (λ (x : ℕ). record q { left_wire = x; right_wire = p.right_wire; wires = p.wires }) left
+    ∙ ap (λ (x : ℕ). record q { right_wire = x; wires = p.wires }) right ∙ ap (λ (x : ℕ). record q { wires = x }) wires
 
 leaf_same : (sink : Option Sink) (p q : NodeBalance) → MatchOption sink ⊥ (λ s. IsLeafBalance s p)
     → MatchOption sink ⊥ (λ s. IsLeafBalance s q) → p ≡ q
 leaf_same None p q hp hq = absurd hp
 leaf_same (Some s) p q hp hq =
-    node_same p q (hp.greatest ∙ sym hq.greatest) (hp.load ∙ sym hq.load) (hp.left_wire ∙ sym hq.left_wire) (hp.right_wire ∙ sym hq.right_wire)
+    node_same p q (hp.greatest ∙ sym hq.greatest) (hp.least ∙ sym hq.least) (hp.load ∙ sym hq.load) (hp.left_wire ∙ sym hq.left_wire)
+    (hp.right_wire ∙ sym hq.right_wire) (hp.total ∙ sym hq.total)
 
 -- over two children and two routes
 module _ (params : Params) (buffer : Option ℕ) (a : NodeBalance) (la : ℕ) (b : NodeBalance) (lb : ℕ) where
@@ -44,15 +45,20 @@ module _ (params : Params) (buffer : Option ℕ) (a : NodeBalance) (la : ℕ) (b
   delay_same : (x y u v : ℕ) → (x ≡ u) × (y ≡ v) → delay_below params.wire a b x y ≡ delay_below params.wire a b u v
   delay_same x y u v same = ap (λ (e : ℕ). delay_below params.wire a b e y) same.0 ∙ ap (λ (e : ℕ). delay_below params.wire a b u e) same.1
 
+  least_same : (x y u v : ℕ) → (x ≡ u) × (y ≡ v) → least_below params.wire a b x y ≡ least_below params.wire a b u v
+  least_same x y u v same = ap (λ (e : ℕ). least_below params.wire a b e y) same.0 ∙ ap (λ (e : ℕ). least_below params.wire a b u e) same.1
+
   pair_one : (p q : NodeBalance) → IsPairBalance params buffer a la b lb p → IsPairBalance params buffer a la b lb q → p ≡ q
   pair_one p q hp hq =
       let wires : (p.left_wire ≡ q.left_wire) × (p.right_wire ≡ q.right_wire) =
       least_unique (delay_through params.wire a) (delay_through params.wire b) (Covers la lb) p.left_wire p.right_wire q.left_wire q.right_wire hp.wires hq.wires in
       let load = load_same p.left_wire p.right_wire q.left_wire q.right_wire wires in
       let delay = delay_same p.left_wire p.right_wire q.left_wire q.right_wire wires in
+      let least = least_same p.left_wire p.right_wire q.left_wire q.right_wire wires in
       let seen = ap (seen_load_of params.library buffer) load in
       let added = ap (added_delay_of params.library buffer) load in
-      node_same p q (omega (arith, hp.greatest, hq.greatest, delay, added)) (hp.load ∙ seen ∙ sym hq.load) (wires.0) (wires.1)
+      node_same p q (omega (arith, hp.greatest, hq.greatest, delay, added)) (omega (arith, hp.least, hq.least, least, added))
+      (hp.load ∙ seen ∙ sym hq.load) (wires.0) (wires.1) (omega (arith, hp.total, hq.total, wires.0, wires.1))
 
   pair_not_beyond : (p : NodeBalance) → IsPairBalance params buffer a la b lb p → ¬ IsPairBeyond params buffer a la b lb
   pair_not_beyond p hp x =

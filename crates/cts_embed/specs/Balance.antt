@@ -2,7 +2,7 @@
 -- two sides differ least, where a leaf begins with twice the offset that its sink wants. Buffers stay as they were chosen
 -- before, whatever the loads are now.
 -- After the exact zero-skew merge of Tsay; whole lengths over given routes are this project's own rule.
-use Rattle.std.specs.Prelude.{◌≡◌, ℕ, ◌+◌, ◌*◌, ◌<◌, ◌≤◌, ◌⊎◌, max, List, slice_get, Option, None, MatchOption}
+use Rattle.std.specs.Prelude.{◌≡◌, ℕ, ◌+◌, ◌*◌, ◌<◌, ◌≤◌, ◌⊎◌, max, min, List, slice_get, Option, None, MatchOption}
 use Rattle.cts_units.specs.declared.params.Sink.{Sink}
 use Rattle.cts_units.specs.declared.params.Wire.{Wire}
 use Rattle.cts_units.specs.declared.params.Params.{Params}
@@ -33,12 +33,21 @@ load_below wire a b xa xb = a.load + b.load + wire.c * (xa + xb)
 abbrev pub delay_below : Wire → NodeBalance → NodeBalance → ℕ → ℕ → ℕ
 delay_below wire a b xa xb = max (delay_through wire a xa) (delay_through wire b xb)
 
--- a leaf: twice the sink's offset as greatest delay, since delays are doubled, and the sink's capacitance
+-- the same of least delays
+abbrev pub least_through : Wire → NodeBalance → ℕ → ℕ
+least_through wire node len = node.least + wire_delay_of wire.r wire.c len node.load
+
+abbrev pub least_below : Wire → NodeBalance → NodeBalance → ℕ → ℕ → ℕ
+least_below wire a b xa xb = min (least_through wire a xa) (least_through wire b xb)
+
+-- a leaf: twice the sink's offset as greatest and as least delay, since delays are doubled, and the sink's capacitance
 pub record IsLeafBalance (sink : Sink) (leaf : NodeBalance) : Type 0 where
   pub greatest : leaf.greatest ≡ 2 * sink.offset
+  pub least : leaf.least ≡ 2 * sink.offset
   pub load : leaf.load ≡ sink.cap
   pub left_wire : leaf.left_wire ≡ 0
   pub right_wire : leaf.right_wire ≡ 0
+  pub total : leaf.wires ≡ 0
 
 -- A pair with this buffer, over two children and the routes to them, that is within the limits: its load before the buffer
 -- is within them, its greatest delay after it.
@@ -50,6 +59,10 @@ pub record IsPairBalance (params : Params) (buffer : Option ℕ) (a : NodeBalanc
   pub greatest : pair.greatest
       ≡ delay_below params.wire a b pair.left_wire pair.right_wire
       + added_delay_of params.library buffer (load_below params.wire a b pair.left_wire pair.right_wire)
+  pub least : pair.least
+      ≡ least_below params.wire a b pair.left_wire pair.right_wire
+      + added_delay_of params.library buffer (load_below params.wire a b pair.left_wire pair.right_wire)
+  pub total : pair.wires ≡ a.wires + b.wires + pair.left_wire + pair.right_wire
   pub left_within : pair.left_wire ≤ max_length
   pub right_within : pair.right_wire ≤ max_length
   pub load_within : load_below params.wire a b pair.left_wire pair.right_wire ≤ max_load

@@ -28,3 +28,4 @@ pub use end::{BalanceEnd, EmbedEnd};
 pub use ground::Ground;
 pub use node::NodeBalance;
 pub use placing::{ground_of, place_node, source_place};
+pub use upward::{is_root_within, leaf_balance, pair_balance};

@@ -5,7 +5,7 @@ ghost use Rattle.std.specs.Slice.Iter.{iter_rest};
 ghost use Rattle.cts_units.specs.Limits.{IsParams, max_length, max_load};
 ghost use Rattle.cts_merge.specs.LeastPair.{IsTooLong, Covers};
 ghost use Rattle.cts_elmore.specs.Loads.{pin_of};
-ghost use Rattle.cts_embed.specs.Balance.{IsLeafBalance, IsPairBalance, IsPairBeyond, IsRootWithin, IsWirePair, delay_through};
+ghost use Rattle.cts_embed.specs.Balance.{IsLeafBalance, IsPairBalance, IsPairBeyond, IsRootWithin, IsWirePair, delay_through, least_through};
 ghost use Rattle.cts_embed.specs.Range.{IsInRange};
 
 use crate::node::NodeBalance;
@@ -64,8 +64,20 @@ fn delay_through(params: &Params, node: &NodeBalance, length: u64) -> u128
     node.greatest + wire_delay(params.wire, length, node.load)
 }
 
+/// The least arrival of a node through a wire of this length above it.
+fn least_through(params: &Params, node: &NodeBalance, length: u64) -> u128
+    requires params { IsParams params.now }
+    requires node { IsInRange node.now }
+    requires length { length ≤ max_length }
+    ensures value { result ≡ least_through params.now.wire node.now length }
+    ensures bound { result ≤ 2 ^ 111 }
+{
+    node.least + wire_delay(params.wire, length, node.load)
+}
+
 /// A pair with this buffer over two children and the routes to them.
-pub(crate) fn pair_balance(
+#[inline(always)]
+pub fn pair_balance(
     params: &Params,
     buffer: Option<u16>,
     a: &NodeBalance,
@@ -92,11 +104,15 @@ pub(crate) fn pair_balance(
     if greatest > MAX_DELAY {
         return Err(Beyond);
     }
+    let left_least = least_through(params, a, left_wire);
+    let right_least = least_through(params, b, right_wire);
     Ok(NodeBalance {
         greatest,
+        least: left_least.min(right_least) + added,
         load: seen,
         left_wire,
         right_wire,
+        wires: a.wires + b.wires + left_wire + right_wire,
     })
 }
 
@@ -112,19 +128,23 @@ pub(crate) fn take_pin(pins: &mut slice::Iter<'_, Pin>) -> Pin
 }
 
 /// A leaf over the sink that has this pin.
-pub(crate) fn leaf_balance(pin: Pin) -> NodeBalance
+#[inline(always)]
+pub fn leaf_balance(pin: Pin) -> NodeBalance
     ensures { (sink : Sink) → pin_of sink ≡ pin → IsLeafBalance sink result }
 {
+    let arrival = pin.doubled_offset();
     NodeBalance {
-        greatest: pin.doubled_offset(),
+        greatest: arrival,
+        least: arrival,
         load: pin.cap,
         left_wire: 0,
         right_wire: 0,
+        wires: 0,
     }
 }
 
 /// Whether the limits that are asked of the root alone are met, with a wire of this length above it.
-pub(crate) fn is_root_within(instance: &Instance, length: u64, root: &NodeBalance) -> bool
+pub fn is_root_within(instance: &Instance, length: u64, root: &NodeBalance) -> bool
     requires root { IsInRange root.now }
     ensures { IsTrue result ↔ IsRootWithin instance.now length root.now }
 {

@@ -60,7 +60,7 @@ module _ (parts : Parts) (nodes : List ShapeNode) (sites : List Site) (root : �
       in_die_in_range parts.die from valid.die
       (start_in_die parts (get_or (occurrences_of children nodes) root none).above from valid (ready.start none))
 
-  label_here : (o : Occurrence ShapeNode) (e : ShapeNode)
+  pub label_here : (o : Occurrence ShapeNode) (e : ShapeNode)
       → label (get_or (occurrences_of children nodes) root o).here ≡ get_or nodes root e
   label_here o e =
       ap label (sym (trees_of-here children nodes ok root (tip e) o ready.within)) ∙ label-tree children nodes root (tip e) e ready.within

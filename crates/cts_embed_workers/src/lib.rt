@@ -10,4 +10,5 @@
 mod tree;
 mod whole;
 
+pub use tree::place_at;
 pub use whole::{embed_by, room_for};

@@ -206,7 +206,7 @@ fn place_beside<R: Threads + Sync>(
 }
 
 /// The node of a number, placed from the place where its route starts.
-fn place_at(
+pub fn place_at(
     alloc: Global,
     instance: &Instance,
     ground: &Ground,

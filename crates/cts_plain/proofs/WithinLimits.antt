@@ -1,13 +1,15 @@
--- A balanced tree is within the limits: what the balance made of each node are the load and the greatest arrival of the tree
--- there.
-use Rattle.std.proofs.Common.{◌≡◌, ℕ, ◌+◌, ◌*◌, max, inl, inr, List, [], ◌∷◌, ◌++◌, map, slice_get, Option, Some, None, MatchOption, add_comm, refl, sym, ap, ap₂, subst, ◌∙◌, arith}
+-- A balanced tree is within the limits: what the balance made of each node are the load, the greatest and the least arrival, and
+-- the wires of the tree there.
+use Rattle.std.proofs.Common.{◌≡◌, ℕ, ◌+◌, ◌*◌, max, min, inl, inr, List, [], ◌∷◌, ◌++◌, map, slice_get, Option, Some, None, MatchOption, add_comm, refl, sym, ap, ap₂, subst, ◌∙◌, arith}
+use Rattle.std.specs.Prelude.{sum_by}
 use Rattle.std.specs.List.{All}
 use Rattle.std.specs.Option.{option_map_or}
 use Rattle.std.proofs.lemmas.List.Elements.{All-append, All-cons, All-nil, All-weaker}
+use Rattle.std.proofs.lemmas.List.Sums.{sum_by-cons, sum_by-append, sum_by_push}
 use Rattle.cts_units.specs.declared.params.Sink.{Sink}
 use Rattle.cts_units.specs.Choice.{added_delay_of, seen_load_of}
 use Rattle.cts_units.specs.Delay.{wire_delay_of}
-use Rattle.cts_postorder.specs.BinaryTree.{BinaryTree, tip, fork, label, subtrees}
+use Rattle.cts_postorder.specs.BinaryTree.{BinaryTree, tip, fork, label, labels, subtrees}
 use Rattle.cts_postorder.specs.Occurrence.{occurrence}
 use Rattle.cts_postorder.specs.PostOrder.{IsPostOrder, root_of}
 use Rattle.cts_postorder.proofs.Alike.{IsAlike, AlikeLists, alike_lists, alike_label}
@@ -17,49 +19,62 @@ use Rattle.cts_tree.specs.declared.nodes.TreeNode.{TreeNode}
 use Rattle.cts_tree.specs.Nodes.{tree_children, children_of, buffer_of}
 use Rattle.cts_instance.specs.declared.parts.Parts.{Parts}
 use Rattle.cts_embed.specs.declared.node.NodeBalance.{NodeBalance}
-use Rattle.cts_embed.specs.Balance.{IsBalance, IsLeafBalance, IsPairBalance, IsRootWithin, sink_of, delay_through}
+use Rattle.cts_embed.specs.Balance.{IsBalance, IsLeafBalance, IsPairBalance, IsRootWithin, sink_of, delay_through, least_through}
 use Rattle.cts_embed.specs.Balance.{load_below as balanced_load}
 use Rattle.cts_embed.specs.BalancedTree.{IsBalancedNode, IsBalancedTree, IsWireLength}
 use Rattle.cts_embed.proofs.Unique.{wire_one}
 use Rattle.cts_elmore.specs.Loads.{load_below, load_seen, sink_load, sink_offset, source_load}
 use Rattle.cts_elmore.specs.Delays.{wire_delay, source_delay, buffer_delay}
-use Rattle.cts_elmore.specs.Skew.{greatest_below}
+use Rattle.cts_elmore.specs.Skew.{greatest_below, least_below}
 use Rattle.cts_elmore.specs.Limits.{long_left, long_right, great_load, great_delay, IsPairOver, IsRootOver, long_root, great_source_load, great_leaf_delay, IsOver, IsWithinLimits}
 use Rattle.cts_elmore.proofs.Paths.{load_at_pair}
-use Rattle.cts_elmore.proofs.Below.{greatest_at_tip, greatest_at_pair}
+use Rattle.cts_elmore.proofs.Below.{greatest_at_tip, greatest_at_pair, least_at_tip, least_at_pair}
 use Rattle.cts_elmore.proofs.Rising.{seen_at_pair, added_at_pair}
 
 module _ (i : Parts) where
-  -- the load and the greatest arrival of a tree are what the balance made of it, and no pair of it is over the limits
-  record Agrees (b : NodeBalance) (t : BinaryTree TreeNode) : Type 0 where
-    load : load_seen i t ≡ b.load
-    greatest : greatest_below i t ≡ b.greatest
-    within : All (λ s. ¬ IsPairOver i s) (subtrees t)
+  -- the load, the arrivals and the wires of a tree are what the balance made of it, and no pair of it is over the limits
+  pub record Agrees (b : NodeBalance) (t : BinaryTree TreeNode) : Type 0 where
+    pub load : load_seen i t ≡ b.load
+    pub greatest : greatest_below i t ≡ b.greatest
+    pub least : least_below i t ≡ b.least
+    pub wires : sum_by (λ (n : TreeNode). n.wire) (labels t) ≡ b.wires + (label t).wire
+    pub within : All (λ s. ¬ IsPairOver i s) (subtrees t)
+
+  -- what the balance made of a leaf, by its capacitance and its offset
+  record AgreesAtLeaf (b : NodeBalance) (cap offset : ℕ) : Type 0 where
+    load : cap ≡ b.load
+    greatest : 2 * offset ≡ b.greatest
+    least : 2 * offset ≡ b.least
+    wires : b.wires ≡ 0
 
   sink_agrees : (o : Option Sink) (b : NodeBalance) → MatchOption o ⊥ (λ sink. IsLeafBalance sink b)
-      → (option_map_or (λ (s : Sink). s.cap) o 0 ≡ b.load) × (2 * option_map_or (λ (s : Sink). s.offset) o 0 ≡ b.greatest)
+      → AgreesAtLeaf b (option_map_or (λ (s : Sink). s.cap) o 0) (option_map_or (λ (s : Sink). s.offset) o 0)
   sink_agrees None b h = absurd h
-  sink_agrees (Some sink) b h = (sym h.load, sym h.greatest)
+  sink_agrees (Some sink) b h = record { load = sym h.load; greatest = sym h.greatest; least = sym h.least; wires = h.total }
 
   kind_agrees : (k : NodeKind) (m : TreeNode) (b : NodeBalance) → m.kind ≡ k
-      → MatchOption (sink_of i.sinks k) ⊥ (λ sink. IsLeafBalance sink b)
-      → (sink_load i m ≡ b.load) × (2 * sink_offset i m ≡ b.greatest)
+      → MatchOption (sink_of i.sinks k) ⊥ (λ sink. IsLeafBalance sink b) → AgreesAtLeaf b (sink_load i m) (sink_offset i m)
   kind_agrees (Pair left right buffer) m b is h = absurd h
   kind_agrees (Leaf id sink) m b is h =
-      let of : TreeNode = record m { kind = Leaf id sink } in
-      let at : (sink_load i of ≡ b.load) × (2 * sink_offset i of ≡ b.greatest) = sink_agrees (slice_get i.sinks sink) b h in (
-        ap (λ k. sink_load i (record m { kind = k })) is ∙ at.0,
-        ap (λ k. 2 * sink_offset i (record m { kind = k })) is ∙ at.1,
-      )
+      let at : AgreesAtLeaf b (sink_load i (record m { kind = Leaf id sink })) (sink_offset i (record m { kind = Leaf id sink })) =
+      sink_agrees (slice_get i.sinks sink) b h in
+      record {
+        load = ap (λ k. sink_load i (record m { kind = k })) is ∙ at.load;
+        greatest = ap (λ k. 2 * sink_offset i (record m { kind = k })) is ∙ at.greatest;
+        least = ap (λ k. 2 * sink_offset i (record m { kind = k })) is ∙ at.least;
+        wires = at.wires;
+      }
 
   leaf_agrees : (n : TreeNode) (m : TreeNode) (b : NodeBalance) → m.kind ≡ n.kind
       → MatchOption (sink_of i.sinks n.kind) ⊥ (λ sink. IsLeafBalance sink b) → Agrees b (tip m)
-  unfolding load_below subtrees
+  unfolding load_below subtrees labels label
   leaf_agrees n m b is h =
-      let at : (sink_load i m ≡ b.load) × (2 * sink_offset i m ≡ b.greatest) = kind_agrees n.kind m b is h in
+      let at : AgreesAtLeaf b (sink_load i m) (sink_offset i m) = kind_agrees n.kind m b is h in
       record {
-        load = at.0;
-        greatest = greatest_at_tip i m ∙ at.1;
+        load = at.load;
+        greatest = greatest_at_tip i m ∙ at.greatest;
+        least = least_at_tip i m ∙ at.least;
+        wires = sum_by-cons (λ (n : TreeNode). n.wire) m [] ∙ omega (arith, at.wires);
         within = All-cons (λ s. ¬ IsPairOver i s) (tip m) [] (λ x. x) (All-nil (λ s. ¬ IsPairOver i s));
       }
 
@@ -105,6 +120,32 @@ module _ (i : Parts) where
         greatest_at_pair i l r m
         ∙ ap₂ (λ x y. x + y) (ap₂ max through_left through_right) (sym added_is) ∙ sym pair.greatest
 
+    least_left : least_below i l + wire_delay i l ≡ least_through i.params.wire a p.left_wire
+    least_left =
+        ap₂ (λ x y. x + y) left.least
+        (ap₂ (λ w c. wire_delay_of i.params.wire.r i.params.wire.c w c) left_wire left.load)
+
+    least_right : least_below i r + wire_delay i r ≡ least_through i.params.wire b p.right_wire
+    least_right =
+        ap₂ (λ x y. x + y) right.least
+        (ap₂ (λ w c. wire_delay_of i.params.wire.r i.params.wire.c w c) right_wire right.load)
+
+    least_is : least_below i (fork l r m) ≡ p.least
+    unfolding load
+    least_is =
+        least_at_pair i l r m
+        ∙ ap₂ (λ x y. x + y) (ap₂ min least_left least_right) (sym added_is) ∙ sym pair.least
+
+    wires_are : sum_by (λ (n : TreeNode). n.wire) (labels (fork l r m)) ≡ p.wires + m.wire
+    unfolding labels
+    wires_are =
+        let wire : TreeNode → ℕ = λ n. n.wire in
+        let all : sum_by wire (labels l ++ labels r ++ m ∷ []) ≡ sum_by wire (labels l ++ labels r) + wire m =
+        sum_by_push wire (labels l ++ labels r) m in
+        let both : sum_by wire (labels l ++ labels r) ≡ sum_by wire (labels l) + sum_by wire (labels r) =
+        sum_by-append wire (labels l) (labels r) in
+        omega (arith, all, both, left.wires, right.wires, left_wire, right_wire, pair.total)
+
     not_over : ¬ IsPairOver i (fork l r m)
     unfolding load
     not_over (long_left long) = omega (arith, left_wire, pair.left_within)
@@ -113,11 +154,13 @@ module _ (i : Parts) where
     not_over (great_delay great) = omega (arith, greatest_is, pair.greatest_within)
 
     pair_agrees : Agrees p (fork l r m)
-    unfolding subtrees load
+    unfolding subtrees load label
     pair_agrees = record {
       load = sym (seen_at_pair i l r m load load_is)
           ∙ ap (λ k. seen_load_of i.params.library (buffer_of k) load) kind ∙ sym pair.load;
       greatest = greatest_is;
+      least = least_is;
+      wires = wires_are;
       within = All-append (λ s. ¬ IsPairOver i s) (subtrees l ++ subtrees r) (fork l r m ∷ [])
           (All-append (λ s. ¬ IsPairOver i s) (subtrees l) (subtrees r) left.within right.within)
           (All-cons (λ s. ¬ IsPairOver i s) (fork l r m) [] not_over (All-nil (λ s. ¬ IsPairOver i s)));
@@ -141,12 +184,12 @@ module _ (i : Parts) where
   -- so the whole tree is within the limits, those of its root among them
   module _ (placed : List TreeNode) (ok : IsPostOrder (map tree_children placed)) (tree : List TreeNode)
       (balanced : IsBalancedTree i placed tree) where
-    lists : AlikeLists (IsBalancedNode i) tree_children tree_children
+    pub lists : AlikeLists (IsBalancedNode i) tree_children tree_children
         (λ o m is. ap children_of is.kind) placed tree
     lists =
         alike_lists (IsBalancedNode i) tree_children tree_children (λ o m is. ap children_of is.kind) placed ok tree balanced.nodes
 
-    root_agrees : (first : BinaryTree TreeNode) (root : BinaryTree TreeNode) → root_of tree_children placed ≡ Some first
+    pub root_agrees : (first : BinaryTree TreeNode) (root : BinaryTree TreeNode) → root_of tree_children placed ≡ Some first
         → IsAlike (IsBalancedNode i) [] first root
         → Agrees balanced.within.balance root × ((label root).wire ≡ (label balanced.within.root).route.length)
     unfolding IsWireLength

@@ -6,6 +6,8 @@ pub returns : goal.returns
 returns c = λ sink is. record {
   greatest = omega (arith, ap (λ (pin : Pin). pin.offset) is);
   load = ap (λ (pin : Pin). pin.cap) (sym is);
+  least = omega (arith, ap (λ (pin : Pin). pin.offset) is);
   left_wire = refl;
   right_wire = refl;
+  total = refl;
 }

@@ -98,14 +98,14 @@ pair_balance-requires-clause-a c =
     left_ready c.args.instance.now c.args.nodes.now c.requires.post_order c.loop-number.number c.loop-number.waiting.items
     c.loop-number.nodes c.loop-number.invariant.ascent (omega (arith, c.loop-number-test.true, c.loop-number.auto.nodes))
     c.in-Pair.left c.in-Pair.right c.in-Pair.buffer _ c.in-Pair.is
-    c.take_pair.new.waiting.items c.take_pair.result.0 c.take_pair.result.1 c.take_pair.ensures c.params-params.ensures.valid
+    c.take_pair.new.waiting.items c.take_pair.result.0 c.take_pair.result.1 c.take_pair.ensures c.params-params.ensures.valid c.requires.fits
 
 pub pair_balance-requires-clause-b : goal.pair_balance-requires-clause-b
 pair_balance-requires-clause-b c =
     right_ready c.args.instance.now c.args.nodes.now c.requires.post_order c.loop-number.number c.loop-number.waiting.items
     c.loop-number.nodes c.loop-number.invariant.ascent (omega (arith, c.loop-number-test.true, c.loop-number.auto.nodes))
     c.in-Pair.left c.in-Pair.right c.in-Pair.buffer _ c.in-Pair.is
-    c.take_pair.new.waiting.items c.take_pair.result.0 c.take_pair.result.1 c.take_pair.ensures c.params-params.ensures.valid
+    c.take_pair.new.waiting.items c.take_pair.result.0 c.take_pair.result.1 c.take_pair.ensures c.params-params.ensures.valid c.requires.fits
 
 pub returns-in_default-clause-ends : goal.returns-in_default-clause-ends
 returns-in_default-clause-ends c =
@@ -193,7 +193,7 @@ is_root_within-requires c = record {
       (omega (arith, c.loop-number.auto.number-end, c.loop-number.auto.nodes))
       c.loop-number.waiting.items c.loop-number.invariant.ascent.waits c.pop.new.self.items
       c.in-Some.root c.in-Some.ensures.items)
-      c.params-params.ensures.valid;
+      c.params-params.ensures.valid c.requires.fits;
 }
 
 pub returns-then-not-is_root_within-clause-ends : goal.returns-then-not-is_root_within-clause-ends
