@@ -1,0 +1,4 @@
+pub mod Fresh
+pub mod Picked
+pub mod Rising
+pub mod Whole

@@ -1,0 +1,5 @@
+pub mod Rising
+pub use Rattle.cts_topo.specs.Shape
+pub use Rattle.cts_topo.specs.Sinks
+pub use Rattle.cts_topo.specs.Topology
+pub use Rattle.cts_topo.specs.Shuffled
