@@ -1,13 +1,15 @@
 -- The nodes at some places of a list.
-use Rattle.std.proofs.Common.{◌≡◌, ℕ, zero, suc, ◌+◌, ◌<◌, nat_lt, false, List, [], ◌∷◌, ◌++◌, take, length, get_or, slice_get, Some, None, All, inl, inr, refl, sym, ap, ◌∙◌, subst, arith, length-append}
+use Rattle.std.proofs.Common.{◌≡◌, ℕ, zero, suc, ◌+◌, ◌<◌, nat_lt, false, List, [], ◌∷◌, ◌++◌, append_assoc, take, length, get_or, slice_get, Some, None, All, inl, inr, refl, sym, ap, ◌∙◌, subst, arith, length-append}
 use Rattle.std.specs.List.{cons_option}
 use mathlib.Core.List.{IsPrefix}
 use Rattle.std.proofs.lemmas.Bool.{cases_lt, ltb-false}
-use Rattle.std.proofs.lemmas.List.{append-nil, get_or_append_left, get_or_at, take_more}
+use Rattle.std.proofs.lemmas.List.{append-nil, map-append, get_or_append_left, get_or_at, take_more}
 use Rattle.std.proofs.lemmas.List.Elements.{filter_map-append}
 use Rattle.std.proofs.lemmas.Option.{slice_get-get_or, slice_get_past, slice_get_within, get_or_from_slice_get}
+use Rattle.cts_up.specs.declared.site.Site.{Site}
+use Rattle.cts_up.specs.Sites.{site_of}
 use Rattle.cts_work.specs.declared.node.Built.{Built}
-use Rattle.cts_work.specs.Known.{picked}
+use Rattle.cts_work.specs.Known.{picked, sites_of}
 
 module _ (nodes : List Built) where
   All-rest : (p : ℕ) (ps : List ℕ) → All (λ q. q < length nodes) (p ∷ ps) → All (λ q. q < length nodes) ps
@@ -89,3 +91,21 @@ module _ (nodes : List Built) where
         by_first (d ∷ ns) h is rest =
             let at : slice_get nodes p ≡ Some (get_or nodes p d) = slice_get-get_or nodes p d h in
             λ z. cons_option ((node_stays p (get_or nodes p d) at ∙ sym at) z) (rest z)
+
+-- one place more, of a list that has grown
+pub picked_further : (nodes longer : List Built) → IsPrefix nodes longer → (ps : List ℕ) → All (λ p. p < length nodes) ps → (p : ℕ) (b : Built)
+    → slice_get longer p ≡ Some b → picked longer (ps ++ p ∷ []) ≡ picked nodes ps ++ b ∷ []
+picked_further nodes longer more ps all p b here =
+    picked-push longer ps p b here ∙ ap (λ bs. bs ++ b ∷ []) (picked_stays nodes longer more ps all)
+
+-- and its site behind the sites of the others
+pub sites_further : (nodes longer : List Built) → IsPrefix nodes longer → (ps : List ℕ) → All (λ p. p < length nodes) ps → (p : ℕ) (b d : Built)
+    → slice_get longer p ≡ Some b → (first was now : List Site) → was ≡ first ++ sites_of (picked nodes ps)
+    → now ≡ was ++ site_of (get_or longer p d).finished ∷ [] → now ≡ first ++ sites_of (picked longer (ps ++ p ∷ []))
+sites_further nodes longer more ps all p b d here first was now was_is now_is =
+    let site : Built → Site = λ (node : Built). site_of node.finished in
+    let read : get_or longer p d ≡ b = get_or_from_slice_get longer p b d here in
+    now_is ∙ ap (λ xs. xs ++ site (get_or longer p d) ∷ []) was_is
+    ∙ append_assoc first (sites_of (picked nodes ps)) (site (get_or longer p d) ∷ [])
+    ∙ ap (λ xs. first ++ xs) (ap (λ n. sites_of (picked nodes ps) ++ site n ∷ []) read ∙ sym (map-append site (picked nodes ps) (b ∷ []))
+    ∙ ap sites_of (sym (picked_further nodes longer more ps all p b here)))

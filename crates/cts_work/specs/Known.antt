@@ -1,7 +1,9 @@
 -- What is known of the nodes of trees that were built before, and of the entries that were heard.
-use Rattle.std.specs.Prelude.{◌≡◌, ◌+◌, ℕ, ◌<◌, List, filter_map, length, slice_get, Option, Some, IfSome, All}
+use Rattle.std.specs.Prelude.{◌≡◌, ◌+◌, ℕ, ◌<◌, List, map, filter_map, length, slice_get, Option, Some, IfSome, All}
 use Rattle.cts_memo.specs.declared.key.Key.{Key}
 use Rattle.cts_memo.specs.declared.entry.MemoEntry.{MemoEntry}
+use Rattle.cts_up.specs.declared.site.Site.{Site}
+use Rattle.cts_up.specs.Sites.{site_of}
 use Rattle.cts_work.specs.declared.node.Built.{Built}
 use Rattle.cts_work.specs.declared.known.Known.{Known}
 use Rattle.cts_work.specs.Built.{IsNoted}
@@ -17,6 +19,10 @@ HasKeyAt nodes key p = (b : Built) × (n : ℕ) × (slice_get nodes p ≡ Some b
 -- the nodes at some places of a list
 abbrev pub picked : List Built → List ℕ → List Built
 picked nodes places = filter_map (slice_get nodes) places
+
+-- where nodes may stand, and their buffers
+abbrev pub sites_of : List Built → List Site
+sites_of nodes = map (λ node. site_of node.finished) nodes
 
 -- at each of the places stands a node, and together they are such
 abbrev pub StandAt : List Built → List ℕ → (List Built → Type 0) → Type 0

@@ -1,11 +1,11 @@
 //! The nodes of one part of a shape.
 
-ghost use Rattle.std.specs.Prelude.{◌≡◌, ◌+◌, ◌-◌, ◌<◌, ◌≤◌, All, length, IfOk, IfErr};
+ghost use Rattle.std.specs.Prelude.{◌≡◌, ◌+◌, ◌-◌, ◌<◌, ◌≤◌, ◌++◌, All, length, IfOk, IfErr};
 ghost use mathlib.Core.List.{IsPrefix};
 ghost use Rattle.cts_turn.specs.Passes.{seen_by};
 ghost use Rattle.cts_memo.specs.Passes.{IsPassOf};
 ghost use Rattle.cts_work.specs.Built.{GoesOn, IsNoted};
-ghost use Rattle.cts_work.specs.Known.{IsAtPlace, StandAt};
+ghost use Rattle.cts_work.specs.Known.{IsAtPlace, StandAt, picked, sites_of};
 ghost use Rattle.cts_work.specs.Work.{AreBuilt, EndsAt, EndsIn, IsBuiltAt, IsPart, IsReady, StartsFrom, missing_at, missing_from};
 
 use crate::gate::Gate;
@@ -16,7 +16,7 @@ use cts_memo::MemoPass;
 use cts_merge::Steps;
 use cts_num::NoMemory;
 use cts_topo::ShapeNode;
-use cts_up::UpEnd;
+use cts_up::{Site, UpEnd, site_of};
 use std::alloc::Global;
 use std::sync::Wait;
 use std::sync::ledger::Ledger;
@@ -65,7 +65,7 @@ pub(crate) fn place_node<L: Ledger, R: Wait, G: Gate>(
 }
 
 /// The places of the nodes of a part, from its first to its root, among those that are known, with those that are
-/// put behind them.
+/// put behind them. Their sites are put behind those that are listed: each is read here, where its node is near at hand.
 pub(crate) fn build_part<L: Ledger, R: Wait, G: Gate>(
     worker: &Worker<'_, '_, R, G>,
     work: &Work<'_>,
@@ -74,6 +74,7 @@ pub(crate) fn build_part<L: Ledger, R: Wait, G: Gate>(
     first: u32,
     root: u32,
     nodes: &mut Vec<Built>,
+    sites: &mut Vec<Site>,
     steps: &mut Steps<L>,
 ) -> Result<Vec<u32>, UpEnd>
     requires own { IsPassOf work.now.memo.now pass.old }
@@ -84,6 +85,7 @@ pub(crate) fn build_part<L: Ledger, R: Wait, G: Gate>(
     ensures noted { All (IsNoted (seen_by pass.new)) nodes.new.items }
     ensures long { IfOk result (λ tree. first + length tree.items ≡ root + 1) }
     ensures built { IfOk result (λ tree. StandAt nodes.new.items tree.items (AreBuilt work.now (seen_by pass.new) first)) }
+    ensures sites { IfOk result (λ tree. sites.new.items ≡ sites.old.items ++ sites_of (picked nodes.new.items tree.items)) }
     ensures ends { IfErr result (EndsIn work.now first root) }
     ensures merges { steps.new ≤ steps.old + missing_from work.now (seen_by pass.old) first (root + 1 - first) }
 {
@@ -102,7 +104,10 @@ pub(crate) fn build_part<L: Ledger, R: Wait, G: Gate>(
             &mut cursor,
             steps,
         ) {
-            Ok(place) => tree.push(place)?,
+            Ok(place) => {
+                tree.push(place)?;
+                sites.push(site_of(&nodes[place as usize].finished))?;
+            }
             Err(end) => return Err(end),
         }
     }

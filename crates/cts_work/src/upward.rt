@@ -1,18 +1,18 @@
 //! The upward pass of one caller over the memo.
 
-ghost use Rattle.std.specs.Prelude.{◌≡◌, ◌+◌, ◌≤◌, ◌⊎◌, All, map, length, IfOk, IfErr, OnOk};
+ghost use Rattle.std.specs.Prelude.{◌≡◌, ◌+◌, ◌≤◌, ◌⊎◌, ◌++◌, All, map, length, IfOk, IfErr, OnOk};
 ghost use mathlib.Core.List.{IsPrefix};
 ghost use Rattle.cts_topo.specs.Shape.{IsShapeOver};
 ghost use Rattle.cts_up.specs.Ends.{Ends};
 ghost use Rattle.cts_up.specs.Plan.{IsPlan};
 ghost use Rattle.cts_up.specs.Sinks.{AreSinksInRange};
-ghost use Rattle.cts_up.specs.Sites.{AreSites, site_of as spec_site_of};
+ghost use Rattle.cts_up.specs.Sites.{AreSites};
 ghost use Rattle.cts_turn.specs.Passes.{seen_by, share_of};
 ghost use Rattle.cts_memo.specs.Numbers.{AreKnown, missing};
 ghost use Rattle.cts_memo.specs.Passes.{IsPassOf, params_of};
 ghost use Rattle.cts_memo.specs.Sound.{max_entries};
 ghost use Rattle.cts_work.specs.Built.{GoesOn, IsNoted};
-ghost use Rattle.cts_work.specs.Known.{MayKnow, picked};
+ghost use Rattle.cts_work.specs.Known.{MayKnow, picked, sites_of};
 
 use crate::gate::Gate;
 use crate::hints::{Hints, leaves_of};
@@ -24,7 +24,7 @@ use cts_memo::{Memo, MemoPass};
 use cts_merge::{Finished, Steps};
 use cts_topo::Shape;
 use cts_units::Sink;
-use cts_up::{Site, UpEnd, site_of};
+use cts_up::{Site, UpEnd};
 use std::alloc::{AllocError, Global};
 use std::sync::Wait;
 use std::sync::ledger::Ledger;
@@ -36,22 +36,8 @@ fn finished_of(alloc: Global, built: &[Built]) -> Result<Vec<Finished>, AllocErr
     built.iter().map(|node| node.finished).collect(alloc)
 }
 
-/// Where the nodes at some places may stand, and their buffers.
-fn sites_at(alloc: Global, nodes: &[Built], places: &[u32]) -> Result<Vec<Site>, AllocError>
-    ensures { IfOk result (λ sites. sites.items ≡ map (λ node. spec_site_of node.finished) (picked nodes.now places.now)) }
-{
-    let mut sites = Vec::with_capacity(alloc, places.len())?;
-    for place in places {
-        let Some(node) = nodes.get(*place as usize) else {
-            continue;
-        };
-        sites.push(site_of(&node.finished))?;
-    }
-    Ok(sites)
-}
-
-/// The places of the nodes of a shape over sinks, built by one caller over the memo. It is asked only for those that
-/// aren't known, which are put behind those that are.
+/// The places of the nodes of a shape over sinks, built by one caller over the memo, whose sites are put behind those
+/// that are listed. The memo is asked only for the nodes that aren't known, which are put behind those that are.
 fn build_over<L: Ledger, R: Wait, G: Gate>(
     rt: &R,
     alloc: Global,
@@ -63,6 +49,7 @@ fn build_over<L: Ledger, R: Wait, G: Gate>(
     shape: &Shape,
     hints: &Hints,
     known: &mut Vec<Built>,
+    sites: &mut Vec<Site>,
     steps: &mut Steps<L>,
 ) -> Result<Vec<u32>, UpEnd>
     requires own { IsPassOf memo.now pass.old }
@@ -72,6 +59,7 @@ fn build_over<L: Ledger, R: Wait, G: Gate>(
     ensures pass { GoesOn memo.now pass.old pass.new }
     ensures noted { All (IsNoted (seen_by pass.new)) known.new.items }
     ensures plan { IfOk result (λ tree. IsPlan (params_of memo.now) sinks.now shape.now (map (λ node. node.finished) (picked known.new.items tree.items))) }
+    ensures sites { IfOk result (λ tree. sites.new.items ≡ sites.old.items ++ sites_of (picked known.new.items tree.items)) }
     ensures ends { IfErr result (Ends (params_of memo.now) sinks.now shape.now) }
     ensures known { OnOk result ((length (seen_by pass.new) ≡ max_entries) ⊎ AreKnown (seen_by pass.new) sinks.now shape.now) }
     ensures merges { steps.new ≤ steps.old + missing (seen_by pass.old) sinks.now shape.now }
@@ -85,7 +73,7 @@ fn build_over<L: Ledger, R: Wait, G: Gate>(
         hints,
     };
     let root = nodes.len() as u32 - 1;
-    match build_part(&worker, &work, alloc, pass, 0, root, known, steps) {
+    match build_part(&worker, &work, alloc, pass, 0, root, known, sites, steps) {
         Ok(tree) => Ok(tree),
         Err(end) => Err(end),
     }
@@ -126,6 +114,7 @@ pub fn rebuild_with<L: Ledger, R: Wait, G: Gate>(
     now.listen(rt, alloc, memo, pass);
     let nodes = shape.nodes();
     let leaves = leaves_of(alloc, &Work { memo, sinks, nodes });
+    let mut sites = Vec::with_capacity(alloc, nodes.len())?;
     match build_over(
         rt,
         alloc,
@@ -137,10 +126,10 @@ pub fn rebuild_with<L: Ledger, R: Wait, G: Gate>(
         shape,
         &now.hints,
         &mut now.nodes,
+        &mut sites,
         steps,
     ) {
         Ok(tree) => {
-            let sites = sites_at(alloc, &now.nodes, &tree)?;
             *known = now.with_tree(alloc, tree, leaves);
             Ok(sites)
         }
@@ -182,8 +171,9 @@ pub fn rebuild<L: Ledger, R: Wait, G: Gate>(
 {
     let hints = Hints::none(alloc);
     let mut nodes = Vec::new(alloc);
+    let mut sites = Vec::new(alloc);
     match build_over(
-        rt, alloc, memo, pass, gate, number, sinks, shape, &hints, &mut nodes, steps,
+        rt, alloc, memo, pass, gate, number, sinks, shape, &hints, &mut nodes, &mut sites, steps,
     ) {
         Ok(tree) => Ok(finished_of(alloc, &nodes_at(alloc, &nodes, &tree)?)?),
         Err(end) => Err(end),

@@ -1,8 +1,11 @@
-use Rattle.std.proofs.Common.{◌+◌, ◌-◌, ◌∷◌, [], length, sym, ap, subst, arith, length-append}
+use Rattle.std.proofs.Common.{◌+◌, ◌-◌, ◌∷◌, ◌++◌, [], length, sym, ap, subst, ◌∙◌, arith, length-append}
 use Rattle.cts_turn.specs.Passes.{seen_by}
+use Rattle.cts_up.specs.Sites.{site_of}
+use Rattle.cts_work.specs.declared.node.Built.{Built}
 use Rattle.cts_work.specs.Work.{AreBuilt}
-use Rattle.cts_work.specs.Known.{StandAt, picked}
-use Rattle.cts_work.proofs.Picked.{length-picked}
+use Rattle.cts_work.specs.Known.{StandAt, picked, sites_of}
+use Rattle.std.proofs.lemmas.List.{append-nil}
+use Rattle.cts_work.proofs.Picked.{length-picked, sites_further}
 use Rattle.cts_work.proofs.Nodes.{stands_still, goes_further}
 use Rattle.cts_work.proofs.Parts.{part_ordered, next_fits, starts_from, none_stand, stand_push, ends_here, merges_next, merges_within}
 use Rattle.cts_work.proofs.part.build_part.Goals as goal
@@ -23,6 +26,8 @@ loop-node-init g c =
       noted = c.requires.noted;
       long = omega (arith, ap length c.in_ok-tree.ensures.items);
       built = none_stand c.args.work.now (seen_by c.args.pass.now) c.args.first c.args.nodes.now.items c.in_ok-tree.tree.items c.in_ok-tree.ensures.items;
+      sites = sym (append-nil c.args.sites.now.items)
+          ∙ ap (λ ps. c.args.sites.now.items ++ sites_of (picked c.args.nodes.now.items ps)) (sym c.in_ok-tree.ensures.items);
       merges = omega arith;
     }
 
@@ -91,6 +96,12 @@ loop-node-preserved g c =
           (stand_push c.args.work.now (seen_by c.loop-node.pass) (seen_by c.place_node.new.pass) c.args.first c.loop-node.node
           c.loop-node.nodes.items c.place_node.new.nodes.items c.loop-node.tree.items c.in-Ok.place step.goes_on step.own.short
           c.place_node.ensures.more c.loop-node.invariant.built c.loop-node.invariant.long c.in-Ok.ensures.built);
+      sites = sites_further c.loop-node.nodes.items c.place_node.new.nodes.items c.place_node.ensures.more c.loop-node.tree.items
+          (c.loop-node.invariant.built.0) c.in-Ok.place (c.in-Ok.ensures.built.0) c.index.result.now (c.in-Ok.ensures.built.1) c.args.sites.now.items
+          c.loop-node.sites.items c.push-in-Ok.new.self.items c.loop-node.invariant.sites
+          (c.in_ok-push-in-Ok-2.ensures.items ∙ ap (λ s. c.loop-node.sites.items ++ s ∷ [])
+          (c.site_of.ensures ∙ ap (λ (node : Built). site_of node.finished) c.index.ensures))
+          ∙ ap (λ ps. c.args.sites.now.items ++ sites_of (picked c.place_node.new.nodes.items ps)) (sym items);
       merges = merges_next c.args.work.now (seen_by c.args.pass.now) (seen_by c.loop-node.pass) c.args.first c.loop-node.node c.args.steps.now
           c.loop-node.steps c.place_node.new.steps c.loop-node.invariant.from (omega (arith, c.loop-node-test.true, c.requires.part.within))
           c.loop-node.invariant.pass.goes_on c.loop-node.invariant.merges c.place_node.ensures.merges;
@@ -124,3 +135,21 @@ returns-in_err-push-in-Ok-clause-noted g c = c.place_node.ensures.noted
 
 pub returns-in-Err-clause-noted : goal.returns-in-Err-clause-noted
 returns-in-Err-clause-noted g c = c.place_node.ensures.noted
+
+pub returns-in_err-push-in-Ok-2-clause-pass : goal.returns-in_err-push-in-Ok-2-clause-pass
+returns-in_err-push-in-Ok-2-clause-pass g c =
+    goes_further c.args.work.now.memo.now c.args.pass.now c.loop-node.pass c.place_node.new.pass c.loop-node.invariant.pass c.place_node.ensures.pass
+
+pub returns-in_err-push-in-Ok-2-clause-merges : goal.returns-in_err-push-in-Ok-2-clause-merges
+returns-in_err-push-in-Ok-2-clause-merges g c =
+    merges_within c.args.work.now (seen_by c.args.pass.now) c.args.first (c.loop-node.node + 1 - c.args.first) (c.args.root + 1 - c.args.first)
+    c.args.steps.now c.place_node.new.steps (omega (arith, c.loop-node-test.true))
+    (merges_next c.args.work.now (seen_by c.args.pass.now) (seen_by c.loop-node.pass) c.args.first c.loop-node.node c.args.steps.now c.loop-node.steps
+    c.place_node.new.steps c.loop-node.invariant.from (omega (arith, c.loop-node-test.true, c.requires.part.within))
+    c.loop-node.invariant.pass.goes_on c.loop-node.invariant.merges c.place_node.ensures.merges)
+
+pub returns-in_err-push-in-Ok-2-clause-noted : goal.returns-in_err-push-in-Ok-2-clause-noted
+returns-in_err-push-in-Ok-2-clause-noted g c = c.place_node.ensures.noted
+
+pub returns-clause-sites : goal.returns-clause-sites
+returns-clause-sites g c = c.loop-node.invariant.sites
