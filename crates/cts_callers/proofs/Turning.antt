@@ -19,10 +19,12 @@ use Rattle.cts_design.specs.Edits.{after}
 use Rattle.cts_design.specs.Decide.{decide}
 use Rattle.cts_design.specs.Passes.{IsEdited, made_in, version_in}
 use Rattle.cts_memo.specs.declared.entry.MemoEntry.{MemoEntry}
-use Rattle.cts_session.specs.declared.draw.Drawn.{Drawn}
+use Rattle.cts_topo.specs.Topology.{shape_of}
+use Rattle.cts_totals.specs.Totals.{AreTotalsOver}
+use Rattle.cts_session.specs.declared.draw.VersionTotals.{VersionTotals}
 use Rattle.cts_session.specs.declared.draw.TreeEnd.TheVariants.{None as no_tree}
 use Rattle.cts_session.specs.Desks.{Known, base_of, known_by, version_of}
-use Rattle.cts_session.specs.Draws.{EndsDraw, IsDrawn}
+use Rattle.cts_session.specs.Draws.{EndsDraw, IsSummedUp}
 use Rattle.cts_session.specs.Sessions.{AtDesk, edits_of}
 use Rattle.cts_script.specs.declared.script.Act.TheVariants.{Change, Draw}
 use Rattle.cts_callers.specs.declared.reply.Reply.TheVariants.{Edited, Drew, NoTree}
@@ -112,28 +114,32 @@ module _ (old new : AtDesk) (desk : new.desk ≡ old.desk) (caller : new.caller 
     at_end version is =
         ap (λ l. with_sinks (base_of old.desk) (after (base_of old.desk).sinks l)) (sym (take_all version (edits_of new) (omega (arith, is))))
 
-    pub next_draw : (drawn : Drawn) → IsDrawn (base_of old.desk) (edits_of new) drawn
-        → IsNext old new (record { line = line; act = Draw }) (Drew line drawn.version drawn.figures.skew drawn.figures.wire_total)
+    pub next_draw : (summed : VersionTotals) → IsSummedUp (base_of old.desk) (edits_of new) summed
+        → IsNext old new (record { line = line; act = Draw }) (Drew line summed.version summed.totals.skew summed.totals.wire)
     unfolding told_by
-    next_draw drawn is = record {
-      keeps = subst (Keeps old new)
-          (sym (ap length (accepted-none (Drew line drawn.version drawn.figures.skew drawn.figures.wire_total) []
-          (drew_none line drawn.version drawn.figures.skew drawn.figures.wire_total)))) keeps_draw;
-      right = (
-        refl,
+    next_draw summed is =
+        let skew : ℕ = summed.totals.skew in
+        let wire : ℕ = summed.totals.wire in
+        let at : Parts = version_of (base_of old.desk) (edits_of new) in
+        let told : AreTotalsOver at (shape_of at.sinks) summed.totals = is.totals in
         record {
-          within = omega (arith, is.version);
-          tree = drawn.tree;
-          is_tree = subst (λ i. IsSynthesis i (made drawn.tree)) (at_end drawn.version is.version) is.tree;
-          figures = drawn.figures;
-          are_figures = subst (λ i. AreFigures i drawn.tree drawn.figures) (at_end drawn.version is.version) is.figures;
-          skew_is = refl;
-          wire_is = refl;
-        },
-      );
-      version = is.version;
-      later = λ w some. absurd (let e : None ≡ Some w = sym (drew_none line drawn.version drawn.figures.skew drawn.figures.wire_total) ∙ some in cc);
-    }
+          keeps = subst (Keeps old new)
+              (sym (ap length (accepted-none (Drew line summed.version skew wire) [] (drew_none line summed.version skew wire)))) keeps_draw;
+          right = (
+            refl,
+            record {
+              within = omega (arith, is.version);
+              tree = told.tree;
+              is_tree = subst (λ i. IsSynthesis i (made told.tree)) (at_end summed.version is.version) told.is_tree;
+              figures = told.figures;
+              are_figures = subst (λ i. AreFigures i told.tree told.figures) (at_end summed.version is.version) told.are_figures;
+              skew_is = told.skew_is;
+              wire_is = told.wire_is;
+            },
+          );
+          version = is.version;
+          later = λ w some. absurd (let e : None ≡ Some w = sym (drew_none line summed.version skew wire) ∙ some in cc);
+        }
 
     pub end_is : (version : ℕ) (end : Why) → EndsDraw (base_of old.desk) (edits_of new) (no_tree version end)
         → (version ≡ length (edits_of new)) × Ends (version_of (base_of old.desk) (edits_of new)) end × (end ≢ why.NoMemory)

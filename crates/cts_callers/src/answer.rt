@@ -14,7 +14,7 @@ use cts_design::{Edit, EditReply};
 use cts_merge::Steps;
 use cts_num::NoMemory;
 use cts_script::{Act, Script, ScriptStep};
-use cts_session::{Drawn, Session, TreeEnd};
+use cts_session::{Session, TreeEnd, VersionTotals};
 use cts_work::Gate;
 use std::alloc::Global;
 use std::sync::Wait;
@@ -49,18 +49,12 @@ fn draw<L: Ledger, R: Wait, G: Gate>(
     ensures desk { session.new.desk ≡ session.old.desk }
     ensures next { IfOk result (IsNext session.old session.new (record { line = line; act = Act.Draw })) }
 {
-    match session.tree(rt, alloc, gate, steps) {
-        Ok(
-            Drawn {
-                version,
-                figures,
-                ..
-            },
-        ) => Ok(Reply::Drew {
+    match session.totals(rt, alloc, gate, steps) {
+        Ok(VersionTotals { version, totals }) => Ok(Reply::Drew {
             line,
             version,
-            skew: figures.skew,
-            wire: figures.wire_total,
+            skew: totals.skew,
+            wire: totals.wire,
         }),
         Err(TreeEnd::None { version, why }) => Ok(Reply::NoTree { line, version, why }),
         Err(TreeEnd::NoMemory) => Err(NoMemory),

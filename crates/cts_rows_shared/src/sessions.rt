@@ -6,7 +6,7 @@ ghost use Rattle.cts_design.specs.Edits.{IsEdit};
 ghost use Rattle.cts_session.specs.Desks.{AreDivisible, AreHandsOf};
 
 use crate::compare::same;
-use crate::drawing::{draw, split};
+use crate::drawing::{draw, split, sum_up};
 use crate::instances::{instance, sink, wall};
 use cts_block::Block;
 use cts_design::{Edit, EditCause, EditReply, Entry};
@@ -95,6 +95,36 @@ fn an_edit_of_one_session_reaches_the_other(rt: HostRuntime) -> Result<(), Fail>
         version: 1,
     };
     same(&rt, "known", two.edit(&rt, 8, KNOWN), known);
+    Ok(())
+}
+
+/// What is told of a session now without its tree: its version, skew and wire.
+fn summed_up<R: Wait>(rt: &R, alloc: Global, session: &mut Session<'_>) -> Option<(u32, u128, u64)>
+    ensures { session.new.desk ≡ session.old.desk }
+{
+    let summed = sum_up(rt, alloc, session, &OpenGate).ok()?;
+    Some((summed.version, summed.totals.skew, summed.totals.wire))
+}
+
+/// The second session tells what its trees would have, before and after the first one makes a sink lighter.
+fn sums_both<R: Wait + Abort>(rt: &R, alloc: Global, one: &mut Session<'_>, two: &mut Session<'_>)
+    ensures one { one.new.desk ≡ one.old.desk }
+    ensures two { two.new.desk ≡ two.old.desk }
+{
+    // Wires of 6, 4 and 6 nm, and 432 at both sinks.
+    let told = summed_up(rt, alloc, two);
+    same(rt, "before", told, Some((0, 0, 16)));
+    same(rt, "lighter", one.edit(rt, 7, LIGHTER), accepted());
+    // Wires of 5, 5 and 5 nm, and 310 and 320 at the sinks.
+    let told = summed_up(rt, alloc, two);
+    same(rt, "after", told, Some((1, 10, 15)));
+}
+
+#[test]
+fn totals_are_those_of_the_tree(rt: HostRuntime) -> Result<(), Fail> {
+    let (desk, hands) = begin(rt.alloc())?;
+    let (mut one, mut two) = Session::of(&desk, hands, 1).split(2);
+    sums_both(&rt, rt.alloc(), &mut one, &mut two);
     Ok(())
 }
 
@@ -208,6 +238,35 @@ fn cut_at<R: Wait>(rt: &R, alloc: Global, session: &mut Session<'_>) -> Option<u
         ) => Some(version),
         _ => None,
     }
+}
+
+/// The version of which totals tell that the sink is cut off.
+fn totals_cut_at<R: Wait>(rt: &R, alloc: Global, session: &mut Session<'_>) -> Option<u32>
+    ensures { session.new.desk ≡ session.old.desk }
+{
+    match sum_up(rt, alloc, session, &OpenGate) {
+        Err(
+            TreeEnd::None {
+                version,
+                why: NoTree::Cut { node: 0 },
+            },
+        ) => Some(version),
+        _ => None,
+    }
+}
+
+#[test]
+fn a_sink_that_is_cut_has_no_totals(rt: HostRuntime) -> Result<(), Fail> {
+    let (desk, hands) = begin_walled(rt.alloc())?;
+    let mut session = Session::of(&desk, hands, 1);
+    let cut = totals_cut_at(&rt, rt.alloc(), &mut session);
+    same(&rt, "cut off at the start", cut, Some(0));
+    let away = Edit::Move { id: 1, x: 1, y: 1 };
+    same(&rt, "away", session.edit(&rt, 7, away), accepted());
+    // One wire of 2 nm.
+    let told = summed_up(&rt, rt.alloc(), &mut session);
+    same(&rt, "the totals", told, Some((1, 0, 2)));
+    Ok(())
 }
 
 #[test]

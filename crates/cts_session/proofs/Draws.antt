@@ -14,13 +14,15 @@ use Rattle.cts_plain.specs.declared.end.NoTree.{NoTree}
 use Rattle.cts_plain.specs.declared.end.NoTree.TheVariants.{Beyond, Cut, NoMemory}
 use Rattle.cts_plain.specs.Ends.{Ends, EndsWithPlan}
 use Rattle.cts_plain.specs.Synthesis.{IsSynthesis, IsSynthesisOver, beyond, cut, made}
+use Rattle.cts_totals.specs.declared.totals.Totals.{Totals}
+use Rattle.cts_totals.specs.Totals.{AreTotalsOver}
 use Rattle.cts_memo.specs.declared.entry.MemoEntry.{MemoEntry}
 use Rattle.cts_memo.specs.Numbers.{AreKnown}
 use Rattle.cts_memo.specs.Sound.{max_entries}
 use Rattle.cts_edit.specs.declared.edit.Entry.{Entry}
 use Rattle.cts_design.specs.Edits.{after}
 use Rattle.cts_session.specs.Desks.{version_of}
-use Rattle.cts_session.specs.Draws.{EndsDraw, IsDrawn, KnowsAtEnd, KnowsTree, KnowsUntil, end_at}
+use Rattle.cts_session.specs.Draws.{AreTotals, EndsDraw, IsDrawn, IsSummedUp, KnowsAtEnd, KnowsTree, KnowsUntil, end_at}
 
 pub is_drawn : (base : Parts) (edits : List Entry) (version : ℕ) (i : Parts) (tree : List TreeNode) (figures : Figures)
     → version ≡ length edits → i ≡ version_of base edits → IsValid i → IsSynthesis i (made tree) → AreFigures i tree figures
@@ -35,6 +37,14 @@ is_drawn base edits version i tree figures v is valid synthesis are sound one_ea
   one_each = one_each;
   in_range = in_range;
   in_die = subst (λ j. All (StandsInDie j.die) tree) is in_die;
+}
+
+-- and the skew and the wire of that tree
+pub is_summed_up : (base : Parts) (edits : List Entry) (version : ℕ) (i : Parts) (totals : Totals) → version ≡ length edits
+    → i ≡ version_of base edits → AreTotals i totals → IsSummedUp base edits (record { version = version; totals = totals })
+is_summed_up base edits version i totals v is are = record {
+  version = v;
+  totals = subst (λ j. AreTotals j totals) is are;
 }
 
 -- why a version has no tree, as the end of a draw
@@ -63,8 +73,14 @@ pub made_of_plan : (i : Parts) (shape : List ShapeNode) (result : Result (List T
 made_of_plan i shape (Ok r) e h = subst (λ s. IsSynthesisOver i s (made r.0)) e h
 made_of_plan i shape (Err end) e h = tt
 
+-- its skew and its wire
+pub summed_of_plan : (i : Parts) (shape : List ShapeNode) (result : Result Totals NoTree) → shape ≡ shape_of i.sinks
+    → IfOk result (AreTotalsOver i shape) → IfOk result (AreTotals i)
+summed_of_plan i shape (Ok totals) e h = subst (λ s. AreTotalsOver i s totals) e h
+summed_of_plan i shape (Err end) e h = tt
+
 -- or why there is none over it
-pub none_of_plan : (i : Parts) (shape : List ShapeNode) (result : Result (List TreeNode × Figures) NoTree) → shape ≡ shape_of i.sinks
+pub none_of_plan : {X : Type 0} (i : Parts) (shape : List ShapeNode) (result : Result X NoTree) → shape ≡ shape_of i.sinks
     → IfErr result (EndsWithPlan i shape) → IfErr result (Ends i)
 none_of_plan i shape (Ok r) e h = tt
 none_of_plan i shape (Err (Beyond node)) e h = inr (subst (λ s. EndsWithPlan i s (Beyond node)) e h)
@@ -72,25 +88,23 @@ none_of_plan i shape (Err (Cut node)) e h = subst (λ s. EndsWithPlan i s (Cut n
 none_of_plan i shape (Err NoMemory) e h = tt
 
 -- what the memo knows once the plan is made
-known_of_plan : (i : Parts) (sinks : List Sink) (shape : List ShapeNode) (entries : List MemoEntry) → sinks ≡ i.sinks → shape ≡ shape_of sinks
+pub known_of_plan : (i : Parts) (sinks : List Sink) (shape : List ShapeNode) (entries : List MemoEntry) → sinks ≡ i.sinks → shape ≡ shape_of sinks
     → (length entries ≡ max_entries) ⊎ AreKnown entries sinks shape → KnowsTree i entries
 known_of_plan i sinks shape entries e f known =
     subst (λ (l : List Sink). (length entries ≡ max_entries) ⊎ AreKnown entries l (shape_of l)) e
     (subst (λ s. (length entries ≡ max_entries) ⊎ AreKnown entries sinks s) f known)
 
-pub known_where_made : (i : Parts) (sinks : List Sink) (shape : List ShapeNode) (entries : List MemoEntry)
-    (result : Result (List TreeNode × Figures) NoTree) → sinks ≡ i.sinks → shape ≡ shape_of sinks
-    → (length entries ≡ max_entries) ⊎ AreKnown entries sinks shape → OnOk result (KnowsTree i entries)
-known_where_made i sinks shape entries (Ok r) e f known = known_of_plan i sinks shape entries e f known
-known_where_made i sinks shape entries (Err end) e f known = tt
+pub known_where_made : {X : Type 0} (i : Parts) (entries : List MemoEntry) (result : Result X NoTree) → KnowsTree i entries
+    → OnOk result (KnowsTree i entries)
+known_where_made i entries (Ok r) known = known
+known_where_made i entries (Err end) known = tt
 
-pub known_until_end : (i : Parts) (sinks : List Sink) (shape : List ShapeNode) (entries : List MemoEntry)
-    (result : Result (List TreeNode × Figures) NoTree) → sinks ≡ i.sinks → shape ≡ shape_of sinks
-    → (length entries ≡ max_entries) ⊎ AreKnown entries sinks shape → IfErr result (KnowsUntil i entries)
-known_until_end i sinks shape entries (Ok r) e f known = tt
-known_until_end i sinks shape entries (Err (Beyond node)) e f known = inr (known_of_plan i sinks shape entries e f known)
-known_until_end i sinks shape entries (Err (Cut node)) e f known = known_of_plan i sinks shape entries e f known
-known_until_end i sinks shape entries (Err NoMemory) e f known = tt
+pub known_until_end : {X : Type 0} (i : Parts) (entries : List MemoEntry) (result : Result X NoTree) → KnowsTree i entries
+    → IfErr result (KnowsUntil i entries)
+known_until_end i entries (Ok r) known = tt
+known_until_end i entries (Err (Beyond node)) known = inr known
+known_until_end i entries (Err (Cut node)) known = known
+known_until_end i entries (Err NoMemory) known = tt
 
 -- the sinks of a desk that is closed
 pub closed_sinks : (base of_design : Parts) (edits seen : List Entry) (sinks : List Sink) → of_design ≡ base → edits ≡ seen

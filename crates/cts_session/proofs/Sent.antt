@@ -65,7 +65,7 @@ number_send = search sendable depth 20
 
 inside_send : (κ : NamedLft) → IsSend (inside.the_row κ)
 inside_send κ =
-    let fields = struct_send (shape (inside.the_type κ)) (desk_ref_send κ, (hands_field_send, (number_send, (search (crosses, maps, sendable) depth 60 fits 20000, tt)))) in
+    let fields = struct_send (shape (inside.the_type κ)) (desk_ref_send κ, (hands_field_send, (number_send, (search (crosses, maps, sendable) depth 60 fits 20000, (search (crosses, maps, sendable) depth 60 fits 20000, tt))))) in
     search (recorded_send, fields)
 
 pub session_send : (κ : NamedLft) → IsSend (session.the_row κ)

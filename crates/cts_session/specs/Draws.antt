@@ -10,11 +10,14 @@ use Rattle.cts_plain.specs.declared.end.NoTree.{NoTree}
 use Rattle.cts_plain.specs.declared.end.NoTree.TheVariants.{Beyond, Cut}
 use Rattle.cts_plain.specs.declared.end.NoTree.TheVariants.{NoMemory as no_memory}
 use Rattle.cts_plain.specs.Synthesis.{IsSynthesis, beyond, cut, made}
+use Rattle.cts_totals.specs.declared.totals.Totals.{Totals}
+use Rattle.cts_totals.specs.Totals.{AreTotalsOver}
 use Rattle.cts_memo.specs.declared.entry.MemoEntry.{MemoEntry}
 use Rattle.cts_memo.specs.Numbers.{AreKnown}
 use Rattle.cts_memo.specs.Sound.{max_entries}
 use Rattle.cts_edit.specs.declared.edit.Entry.{Entry}
 use Rattle.cts_session.specs.declared.draw.Drawn.{Drawn}
+use Rattle.cts_session.specs.declared.draw.VersionTotals.{VersionTotals}
 use Rattle.cts_session.specs.declared.draw.TreeEnd.{TreeEnd}
 use Rattle.cts_session.specs.declared.draw.TreeEnd.TheVariants.{None as no_tree, NoMemory}
 use Rattle.cts_session.specs.Desks.{version_of}
@@ -29,6 +32,15 @@ pub record IsDrawn (base : Parts) (edits : List Entry) (drawn : Drawn) : Type 0 
   pub one_each : length drawn.figures.nodes ≡ length drawn.tree
   pub in_range : AreFiguresInRange drawn.figures
   pub in_die : All (StandsInDie (version_of base edits).die) drawn.tree
+
+-- the skew and the wire of an instance's synthesis
+abbrev pub AreTotals : Parts → Totals → Type 0
+AreTotals i totals = AreTotalsOver i (shape_of i.sinks) totals
+
+-- those of the version after these edits
+pub record IsSummedUp (base : Parts) (edits : List Entry) (summed : VersionTotals) : Type 0 where
+  pub version : summed.version ≡ length edits
+  pub totals : AreTotals (version_of base edits) summed.totals
 
 -- The version after these edits has no tree: the synthesis of its sinks comes to a node that is beyond, or cut. Or memory ran
 -- out.

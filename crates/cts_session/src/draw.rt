@@ -3,7 +3,10 @@
 ghost use Rattle.std.specs.Prelude.{◌≡◌, ◌+◌, ◌≤◌, All, length, IfOk, IfErr, OnOk};
 ghost use mathlib.Core.List.{IsPrefix};
 ghost use Rattle.cts_instance.specs.Validity.{IsValid};
+ghost use Rattle.cts_topo.specs.Shape.{IsShapeOver};
+ghost use Rattle.cts_topo.specs.Sinks.{AreSinks};
 ghost use Rattle.cts_topo.specs.Topology.{shape_of};
+ghost use Rattle.cts_up.specs.Sites.{AreSites};
 ghost use Rattle.cts_elmore.specs.Figures.{AreFigures, AreFiguresInRange};
 ghost use Rattle.cts_elmore.specs.Sound.{IsSound, StandsInDie};
 ghost use Rattle.cts_plain.specs.Ends.{Ends};
@@ -16,7 +19,7 @@ ghost use Rattle.cts_work.specs.Known.{MayKnow};
 ghost use Rattle.cts_design.specs.Passes.{instance_of};
 ghost use Rattle.cts_design.specs.Passes.{IsPassOf as IsDesignPassOf};
 ghost use Rattle.cts_session.specs.Desks.{AreHandsOf, GoesOn, base_of, known_by, version_of};
-ghost use Rattle.cts_session.specs.Draws.{EndsDraw, IsDrawn, KnowsAtEnd, KnowsTree, KnowsUntil, end_at};
+ghost use Rattle.cts_session.specs.Draws.{AreTotals, EndsDraw, IsDrawn, IsSummedUp, KnowsAtEnd, KnowsTree, KnowsUntil, end_at};
 
 use crate::desk::{Desk, Hands};
 use cts_design::{Design, snapshot};
@@ -26,9 +29,13 @@ use cts_memo::{Memo, MemoPass};
 use cts_merge::Steps;
 use cts_num::NoMemory;
 use cts_plain::{NoTree, finish_sites};
-use cts_topo::topology;
+use cts_topo::Shape;
+use cts_topo_again::{Order, topology_again};
+use cts_totals::{Totals, totals_of};
 use cts_tree::Tree;
 use cts_turn::{Pass, Turn};
+use cts_units::Sink;
+use cts_up::Site;
 use cts_work::{Gate, Known, rebuild_with};
 use std::alloc::Global;
 use std::sync::Wait;
@@ -41,6 +48,13 @@ pub struct Drawn {
     pub version: u32,
     pub tree: Tree,
     pub figures: Figures,
+}
+
+/// The skew and the wire of the tree of a version.
+#[derive(Clone, Copy, Debug)]
+pub struct VersionTotals {
+    pub version: u32,
+    pub totals: Totals,
 }
 
 /// Why a draw gives no tree.
@@ -98,18 +112,67 @@ pub(crate) fn instance_now<R: Wait>(
     Ok((version, instance))
 }
 
-/// The synthesis of an instance, whose plan is made over the memo.
+/// The shape of some sinks, made by their last order, which is then theirs.
+fn shape_again(alloc: Global, sinks: &[Sink], order: &mut Option<Order>) -> Result<Shape, NoMemory>
+    requires { AreSinks sinks.now }
+    ensures definition { IfOk result (λ shape. shape ≡ shape_of sinks.now) }
+    ensures each_sink_once { IfOk result (IsShapeOver (length sinks.now)) }
+{
+    let mut now = order.take().unwrap_or(Order::none(alloc));
+    let shape = topology_again(alloc, sinks, &mut now)?;
+    *order = Some(now);
+    Ok(shape)
+}
+
+/// The shape of an instance's sinks, and the sites of its plan, which is made over the memo.
 ///
-/// The memo is as good as empty for the answer, which is that of the synthesis by one thread; it saves
+/// The memo is as good as empty for the answer, which is that of the upward pass by one thread; it saves
 /// the merges of the pairs that have a number in it. It is asked only for the nodes that aren't known of
 /// the tree before, or heard of since; afterwards those of this tree are known. Where the plan has no node
 /// beyond the memo has afterwards a number for every node of the tree, or is full.
+fn plan<L: Ledger, R: Wait, G: Gate>(
+    rt: &R,
+    alloc: Global,
+    memo: &Memo,
+    pass: &mut MemoPass,
+    known: &mut Option<Known>,
+    order: &mut Option<Order>,
+    gate: &G,
+    caller: u32,
+    instance: &Instance,
+    steps: &mut Steps<L>,
+) -> Result<(Shape, Vec<Site>), NoTree>
+    requires own { IsMemoPassOf memo.now pass.old }
+    requires params { params_of memo.now ≡ instance.now.params }
+    requires kept { MayKnow (seen_by pass.old) known.old }
+    ensures own { IsMemoPassOf memo.now pass.new }
+    ensures share { share_of pass.new ≡ share_of pass.old }
+    ensures goes_on { IsPrefix (seen_by pass.old) (seen_by pass.new) }
+    ensures shape { IfOk result (λ r. r.0 ≡ shape_of instance.now.sinks) }
+    ensures over { IfOk result (λ r. IsShapeOver (length instance.now.sinks) r.0) }
+    ensures sites { IfOk result (λ r. AreSites instance.now.params instance.now.sinks r.0 r.1.items) }
+    ensures ends { IfErr result (Ends instance.now) }
+    ensures known { OnOk result (KnowsTree instance.now (seen_by pass.new)) }
+    ensures known_until { IfErr result (KnowsUntil instance.now (seen_by pass.new)) }
+    ensures kept { MayKnow (seen_by pass.new) known.new }
+    ensures merges { steps.new ≤ steps.old + missing (seen_by pass.old) instance.now.sinks (shape_of instance.now.sinks) }
+{
+    let sinks = instance.sinks();
+    let shape = shape_again(alloc, sinks, order)?;
+    let sites = rebuild_with(
+        rt, alloc, memo, pass, gate, caller, sinks, &shape, known, steps,
+    )?;
+    Ok((shape, sites))
+}
+
+/// The synthesis of an instance, whose [`plan`] is made over the memo.
 pub(crate) fn draw<L: Ledger, R: Wait, G: Gate>(
     rt: &R,
     alloc: Global,
     memo: &Memo,
     pass: &mut MemoPass,
     known: &mut Option<Known>,
+    order: &mut Option<Order>,
     gate: &G,
     caller: u32,
     instance: &Instance,
@@ -133,12 +196,42 @@ pub(crate) fn draw<L: Ledger, R: Wait, G: Gate>(
     ensures kept { MayKnow (seen_by pass.new) known.new }
     ensures merges { steps.new ≤ steps.old + missing (seen_by pass.old) instance.now.sinks (shape_of instance.now.sinks) }
 {
-    let sinks = instance.sinks();
-    let shape = topology(alloc, sinks)?;
-    let sites = rebuild_with(
-        rt, alloc, memo, pass, gate, caller, sinks, &shape, known, steps,
+    let (shape, sites) = plan(
+        rt, alloc, memo, pass, known, order, gate, caller, instance, steps,
     )?;
     finish_sites(alloc, instance, &shape, sites)
+}
+
+/// The skew and the wire of the synthesis of an instance, whose [`plan`] is made over the memo. No tree is made.
+pub(crate) fn sum_up<L: Ledger, R: Wait, G: Gate>(
+    rt: &R,
+    alloc: Global,
+    memo: &Memo,
+    pass: &mut MemoPass,
+    known: &mut Option<Known>,
+    order: &mut Option<Order>,
+    gate: &G,
+    caller: u32,
+    instance: &Instance,
+    steps: &mut Steps<L>,
+) -> Result<Totals, NoTree>
+    requires own { IsMemoPassOf memo.now pass.old }
+    requires params { params_of memo.now ≡ instance.now.params }
+    requires kept { MayKnow (seen_by pass.old) known.old }
+    ensures own { IsMemoPassOf memo.now pass.new }
+    ensures share { share_of pass.new ≡ share_of pass.old }
+    ensures goes_on { IsPrefix (seen_by pass.old) (seen_by pass.new) }
+    ensures totals { IfOk result (AreTotals instance.now) }
+    ensures ends { IfErr result (Ends instance.now) }
+    ensures known { OnOk result (KnowsTree instance.now (seen_by pass.new)) }
+    ensures known_until { IfErr result (KnowsUntil instance.now (seen_by pass.new)) }
+    ensures kept { MayKnow (seen_by pass.new) known.new }
+    ensures merges { steps.new ≤ steps.old + missing (seen_by pass.old) instance.now.sinks (shape_of instance.now.sinks) }
+{
+    let (shape, sites) = plan(
+        rt, alloc, memo, pass, known, order, gate, caller, instance, steps,
+    )?;
+    totals_of(alloc, instance, &shape, sites)
 }
 
 /// The tree of the sinks as they are when it is this call's turn. Nothing of an earlier draw is kept but
@@ -149,6 +242,7 @@ pub(crate) fn draw_now<L: Ledger, R: Wait, G: Gate>(
     desk: &Desk,
     hands: &mut Hands,
     known: &mut Option<Known>,
+    order: &mut Option<Order>,
     gate: &G,
     caller: u32,
     steps: &mut Steps<L>,
@@ -183,6 +277,7 @@ pub(crate) fn draw_now<L: Ledger, R: Wait, G: Gate>(
         &desk.memo,
         &mut hands.memo,
         known,
+        order,
         gate,
         caller,
         &instance,
@@ -193,6 +288,59 @@ pub(crate) fn draw_now<L: Ledger, R: Wait, G: Gate>(
             tree,
             figures,
         }),
+        Err(why) => Err(end_at(version, why)),
+    }
+}
+
+/// The skew and the wire of that tree, which isn't made.
+pub(crate) fn sum_up_now<L: Ledger, R: Wait, G: Gate>(
+    rt: &R,
+    alloc: Global,
+    desk: &Desk,
+    hands: &mut Hands,
+    known: &mut Option<Known>,
+    order: &mut Option<Order>,
+    gate: &G,
+    caller: u32,
+    steps: &mut Steps<L>,
+) -> Result<VersionTotals, TreeEnd>
+    requires own { AreHandsOf desk.now hands.old }
+    requires kept { MayKnow (seen_by hands.old.memo) known.old }
+    ensures own { AreHandsOf desk.now hands.new }
+    ensures goes_on { GoesOn (known_by hands.old) (known_by hands.new) }
+    ensures known { known_by hands.new ≡ record (known_by hands.old) {
+      entries = (known_by hands.new).entries;
+      entries_made = (known_by hands.new).entries_made;
+      edits = (known_by hands.new).edits;
+    } }
+    ensures summed { IfOk result (IsSummedUp (base_of desk.now) (known_by hands.new).edits) }
+    ensures ends { IfErr result (EndsDraw (base_of desk.now) (known_by hands.new).edits) }
+    ensures remembered { OnOk result (KnowsTree (version_of (base_of desk.now) (known_by hands.new).edits) (known_by hands.new).entries) }
+    ensures kept { MayKnow (seen_by hands.new.memo) known.new }
+    ensures remembered_until { IfErr result (KnowsAtEnd (version_of (base_of desk.now) (known_by hands.new).edits) (known_by hands.new).entries) }
+    ensures merges { let sinks = (version_of (base_of desk.now) (known_by hands.new).edits).sinks in
+        steps.new ≤ steps.old + missing (known_by hands.old).entries sinks (shape_of sinks) }
+{
+    let (version, instance) = instance_now(
+        rt,
+        alloc,
+        &desk.instance,
+        &desk.design,
+        &mut hands.design,
+    )?;
+    match sum_up(
+        rt,
+        alloc,
+        &desk.memo,
+        &mut hands.memo,
+        known,
+        order,
+        gate,
+        caller,
+        &instance,
+        steps,
+    ) {
+        Ok(totals) => Ok(VersionTotals { version, totals }),
         Err(why) => Err(end_at(version, why)),
     }
 }

@@ -1,9 +1,10 @@
 //! A caller's session at a desk.
 
 use crate::desk::{Desk, Hands};
-use crate::draw::{Drawn, TreeEnd, draw_now};
+use crate::draw::{Drawn, TreeEnd, VersionTotals, draw_now, sum_up_now};
 use cts_design::{Edit, EditReply, Entry, send_edit};
 use cts_merge::Steps;
+use cts_topo_again::Order;
 use cts_work::{Gate, Known};
 use std::alloc::Global;
 use std::marker::Model;
@@ -11,13 +12,14 @@ use std::sync::Wait;
 use std::sync::ledger::Ledger;
 
 /// A caller at a desk: hands of its own, and the number by which the desk knows it. It keeps the nodes of
-/// its last tree, until it is split, joined or ended.
+/// its last tree and the order of its sinks, until it is split, joined or ended.
 #[derive(Drop)]
 pub struct Session<'a> {
     desk: &'a Desk,
     hands: Hands,
     caller: u32,
     known: Option<Known>,
+    order: Option<Order>,
 }
 
 impl<'a> Model for Session<'a> {
@@ -46,7 +48,7 @@ impl<'a> Session<'a> {
     ghost use Rattle.cts_design.specs.Edits.{IsEdit};
     ghost use Rattle.cts_design.specs.Passes.{IsEdited, made_in, version_in};
     ghost use Rattle.cts_session.specs.Desks.{AreHandsOf, AreDivisible, AreJoined, base_of, known_by, greater_half, lesser_half, GoesOn};
-    ghost use Rattle.cts_session.specs.Draws.{EndsDraw, IsDrawn, KnowsAtEnd, KnowsTree};
+    ghost use Rattle.cts_session.specs.Draws.{EndsDraw, IsDrawn, IsSummedUp, KnowsAtEnd, KnowsTree};
     ghost use Rattle.cts_session.specs.Sessions.{at_desk, edits_of, entries_of, entry_of, seen_version};
 
     /// The session of a caller with these hands of the desk.
@@ -59,6 +61,7 @@ impl<'a> Session<'a> {
             hands,
             caller,
             known: None,
+            order: None,
         }
     }
 
@@ -85,6 +88,7 @@ impl<'a> Session<'a> {
             hands,
             caller: own,
             known: _,
+            order: _,
         } = self;
         let (first, second) = desk.split(hands);
         (
@@ -106,6 +110,7 @@ impl<'a> Session<'a> {
             hands,
             caller,
             known: _,
+            order: _,
         } = self;
         let hands = desk.join(hands, other.hands);
         Session::of(desk, hands, caller)
@@ -171,7 +176,57 @@ impl<'a> Session<'a> {
     {
         let desk = self.desk;
         let caller = self.caller;
-        let known = &mut self.known;
-        draw_now(rt, alloc, desk, &mut self.hands, known, gate, caller, steps)
+        let (known, order) = (&mut self.known, &mut self.order);
+        draw_now(
+            rt,
+            alloc,
+            desk,
+            &mut self.hands,
+            known,
+            order,
+            gate,
+            caller,
+            steps,
+        )
+    }
+
+    /// The skew and the wire of the tree that [`Session::tree`] gives, with the version; or why there is none. No
+    /// list of nodes is made. All else is as there.
+    pub fn totals<L: Ledger, R: Wait, G: Gate>(
+        &mut self,
+        rt: &R,
+        alloc: Global,
+        gate: &G,
+        steps: &mut Steps<L>,
+    ) -> Result<VersionTotals, TreeEnd>
+        ensures desk { self.new.desk ≡ self.old.desk }
+        ensures caller { self.new.caller ≡ self.old.caller }
+        ensures goes_on { GoesOn (known_by self.old.hands) (known_by self.new.hands) }
+        ensures known { known_by self.new.hands ≡ record (known_by self.old.hands) {
+          entries = entries_of self.new;
+          entries_made = (known_by self.new.hands).entries_made;
+          edits = edits_of self.new;
+        } }
+        ensures summed { IfOk result (IsSummedUp (base_of self.old.desk) (edits_of self.new)) }
+        ensures ends { IfErr result (EndsDraw (base_of self.old.desk) (edits_of self.new)) }
+        ensures remembered { OnOk result (KnowsTree (seen_version self.new) (entries_of self.new)) }
+        ensures remembered_until { IfErr result (KnowsAtEnd (seen_version self.new) (entries_of self.new)) }
+        ensures merges { let sinks = (seen_version self.new).sinks in
+            steps.new ≤ steps.old + missing (entries_of self.old) sinks (shape_of sinks) }
+    {
+        let desk = self.desk;
+        let caller = self.caller;
+        let (known, order) = (&mut self.known, &mut self.order);
+        sum_up_now(
+            rt,
+            alloc,
+            desk,
+            &mut self.hands,
+            known,
+            order,
+            gate,
+            caller,
+            steps,
+        )
     }
 }

@@ -7,11 +7,11 @@ use Rattle.cts_callers.proofs.answer.draw.Goals as goal
 
 pub returns-in-Ok-clause-next : goal.returns-in-Ok-clause-next
 returns-in-Ok-clause-next g c =
-    next_draw c.args.session.now c.tree.new.self c.tree.ensures.desk c.tree.ensures.caller c.args.line c.tree.ensures.goes_on.edits
-    (_, _, c.tree.ensures.known) c.in-Ok.field-0 c.in-Ok.ensures.drawn
+    next_draw c.args.session.now c.totals.new.self c.totals.ensures.desk c.totals.ensures.caller c.args.line c.totals.ensures.goes_on.edits
+    (_, _, c.totals.ensures.known) c.in-Ok.field-0 c.in-Ok.ensures.summed
 
 pub returns-in-Err-None-clause-next : goal.returns-in-Err-None-clause-next
 returns-in-Err-None-clause-next g c =
-    next_no_tree c.args.session.now c.tree.new.self c.tree.ensures.desk c.tree.ensures.caller c.args.line c.tree.ensures.goes_on.edits
-    (_, _, c.tree.ensures.known) c.in-Err-None.version c.in-Err-None.why
-    (subst (EndsDraw (base_of c.args.session.now.desk) (edits_of c.tree.new.self)) c.in-Err-None.field-0-is c.in-Err-None.ensures.ends)
+    next_no_tree c.args.session.now c.totals.new.self c.totals.ensures.desk c.totals.ensures.caller c.args.line c.totals.ensures.goes_on.edits
+    (_, _, c.totals.ensures.known) c.in-Err-None.version c.in-Err-None.why
+    (subst (EndsDraw (base_of c.args.session.now.desk) (edits_of c.totals.new.self)) c.in-Err-None.field-0-is c.in-Err-None.ensures.ends)

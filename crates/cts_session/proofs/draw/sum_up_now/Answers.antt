@@ -1,0 +1,40 @@
+use Rattle.std.proofs.Common.{◌+◌, ◌≤◌, subst}
+use Rattle.cts_instance.specs.declared.parts.Parts.{Parts}
+use Rattle.cts_topo.specs.Topology.{shape_of}
+use Rattle.cts_turn.specs.Passes.{seen_by}
+use Rattle.cts_memo.specs.Numbers.{missing}
+use Rattle.cts_session.specs.Desks.{base_of}
+use Rattle.cts_session.specs.Draws.{KnowsTree}
+use Rattle.cts_session.proofs.Draws.{ends_draw, is_summed_up, known_at_end}
+use Rattle.cts_session.proofs.draw.sum_up_now.Goals as goal
+
+pub returns-in-Ok-clause-summed : goal.returns-in-Ok-clause-summed
+returns-in-Ok-clause-summed g c =
+    is_summed_up (base_of c.args.desk.now) c.instance_now.new.pass.seat.me.0.seen c.in_ok-version.version c.in_ok-version.instance
+    c.in-Ok.totals c.in_ok-version.ensures.version c.in_ok-version.ensures.instance c.in-Ok.ensures.totals
+
+pub returns-in-Ok-clause-remembered : goal.returns-in-Ok-clause-remembered
+returns-in-Ok-clause-remembered g c =
+    subst (λ i. KnowsTree i c.sum_up.new.pass.seat.me.0.seen) c.in_ok-version.ensures.instance c.in-Ok.ensures.known
+
+pub returns-in-Ok-clause-merges : goal.returns-in-Ok-clause-merges
+returns-in-Ok-clause-merges g c =
+    subst (λ (i : Parts). c.sum_up.new.steps ≤ c.args.steps.now + missing (seen_by c.args.hands.now.memo) i.sinks (shape_of i.sinks))
+    c.in_ok-version.ensures.instance c.sum_up.ensures.merges
+
+pub returns-clause-ends : goal.returns-clause-ends
+returns-clause-ends g c =
+    rw c.end_at.ensures
+    (ends_draw (base_of c.args.desk.now) c.instance_now.new.pass.seat.me.0.seen c.in_ok-version.version c.in_ok-version.instance
+    c.in-Err.why c.in_ok-version.ensures.version c.in_ok-version.ensures.instance c.in-Err.ensures.ends)
+
+pub returns-clause-remembered_until : goal.returns-clause-remembered_until
+returns-clause-remembered_until g c =
+    rw c.end_at.ensures
+    (known_at_end c.in_ok-version.instance _ c.sum_up.new.pass.seat.me.0.seen c.in_ok-version.version c.in-Err.why
+    c.in_ok-version.ensures.instance c.in-Err.ensures.known_until)
+
+pub returns-clause-merges : goal.returns-clause-merges
+returns-clause-merges g c =
+    subst (λ (i : Parts). c.sum_up.new.steps ≤ c.args.steps.now + missing (seen_by c.args.hands.now.memo) i.sinks (shape_of i.sinks))
+    c.in_ok-version.ensures.instance c.sum_up.ensures.merges
