@@ -15,7 +15,7 @@ ghost use Rattle.cts_turn.specs.Passes.{made_by, seen_by, share_of};
 ghost use Rattle.cts_memo.specs.Numbers.{missing};
 ghost use Rattle.cts_memo.specs.Passes.{params_of};
 ghost use Rattle.cts_memo.specs.Passes.{IsPassOf as IsMemoPassOf};
-ghost use Rattle.cts_work.specs.Known.{MayKnow};
+ghost use Rattle.cts_work.specs.Last.{IsPast, MayKnow};
 ghost use Rattle.cts_design.specs.Passes.{instance_of};
 ghost use Rattle.cts_design.specs.Passes.{IsPassOf as IsDesignPassOf};
 ghost use Rattle.cts_session.specs.Desks.{AreHandsOf, GoesOn, base_of, known_by, version_of};
@@ -35,8 +35,7 @@ use cts_totals::{Totals, totals_of};
 use cts_tree::Tree;
 use cts_turn::{Pass, Turn};
 use cts_units::Sink;
-use cts_up::Site;
-use cts_work::{Gate, Known, rebuild_with};
+use cts_work::{Gate, Past, rebuild_with};
 use std::alloc::Global;
 use std::sync::Wait;
 use std::sync::ledger::Ledger;
@@ -124,45 +123,45 @@ fn shape_again(alloc: Global, sinks: &[Sink], order: &mut Option<Order>) -> Resu
     Ok(shape)
 }
 
-/// The shape of an instance's sinks, and the sites of its plan, which is made over the memo.
+/// The shape of an instance's sinks, whose plan is made over the memo. Its sites are [`Past::sites`] afterwards.
 ///
 /// The memo is as good as empty for the answer, which is that of the upward pass by one thread; it saves
 /// the merges of the pairs that have a number in it. It is asked only for the nodes that aren't known of
-/// the tree before, or heard of since; afterwards those of this tree are known. Where the plan has no node
+/// the trees before, or heard of since; afterwards those of this tree are known. Where the plan has no node
 /// beyond the memo has afterwards a number for every node of the tree, or is full.
 fn plan<L: Ledger, R: Wait, G: Gate>(
     rt: &R,
     alloc: Global,
     memo: &Memo,
     pass: &mut MemoPass,
-    known: &mut Option<Known>,
+    past: &mut Past,
     order: &mut Option<Order>,
     gate: &G,
     caller: u32,
     instance: &Instance,
     steps: &mut Steps<L>,
-) -> Result<(Shape, Vec<Site>), NoTree>
+) -> Result<Shape, NoTree>
     requires own { IsMemoPassOf memo.now pass.old }
     requires params { params_of memo.now ≡ instance.now.params }
-    requires kept { MayKnow (seen_by pass.old) known.old }
+    requires kept { IsPast (seen_by pass.old) past.old }
     ensures own { IsMemoPassOf memo.now pass.new }
     ensures share { share_of pass.new ≡ share_of pass.old }
     ensures goes_on { IsPrefix (seen_by pass.old) (seen_by pass.new) }
-    ensures shape { IfOk result (λ r. r.0 ≡ shape_of instance.now.sinks) }
-    ensures over { IfOk result (λ r. IsShapeOver (length instance.now.sinks) r.0) }
-    ensures sites { IfOk result (λ r. AreSites instance.now.params instance.now.sinks r.0 r.1.items) }
+    ensures shape { IfOk result (λ shape. shape ≡ shape_of instance.now.sinks) }
+    ensures over { IfOk result (IsShapeOver (length instance.now.sinks)) }
+    ensures sites { IfOk result (λ shape. AreSites instance.now.params instance.now.sinks shape past.new.last.sites.items) }
     ensures ends { IfErr result (Ends instance.now) }
     ensures known { OnOk result (KnowsTree instance.now (seen_by pass.new)) }
     ensures known_until { IfErr result (KnowsUntil instance.now (seen_by pass.new)) }
-    ensures kept { MayKnow (seen_by pass.new) known.new }
+    ensures kept { IsPast (seen_by pass.new) past.new }
     ensures merges { steps.new ≤ steps.old + missing (seen_by pass.old) instance.now.sinks (shape_of instance.now.sinks) }
 {
     let sinks = instance.sinks();
     let shape = shape_again(alloc, sinks, order)?;
-    let sites = rebuild_with(
-        rt, alloc, memo, pass, gate, caller, sinks, &shape, known, steps,
+    rebuild_with(
+        rt, alloc, memo, pass, gate, caller, sinks, &shape, past, steps,
     )?;
-    Ok((shape, sites))
+    Ok(shape)
 }
 
 /// The synthesis of an instance, whose [`plan`] is made over the memo.
@@ -171,7 +170,7 @@ pub(crate) fn draw<L: Ledger, R: Wait, G: Gate>(
     alloc: Global,
     memo: &Memo,
     pass: &mut MemoPass,
-    known: &mut Option<Known>,
+    past: &mut Past,
     order: &mut Option<Order>,
     gate: &G,
     caller: u32,
@@ -180,7 +179,7 @@ pub(crate) fn draw<L: Ledger, R: Wait, G: Gate>(
 ) -> Result<(Tree, Figures), NoTree>
     requires own { IsMemoPassOf memo.now pass.old }
     requires params { params_of memo.now ≡ instance.now.params }
-    requires kept { MayKnow (seen_by pass.old) known.old }
+    requires kept { IsPast (seen_by pass.old) past.old }
     ensures own { IsMemoPassOf memo.now pass.new }
     ensures share { share_of pass.new ≡ share_of pass.old }
     ensures goes_on { IsPrefix (seen_by pass.old) (seen_by pass.new) }
@@ -193,12 +192,15 @@ pub(crate) fn draw<L: Ledger, R: Wait, G: Gate>(
     ensures ends { IfErr result (Ends instance.now) }
     ensures known { OnOk result (KnowsTree instance.now (seen_by pass.new)) }
     ensures known_until { IfErr result (KnowsUntil instance.now (seen_by pass.new)) }
-    ensures kept { MayKnow (seen_by pass.new) known.new }
+    ensures kept { IsPast (seen_by pass.new) past.new }
     ensures merges { steps.new ≤ steps.old + missing (seen_by pass.old) instance.now.sinks (shape_of instance.now.sinks) }
 {
-    let (shape, sites) = plan(
-        rt, alloc, memo, pass, known, order, gate, caller, instance, steps,
+    let shape = plan(
+        rt, alloc, memo, pass, past, order, gate, caller, instance, steps,
     )?;
+    let Ok(sites) = Vec::from_slice(alloc, past.sites()) else {
+        return Err(NoTree::NoMemory);
+    };
     finish_sites(alloc, instance, &shape, sites)
 }
 
@@ -208,7 +210,7 @@ pub(crate) fn sum_up<L: Ledger, R: Wait, G: Gate>(
     alloc: Global,
     memo: &Memo,
     pass: &mut MemoPass,
-    known: &mut Option<Known>,
+    past: &mut Past,
     order: &mut Option<Order>,
     gate: &G,
     caller: u32,
@@ -217,7 +219,7 @@ pub(crate) fn sum_up<L: Ledger, R: Wait, G: Gate>(
 ) -> Result<Totals, NoTree>
     requires own { IsMemoPassOf memo.now pass.old }
     requires params { params_of memo.now ≡ instance.now.params }
-    requires kept { MayKnow (seen_by pass.old) known.old }
+    requires kept { IsPast (seen_by pass.old) past.old }
     ensures own { IsMemoPassOf memo.now pass.new }
     ensures share { share_of pass.new ≡ share_of pass.old }
     ensures goes_on { IsPrefix (seen_by pass.old) (seen_by pass.new) }
@@ -225,13 +227,13 @@ pub(crate) fn sum_up<L: Ledger, R: Wait, G: Gate>(
     ensures ends { IfErr result (Ends instance.now) }
     ensures known { OnOk result (KnowsTree instance.now (seen_by pass.new)) }
     ensures known_until { IfErr result (KnowsUntil instance.now (seen_by pass.new)) }
-    ensures kept { MayKnow (seen_by pass.new) known.new }
+    ensures kept { IsPast (seen_by pass.new) past.new }
     ensures merges { steps.new ≤ steps.old + missing (seen_by pass.old) instance.now.sinks (shape_of instance.now.sinks) }
 {
-    let (shape, sites) = plan(
-        rt, alloc, memo, pass, known, order, gate, caller, instance, steps,
+    let shape = plan(
+        rt, alloc, memo, pass, past, order, gate, caller, instance, steps,
     )?;
-    totals_of(alloc, instance, &shape, sites)
+    totals_of(alloc, instance, &shape, past.sites())
 }
 
 /// The tree of the sinks as they are when it is this call's turn. Nothing of an earlier draw is kept but
@@ -241,14 +243,14 @@ pub(crate) fn draw_now<L: Ledger, R: Wait, G: Gate>(
     alloc: Global,
     desk: &Desk,
     hands: &mut Hands,
-    known: &mut Option<Known>,
+    past: &mut Option<Past>,
     order: &mut Option<Order>,
     gate: &G,
     caller: u32,
     steps: &mut Steps<L>,
 ) -> Result<Drawn, TreeEnd>
     requires own { AreHandsOf desk.now hands.old }
-    requires kept { MayKnow (seen_by hands.old.memo) known.old }
+    requires kept { MayKnow (seen_by hands.old.memo) past.old }
     ensures own { AreHandsOf desk.now hands.new }
     ensures goes_on { GoesOn (known_by hands.old) (known_by hands.new) }
     ensures known { known_by hands.new ≡ record (known_by hands.old) {
@@ -259,7 +261,7 @@ pub(crate) fn draw_now<L: Ledger, R: Wait, G: Gate>(
     ensures drawn { IfOk result (IsDrawn (base_of desk.now) (known_by hands.new).edits) }
     ensures ends { IfErr result (EndsDraw (base_of desk.now) (known_by hands.new).edits) }
     ensures remembered { OnOk result (KnowsTree (version_of (base_of desk.now) (known_by hands.new).edits) (known_by hands.new).entries) }
-    ensures kept { MayKnow (seen_by hands.new.memo) known.new }
+    ensures kept { MayKnow (seen_by hands.new.memo) past.new }
     ensures remembered_until { IfErr result (KnowsAtEnd (version_of (base_of desk.now) (known_by hands.new).edits) (known_by hands.new).entries) }
     ensures merges { let sinks = (version_of (base_of desk.now) (known_by hands.new).edits).sinks in
         steps.new ≤ steps.old + missing (known_by hands.old).entries sinks (shape_of sinks) }
@@ -271,18 +273,21 @@ pub(crate) fn draw_now<L: Ledger, R: Wait, G: Gate>(
         &desk.design,
         &mut hands.design,
     )?;
-    match draw(
+    let mut now = past.take().unwrap_or(Past::nothing(alloc));
+    let end = draw(
         rt,
         alloc,
         &desk.memo,
         &mut hands.memo,
-        known,
+        &mut now,
         order,
         gate,
         caller,
         &instance,
         steps,
-    ) {
+    );
+    *past = Some(now);
+    match end {
         Ok((tree, figures)) => Ok(Drawn {
             version,
             tree,
@@ -298,14 +303,14 @@ pub(crate) fn sum_up_now<L: Ledger, R: Wait, G: Gate>(
     alloc: Global,
     desk: &Desk,
     hands: &mut Hands,
-    known: &mut Option<Known>,
+    past: &mut Option<Past>,
     order: &mut Option<Order>,
     gate: &G,
     caller: u32,
     steps: &mut Steps<L>,
 ) -> Result<VersionTotals, TreeEnd>
     requires own { AreHandsOf desk.now hands.old }
-    requires kept { MayKnow (seen_by hands.old.memo) known.old }
+    requires kept { MayKnow (seen_by hands.old.memo) past.old }
     ensures own { AreHandsOf desk.now hands.new }
     ensures goes_on { GoesOn (known_by hands.old) (known_by hands.new) }
     ensures known { known_by hands.new ≡ record (known_by hands.old) {
@@ -316,7 +321,7 @@ pub(crate) fn sum_up_now<L: Ledger, R: Wait, G: Gate>(
     ensures summed { IfOk result (IsSummedUp (base_of desk.now) (known_by hands.new).edits) }
     ensures ends { IfErr result (EndsDraw (base_of desk.now) (known_by hands.new).edits) }
     ensures remembered { OnOk result (KnowsTree (version_of (base_of desk.now) (known_by hands.new).edits) (known_by hands.new).entries) }
-    ensures kept { MayKnow (seen_by hands.new.memo) known.new }
+    ensures kept { MayKnow (seen_by hands.new.memo) past.new }
     ensures remembered_until { IfErr result (KnowsAtEnd (version_of (base_of desk.now) (known_by hands.new).edits) (known_by hands.new).entries) }
     ensures merges { let sinks = (version_of (base_of desk.now) (known_by hands.new).edits).sinks in
         steps.new ≤ steps.old + missing (known_by hands.old).entries sinks (shape_of sinks) }
@@ -328,18 +333,21 @@ pub(crate) fn sum_up_now<L: Ledger, R: Wait, G: Gate>(
         &desk.design,
         &mut hands.design,
     )?;
-    match sum_up(
+    let mut now = past.take().unwrap_or(Past::nothing(alloc));
+    let end = sum_up(
         rt,
         alloc,
         &desk.memo,
         &mut hands.memo,
-        known,
+        &mut now,
         order,
         gate,
         caller,
         &instance,
         steps,
-    ) {
+    );
+    *past = Some(now);
+    match end {
         Ok(totals) => Ok(VersionTotals { version, totals }),
         Err(why) => Err(end_at(version, why)),
     }

@@ -5,20 +5,20 @@ use crate::draw::{Drawn, TreeEnd, VersionTotals, draw_now, sum_up_now};
 use cts_design::{Edit, EditReply, Entry, send_edit};
 use cts_merge::Steps;
 use cts_topo_again::Order;
-use cts_work::{Gate, Known};
+use cts_work::{Gate, Past};
 use std::alloc::Global;
 use std::marker::Model;
 use std::sync::Wait;
 use std::sync::ledger::Ledger;
 
-/// A caller at a desk: hands of its own, and the number by which the desk knows it. It keeps the nodes of
-/// its last tree and the order of its sinks, until it is split, joined or ended.
+/// A caller at a desk: hands of its own, and the number by which the desk knows it. It keeps its last tree, with the
+/// nodes that it knows, and the order of its sinks, until it is split, joined or ended.
 #[derive(Drop)]
 pub struct Session<'a> {
     desk: &'a Desk,
     hands: Hands,
     caller: u32,
-    known: Option<Known>,
+    past: Option<Past>,
     order: Option<Order>,
 }
 
@@ -29,7 +29,7 @@ impl<'a> Model for Session<'a> {
     ghost use Rattle.cts_session.specs.Desks.{AreHandsOf};
     ghost use Rattle.cts_session.specs.Sessions.{AtDesk};
     ghost use Rattle.cts_turn.specs.Passes.{seen_by};
-    ghost use Rattle.cts_work.specs.Known.{MayKnow};
+    ghost use Rattle.cts_work.specs.Last.{MayKnow};
 
     ghost Value = { AtDesk };
 
@@ -37,7 +37,7 @@ impl<'a> Model for Session<'a> {
 
     ghost view = { λ session. record { desk = session.desk.now; hands = session.hands; caller = session.caller } };
 
-    ghost invariant = { λ session. AreHandsOf session.desk.now session.hands × MayKnow (seen_by session.hands.memo) session.known };
+    ghost invariant = { λ session. AreHandsOf session.desk.now session.hands × MayKnow (seen_by session.hands.memo) session.past };
 }
 
 impl<'a> Session<'a> {
@@ -60,7 +60,7 @@ impl<'a> Session<'a> {
             desk,
             hands,
             caller,
-            known: None,
+            past: None,
             order: None,
         }
     }
@@ -87,7 +87,7 @@ impl<'a> Session<'a> {
             desk,
             hands,
             caller: own,
-            known: _,
+            past: _,
             order: _,
         } = self;
         let (first, second) = desk.split(hands);
@@ -109,7 +109,7 @@ impl<'a> Session<'a> {
             desk,
             hands,
             caller,
-            known: _,
+            past: _,
             order: _,
         } = self;
         let hands = desk.join(hands, other.hands);
@@ -176,13 +176,13 @@ impl<'a> Session<'a> {
     {
         let desk = self.desk;
         let caller = self.caller;
-        let (known, order) = (&mut self.known, &mut self.order);
+        let (past, order) = (&mut self.past, &mut self.order);
         draw_now(
             rt,
             alloc,
             desk,
             &mut self.hands,
-            known,
+            past,
             order,
             gate,
             caller,
@@ -216,13 +216,13 @@ impl<'a> Session<'a> {
     {
         let desk = self.desk;
         let caller = self.caller;
-        let (known, order) = (&mut self.known, &mut self.order);
+        let (past, order) = (&mut self.past, &mut self.order);
         sum_up_now(
             rt,
             alloc,
             desk,
             &mut self.hands,
-            known,
+            past,
             order,
             gate,
             caller,

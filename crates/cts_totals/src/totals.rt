@@ -46,22 +46,25 @@ fn whole(alloc: Global, instance: &Instance, nodes: &[ShapeNode], sites: &[Site]
 ///
 /// Where there is no such tree the end is that of `cts_plain::finish_sites`, which is asked in that case: `Cut` with the
 /// greatest number of a node that no route reaches, `Beyond` with the least number of a node that is over the limits in the
-/// balance, `NoMemory` where an allocation fails. The sites go.
+/// balance, `NoMemory` where an allocation fails.
 pub fn totals_of(
     alloc: Global,
     instance: &Instance,
     shape: &Shape,
-    sites: Vec<Site>,
+    sites: &[Site],
 ) -> Result<Totals, NoTree>
     requires shape { IsShapeOver (length instance.now.sinks) shape.now }
-    requires sites { AreSites instance.now.params instance.now.sinks shape.now sites.items }
+    requires sites { AreSites instance.now.params instance.now.sinks shape.now sites.now }
     ensures totals { IfOk result (AreTotalsOver instance.now shape.now) }
     ensures ends { IfErr result (EndsWithPlan instance.now shape.now) }
 {
-    if let Some(totals) = whole(alloc, instance, shape.nodes(), sites.as_slice()) {
+    if let Some(totals) = whole(alloc, instance, shape.nodes(), sites) {
         return Ok(totals);
     }
-    let (_tree, figures) = finish_sites(alloc, instance, shape, sites)?;
+    let Ok(own) = Vec::from_slice(alloc, sites) else {
+        return Err(NoTree::NoMemory);
+    };
+    let (_tree, figures) = finish_sites(alloc, instance, shape, own)?;
     Ok(Totals {
         skew: figures.skew,
         wire: figures.wire_total,

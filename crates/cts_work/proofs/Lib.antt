@@ -8,6 +8,7 @@ pub mod Made
 pub mod Divisions
 pub mod Drawn
 pub mod Slots
+pub mod Taken
 pub mod Completing
 pub mod Sent
 pub mod Numbered

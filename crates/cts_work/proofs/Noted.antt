@@ -15,7 +15,7 @@ use Rattle.cts_memo.proofs.SameKeys.{map_test, same_key-decides}
 use Rattle.cts_work.specs.declared.node.Built.{Built}
 use Rattle.cts_work.specs.declared.known.Known.{Known}
 use Rattle.cts_work.specs.Built.{IsNoted}
-use Rattle.cts_work.specs.Known.{IsKnown, MayKnow, StandFrom, picked}
+use Rattle.cts_work.specs.Known.{IsKnown, StandFrom, picked}
 
 -- keys that aren't told apart are one
 pub one_key : (a b : Key) (differ : Bool) → differ ≡ not (keys.eq a b) → differ ≡ false → a ≡ b
@@ -50,10 +50,6 @@ module _ (seen longer : List MemoEntry) (more : IsPrefix seen longer) where
 
   pub known_stays : (known : Known) → IsKnown seen known → IsKnown longer known
   known_stays known noted = all_noted_stay known.nodes.items noted
-
-  pub may_stay : (known : Option Known) → MayKnow seen known → MayKnow longer known
-  may_stay None may = tt
-  may_stay (Some known) may = known_stays known may
 
 answer_of : (seen : List MemoEntry) (key : Key) (n : ℕ) (number : Option ℕ) (own : Option Key) (f : Finished) → number ≡ Some n → own ≡ Some key
     → IfSome number (λ n. IfSome own (λ k. slice_get seen n ≡ Some (entry k f))) → slice_get seen n ≡ Some (entry key f)

@@ -1,5 +1,5 @@
 -- What is known of the nodes of trees that were built before, and of the entries that were heard.
-use Rattle.std.specs.Prelude.{◌≡◌, ◌+◌, ℕ, ◌<◌, List, map, filter_map, length, slice_get, Option, Some, IfSome, All}
+use Rattle.std.specs.Prelude.{◌≡◌, ◌+◌, ℕ, ◌<◌, List, map, filter_map, length, slice_get, Some, All}
 use Rattle.cts_memo.specs.declared.key.Key.{Key}
 use Rattle.cts_memo.specs.declared.entry.MemoEntry.{MemoEntry}
 use Rattle.cts_up.specs.declared.site.Site.{Site}
@@ -35,6 +35,3 @@ StandFrom seen first entries = (i : ℕ) (e : MemoEntry) → slice_get entries i
 -- all nodes that are known are noted in the list
 abbrev pub IsKnown : List MemoEntry → Known → Type 0
 IsKnown seen known = All (IsNoted seen) known.nodes.items
-
-abbrev pub MayKnow : List MemoEntry → Option Known → Type 0
-MayKnow seen known = IfSome known (IsKnown seen)

@@ -1,5 +1,6 @@
 pub mod Built
 pub mod Known
+pub mod Last
 pub mod Work
 pub mod Pieces
 pub mod Done

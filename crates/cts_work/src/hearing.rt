@@ -1,6 +1,7 @@
 //! What is heard of the entries that callers publish.
 
 ghost use Rattle.std.specs.Prelude.{◌≡◌, List, Some, slice_get};
+ghost use mathlib.Core.List.{IsPrefix};
 ghost use Rattle.cts_turn.specs.Passes.{seen_by};
 ghost use Rattle.cts_memo.specs.declared.entry.MemoEntry.{MemoEntry};
 ghost use Rattle.cts_memo.specs.Passes.{IsPassOf};
@@ -25,6 +26,7 @@ impl Known {
     fn hear_one(&mut self, entry: &MemoEntry, number: u32) -> Result<(), NoMemory>
         ensures known { (seen : List MemoEntry) → slice_get seen number ≡ Some entry.now → IsKnown seen self.old → IsKnown seen self.new }
         ensures next { self.new.next ≡ self.old.next }
+        ensures more { IsPrefix self.old.nodes.items self.new.nodes.items }
     {
         if self.nodes.len() >= self.most() {
             return Ok(());
@@ -43,7 +45,8 @@ impl Known {
 
     /// Hears entries of which the first has the number that is next, until memory runs out.
     fn hear(&mut self, entries: &[MemoEntry])
-        ensures { (seen : List MemoEntry) → StandFrom seen self.old.next entries.now → IsKnown seen self.old → IsKnown seen self.new }
+        ensures known { (seen : List MemoEntry) → StandFrom seen self.old.next entries.now → IsKnown seen self.old → IsKnown seen self.new }
+        ensures more { IsPrefix self.old.nodes.items self.new.nodes.items }
     {
         for entry in entries {
             let number = self.next;
@@ -69,6 +72,7 @@ impl Known {
         requires known { IsKnown (seen_by pass.old) self.old }
         ensures pass { GoesOn memo.now pass.old pass.new }
         ensures known { IsKnown (seen_by pass.new) self.new }
+        ensures more { IsPrefix self.old.nodes.items self.new.nodes.items }
     {
         let first = self.next;
         match memo.read(rt, alloc, pass, first, AT_ONCE) {
@@ -86,6 +90,7 @@ impl Known {
         requires known { IsKnown (seen_by pass.old) self.old }
         ensures pass { GoesOn memo.now pass.old pass.new }
         ensures known { IsKnown (seen_by pass.new) self.new }
+        ensures more { IsPrefix self.old.nodes.items self.new.nodes.items }
     {
         for _ in 0..MOST_CALLS {
             if !self.hear_next(rt, alloc, memo, pass) {
@@ -106,6 +111,7 @@ impl Known {
         requires known { IsKnown (seen_by pass.old) self.old }
         ensures pass { GoesOn memo.now pass.old pass.new }
         ensures known { IsKnown (seen_by pass.new) self.new }
+        ensures more { IsPrefix self.old.nodes.items self.new.nodes.items }
     {
         if self.hints.cells.is_empty() {
             return;

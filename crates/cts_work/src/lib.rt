@@ -11,15 +11,18 @@
 //! published for it; no answer depends on it.
 #![tactic(auto)]
 
+mod again;
 mod all;
 mod filling;
 mod gate;
 mod hearing;
 mod hints;
 mod known;
+mod last;
 mod making;
 mod node;
 mod part;
+mod past;
 mod pieces;
 mod place;
 mod plan;
@@ -32,7 +35,7 @@ mod workers;
 pub use all::build_all;
 pub use filling::{Numbers, fill_table};
 pub use gate::{Gate, OpenGate};
-pub use known::Known;
+pub use past::Past;
 pub use plan::Plan;
 pub use planning::plan_all;
 pub use publishing::publish_plan;

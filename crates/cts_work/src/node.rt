@@ -5,7 +5,7 @@ ghost use Rattle.cts_merge.specs.Merge.{IsBeyond, IsMerged};
 ghost use Rattle.cts_merge.specs.Side.{IsMergeable};
 ghost use Rattle.cts_up.specs.Sinks.{IsSinkInRange};
 ghost use Rattle.cts_turn.specs.Passes.{seen_by};
-ghost use Rattle.cts_memo.specs.Keys.{pair_key};
+ghost use Rattle.cts_memo.specs.Keys.{leaf_key, pair_key};
 ghost use Rattle.cts_memo.specs.Passes.{IsPassOf, params_of};
 ghost use Rattle.cts_memo.specs.Replies.{IsAbsent, IsFound};
 ghost use Rattle.cts_memo.specs.Sound.{IsMadeOf, NamesEntries};
@@ -94,6 +94,7 @@ pub(crate) fn build_leaf<R: Wait, G: Gate>(
     requires sink { IsSinkInRange sink.now }
     ensures pass { GoesOn memo.now pass.old pass.new }
     ensures built { IfOk result (IsBuiltLeaf (seen_by pass.new) sink.now) }
+    ensures keyed { IfOk result (λ leaf. leaf.key ≡ Some (leaf_key sink.now)) }
 {
     let key = Key::of_sink(sink);
     let answer = look_up(worker.rt, memo, pass, key);
@@ -157,6 +158,7 @@ fn make_pair<L: Ledger, R: Wait, G: Gate>(
     requires absent { IsAbsent (seen_by pass.old) key }
     ensures pass { GoesOn work.now.memo.now pass.old pass.new }
     ensures built { IfOk result (IsBuiltAt work.now (seen_by pass.new) at.node) }
+    ensures keyed { IfOk result (λ pair. pair.key ≡ Some key) }
     ensures ends { IfErr result (EndsAt work.now at.node) }
     ensures merges { steps.new ≤ steps.old + missing_at work.now (seen_by pass.old) at.node }
 {
@@ -192,6 +194,7 @@ fn ask_pair<L: Ledger, R: Wait, G: Gate>(
     requires key { pair_key a.now.number b.now.number ≡ Some key }
     ensures pass { GoesOn work.now.memo.now pass.old pass.new }
     ensures built { IfOk result (IsBuiltAt work.now (seen_by pass.new) at.node) }
+    ensures keyed { IfOk result (λ pair. pair.key ≡ Some key) }
     ensures ends { IfErr result (EndsAt work.now at.node) }
     ensures merges { steps.new ≤ steps.old + missing_at work.now (seen_by pass.old) at.node }
 {
@@ -223,6 +226,7 @@ pub(crate) fn build_pair<L: Ledger, R: Wait, G: Gate>(
     requires b { IsBuiltAt work.now (seen_by pass.old) at.right b.now }
     ensures pass { GoesOn work.now.memo.now pass.old pass.new }
     ensures built { IfOk result (IsBuiltAt work.now (seen_by pass.new) at.node) }
+    ensures keyed { IfOk result (λ pair. pair.key ≡ pair_key a.now.number b.now.number) }
     ensures ends { IfErr result (EndsAt work.now at.node) }
     ensures merges { steps.new ≤ steps.old + missing_at work.now (seen_by pass.old) at.node }
 {

@@ -1,13 +1,15 @@
-//! The nodes of one part of a shape.
+//! The nodes of a shape, one after another.
 
-ghost use Rattle.std.specs.Prelude.{◌≡◌, ◌+◌, ◌-◌, ◌<◌, ◌≤◌, ◌++◌, All, length, IfOk, IfErr};
+ghost use Rattle.std.specs.Prelude.{◌≡◌, ◌+◌, ◌<◌, ◌≤◌, All, length, IfOk, IfErr, true};
 ghost use mathlib.Core.List.{IsPrefix};
 ghost use Rattle.cts_turn.specs.Passes.{seen_by};
 ghost use Rattle.cts_memo.specs.Passes.{IsPassOf};
 ghost use Rattle.cts_work.specs.Built.{GoesOn, IsNoted};
 ghost use Rattle.cts_work.specs.Known.{IsAtPlace, StandAt, picked, sites_of};
-ghost use Rattle.cts_work.specs.Work.{AreBuilt, EndsAt, EndsIn, IsBuiltAt, IsPart, IsReady, StartsFrom, missing_at, missing_from};
+ghost use Rattle.cts_work.specs.Last.{AreFound, AreKeyed, AreSameLeaves, IsKeyAt, IsTakenOver, MayStandIn};
+ghost use Rattle.cts_work.specs.Work.{AreBuilt, EndsAt, EndsIn, IsBuiltAt, IsPart, IsReady, missing_at, missing_from};
 
+use crate::again::{Placed, all_numbered, node_again, site_at};
 use crate::gate::Gate;
 use crate::node::{Built, PairNumbers};
 use crate::place::{place_leaf, place_pair};
@@ -16,100 +18,137 @@ use cts_memo::MemoPass;
 use cts_merge::Steps;
 use cts_num::NoMemory;
 use cts_topo::ShapeNode;
-use cts_up::{Site, UpEnd, site_of};
+use cts_up::{Site, UpEnd};
 use std::alloc::Global;
 use std::sync::Wait;
 use std::sync::ledger::Ledger;
 
-/// The place of the node of a number, by the places of those before it, from `first` on.
+/// A tree whose nodes are done with.
+#[derive(Drop)]
+pub(crate) struct PlacedTree {
+    /// The places of its nodes among those that are known.
+    pub(crate) places: Vec<u32>,
+    /// The sites of its nodes.
+    pub(crate) sites: Vec<Site>,
+    /// Whether each of its nodes has a number in the memo.
+    pub(crate) numbered: bool,
+}
+
+/// The node of a number, by the places of those before it and by their numbers in the last tree: taken over from there,
+/// or at the place where it is known, or built and put behind those that are known.
 pub(crate) fn place_node<L: Ledger, R: Wait, G: Gate>(
     worker: &Worker<'_, '_, R, G>,
     work: &Work<'_>,
     pass: &mut MemoPass,
-    first: u32,
     node: u32,
     tree: &[u32],
+    found: &[Option<u32>],
     nodes: &mut Vec<Built>,
-    cursor: &mut Option<u32>,
+    cursor: &mut u32,
     steps: &mut Steps<L>,
-) -> Result<u32, UpEnd>
+) -> Result<Placed, UpEnd>
     requires own { IsPassOf work.now.memo.now pass.old }
     requires ready { IsReady work.now }
+    requires leaves { AreSameLeaves worker.now.last.now work.now.sinks.now worker.now.leaves.now }
     requires node { node < length work.now.nodes.now }
-    requires starts { StartsFrom work.now.nodes.now first node }
-    requires long { first + length tree.now ≡ node }
-    requires before { StandAt nodes.old.items tree.now (AreBuilt work.now (seen_by pass.old) first) }
+    requires long { length tree.now ≡ node }
+    requires before { StandAt nodes.old.items tree.now (AreBuilt work.now (seen_by pass.old) 0) }
+    requires found { AreFound worker.now.last.now.places.items tree.now found.now }
+    requires last { MayStandIn nodes.old.items worker.now.last.now }
     requires noted { All (IsNoted (seen_by pass.old)) nodes.old.items }
     ensures pass { GoesOn work.now.memo.now pass.old pass.new }
     ensures more { IsPrefix nodes.old.items nodes.new.items }
     ensures noted { All (IsNoted (seen_by pass.new)) nodes.new.items }
-    ensures built { IfOk result (IsAtPlace nodes.new.items (IsBuiltAt work.now (seen_by pass.new) node)) }
+    ensures built { IfOk result (λ placed. IsAtPlace nodes.new.items (IsBuiltAt work.now (seen_by pass.new) node) placed.place) }
+    ensures keyed { IfOk result (λ placed. IsAtPlace nodes.new.items (IsKeyAt work.now (picked nodes.new.items tree.now) node) placed.place) }
+    ensures again { IfOk result (IsTakenOver worker.now.last.now nodes.new.items) }
     ensures ends { IfErr result (EndsAt work.now node) }
     ensures merges { steps.new ≤ steps.old + missing_at work.now (seen_by pass.old) node }
 {
+    let last = worker.last;
+    if let Some(placed) = node_again(last, worker.leaves, work.nodes[node as usize], found) {
+        return Ok(placed);
+    }
     match work.nodes[node as usize] {
         ShapeNode::Leaf { sink } => {
             let sink = &work.sinks[sink as usize];
             match place_leaf(worker, work.memo, pass, sink, nodes, cursor) {
-                Ok(place) => Ok(place),
+                Ok(place) => Ok(Placed { place, again: None }),
                 Err(NoMemory) => Err(UpEnd::NoMemory),
             }
         }
         ShapeNode::Pair { left, right } => {
-            let a = tree[(left - first) as usize];
-            let b = tree[(right - first) as usize];
+            let a = tree[left as usize];
+            let b = tree[right as usize];
             let at = PairNumbers { node, left, right };
-            place_pair(worker, work, pass, at, a, b, nodes, cursor, steps)
+            match place_pair(worker, work, pass, at, a, b, nodes, cursor, steps) {
+                Ok(place) => Ok(Placed { place, again: None }),
+                Err(end) => Err(end),
+            }
         }
     }
 }
 
-/// The places of the nodes of a part, from its first to its root, among those that are known, with those that are
-/// put behind them. Their sites are put behind those that are listed: each is read here, where its node is near at hand.
+/// The nodes from the first to the root. Each site is listed here, where its node is near at hand.
 pub(crate) fn build_part<L: Ledger, R: Wait, G: Gate>(
     worker: &Worker<'_, '_, R, G>,
     work: &Work<'_>,
     alloc: Global,
     pass: &mut MemoPass,
-    first: u32,
     root: u32,
     nodes: &mut Vec<Built>,
-    sites: &mut Vec<Site>,
     steps: &mut Steps<L>,
-) -> Result<Vec<u32>, UpEnd>
+) -> Result<PlacedTree, UpEnd>
     requires own { IsPassOf work.now.memo.now pass.old }
     requires ready { IsReady work.now }
-    requires part { IsPart work.now.nodes.now first root }
+    requires leaves { AreSameLeaves worker.now.last.now work.now.sinks.now worker.now.leaves.now }
+    requires part { IsPart work.now.nodes.now 0 root }
+    requires last { MayStandIn nodes.old.items worker.now.last.now }
     requires noted { All (IsNoted (seen_by pass.old)) nodes.old.items }
     ensures pass { GoesOn work.now.memo.now pass.old pass.new }
     ensures noted { All (IsNoted (seen_by pass.new)) nodes.new.items }
-    ensures long { IfOk result (λ tree. first + length tree.items ≡ root + 1) }
-    ensures built { IfOk result (λ tree. StandAt nodes.new.items tree.items (AreBuilt work.now (seen_by pass.new) first)) }
-    ensures sites { IfOk result (λ tree. sites.new.items ≡ sites.old.items ++ sites_of (picked nodes.new.items tree.items)) }
-    ensures ends { IfErr result (EndsIn work.now first root) }
-    ensures merges { steps.new ≤ steps.old + missing_from work.now (seen_by pass.old) first (root + 1 - first) }
+    ensures last { MayStandIn nodes.new.items worker.now.last.now }
+    ensures long { IfOk result (λ tree. length tree.places.items ≡ root + 1) }
+    ensures built { IfOk result (λ tree. StandAt nodes.new.items tree.places.items (AreBuilt work.now (seen_by pass.new) 0)) }
+    ensures keyed { IfOk result (λ tree. tree.numbered ≡ true → AreKeyed work.now.sinks.now work.now.nodes.now (picked nodes.new.items tree.places.items)) }
+    ensures sites { IfOk result (λ tree. tree.sites.items ≡ sites_of (picked nodes.new.items tree.places.items)) }
+    ensures ends { IfErr result (EndsIn work.now 0 root) }
+    ensures merges { steps.new ≤ steps.old + missing_from work.now (seen_by pass.old) 0 (root + 1) }
 {
-    let mut tree = Vec::with_capacity(alloc, (root - first) as usize + 1)?;
-    let mut cursor = None;
-    for node in first..root + 1 {
-        let before = tree.as_slice();
+    let count = root as usize + 1;
+    let mut places = Vec::with_capacity(alloc, count)?;
+    let mut sites = Vec::with_capacity(alloc, count)?;
+    let mut found = Vec::with_capacity(alloc, count)?;
+    let mut numbered = true;
+    let mut cursor = 0;
+    for node in 0..root + 1 {
+        let before = places.as_slice();
+        let numbers = found.as_slice();
         match place_node(
             worker,
             work,
             pass,
-            first,
             node,
             before,
+            numbers,
             nodes,
             &mut cursor,
             steps,
         ) {
-            Ok(place) => {
-                tree.push(place)?;
-                sites.push(site_of(&nodes[place as usize].finished))?;
+            Ok(placed) => {
+                let now = nodes.as_slice();
+                numbered = all_numbered(numbered, now, placed);
+                let site = site_at(worker.last, now, placed);
+                places.push(placed.place)?;
+                sites.push(site)?;
+                found.push(placed.again)?;
             }
             Err(end) => return Err(end),
         }
     }
-    Ok(tree)
+    Ok(PlacedTree {
+        places,
+        sites,
+        numbered,
+    })
 }

@@ -1,12 +1,14 @@
 //! One node over the memo, at its place among those that are known, or built and put behind them.
 
-ghost use Rattle.std.specs.Prelude.{◌+◌, ◌≤◌, All, IfOk, IfErr};
+ghost use Rattle.std.specs.Prelude.{◌≡◌, ◌+◌, ◌≤◌, Some, All, IfOk, IfErr};
 ghost use mathlib.Core.List.{IsPrefix};
 ghost use Rattle.cts_up.specs.Sinks.{IsSinkInRange};
 ghost use Rattle.cts_turn.specs.Passes.{seen_by};
 ghost use Rattle.cts_memo.specs.Passes.{IsPassOf};
 ghost use Rattle.cts_work.specs.Built.{GoesOn, IsBuiltLeaf, IsNoted, IsPairAt};
+ghost use Rattle.cts_memo.specs.Keys.{leaf_key};
 ghost use Rattle.cts_work.specs.Known.{IsAtPlace};
+ghost use Rattle.cts_work.specs.Last.{IsPairOver};
 ghost use Rattle.cts_work.specs.Work.{EndsAt, IsBuiltAt, IsReady, missing_at};
 
 use crate::gate::Gate;
@@ -28,7 +30,7 @@ pub(crate) fn place_leaf<R: Wait, G: Gate>(
     pass: &mut MemoPass,
     sink: &Sink,
     nodes: &mut Vec<Built>,
-    cursor: &mut Option<u32>,
+    cursor: &mut u32,
 ) -> Result<u32, NoMemory>
     requires own { IsPassOf memo.now pass.old }
     requires sink { IsSinkInRange sink.now }
@@ -37,9 +39,10 @@ pub(crate) fn place_leaf<R: Wait, G: Gate>(
     ensures more { IsPrefix nodes.old.items nodes.new.items }
     ensures noted { All (IsNoted (seen_by pass.new)) nodes.new.items }
     ensures built { IfOk result (IsAtPlace nodes.new.items (IsBuiltLeaf (seen_by pass.new) sink.now)) }
+    ensures keyed { IfOk result (IsAtPlace nodes.new.items (λ leaf. leaf.key ≡ Some (leaf_key sink.now))) }
 {
     let key = Key::of_sink(sink);
-    if let Some(place) = worker.hints.find(nodes, key, Some(sink.id), cursor) {
+    if let Some(place) = worker.hints.find(nodes, key, cursor) {
         return Ok(place);
     }
     let leaf = build_leaf(worker, memo, pass, sink)?;
@@ -55,7 +58,7 @@ pub(crate) fn place_pair<L: Ledger, R: Wait, G: Gate>(
     left: u32,
     right: u32,
     nodes: &mut Vec<Built>,
-    cursor: &mut Option<u32>,
+    cursor: &mut u32,
     steps: &mut Steps<L>,
 ) -> Result<u32, UpEnd>
     requires own { IsPassOf work.now.memo.now pass.old }
@@ -68,13 +71,14 @@ pub(crate) fn place_pair<L: Ledger, R: Wait, G: Gate>(
     ensures more { IsPrefix nodes.old.items nodes.new.items }
     ensures noted { All (IsNoted (seen_by pass.new)) nodes.new.items }
     ensures built { IfOk result (IsAtPlace nodes.new.items (IsBuiltAt work.now (seen_by pass.new) at.node)) }
+    ensures keyed { IfOk result (IsPairOver nodes.new.items left right) }
     ensures ends { IfErr result (EndsAt work.now at.node) }
     ensures merges { steps.new ≤ steps.old + missing_at work.now (seen_by pass.old) at.node }
 {
     let a = &nodes[left as usize];
     let b = &nodes[right as usize];
     if let Some(key) = Key::of_pair(a.number, b.number) {
-        if let Some(place) = worker.hints.find(nodes, key, None, cursor) {
+        if let Some(place) = worker.hints.find(nodes, key, cursor) {
             return Ok(place);
         }
     }

@@ -1,6 +1,6 @@
 //! The upward pass of one caller over the memo.
 
-ghost use Rattle.std.specs.Prelude.{◌≡◌, ◌+◌, ◌≤◌, ◌⊎◌, ◌++◌, All, map, length, IfOk, IfErr, OnOk};
+ghost use Rattle.std.specs.Prelude.{◌≡◌, ◌+◌, ◌<◌, ◌≤◌, ◌⊎◌, All, map, length, IfOk, IfErr, OnOk, true};
 ghost use mathlib.Core.List.{IsPrefix};
 ghost use Rattle.cts_topo.specs.Shape.{IsShapeOver};
 ghost use Rattle.cts_up.specs.Ends.{Ends};
@@ -12,19 +12,22 @@ ghost use Rattle.cts_memo.specs.Numbers.{AreKnown, missing};
 ghost use Rattle.cts_memo.specs.Passes.{IsPassOf, params_of};
 ghost use Rattle.cts_memo.specs.Sound.{max_entries};
 ghost use Rattle.cts_work.specs.Built.{GoesOn, IsNoted};
-ghost use Rattle.cts_work.specs.Known.{MayKnow, picked, sites_of};
+ghost use Rattle.cts_work.specs.Known.{picked, sites_of};
+ghost use Rattle.cts_work.specs.Last.{AreKeyed, IsPast, MayStandIn};
 
 use crate::gate::Gate;
-use crate::hints::{Hints, leaves_of};
-use crate::known::{Known, nodes_at};
+use crate::hints::Hints;
+use crate::known::nodes_at;
+use crate::last::LastTree;
 use crate::node::Built;
-use crate::part::build_part;
+use crate::part::{PlacedTree, build_part};
+use crate::past::Past;
 use crate::work::{Work, Worker};
 use cts_memo::{Memo, MemoPass};
 use cts_merge::{Finished, Steps};
 use cts_topo::Shape;
 use cts_units::Sink;
-use cts_up::{Site, UpEnd};
+use cts_up::UpEnd;
 use std::alloc::{AllocError, Global};
 use std::sync::Wait;
 use std::sync::ledger::Ledger;
@@ -36,8 +39,8 @@ fn finished_of(alloc: Global, built: &[Built]) -> Result<Vec<Finished>, AllocErr
     built.iter().map(|node| node.finished).collect(alloc)
 }
 
-/// The places of the nodes of a shape over sinks, built by one caller over the memo, whose sites are put behind those
-/// that are listed. The memo is asked only for the nodes that aren't known, which are put behind those that are.
+/// The nodes of a shape over sinks, built by one caller over the memo. The memo is asked only for the nodes that aren't
+/// known, which are put behind those that are; those that the last tree has too aren't even looked for.
 fn build_over<L: Ledger, R: Wait, G: Gate>(
     rt: &R,
     alloc: Global,
@@ -48,43 +51,52 @@ fn build_over<L: Ledger, R: Wait, G: Gate>(
     sinks: &[Sink],
     shape: &Shape,
     hints: &Hints,
+    last: &LastTree,
     known: &mut Vec<Built>,
-    sites: &mut Vec<Site>,
     steps: &mut Steps<L>,
-) -> Result<Vec<u32>, UpEnd>
+) -> Result<PlacedTree, UpEnd>
     requires own { IsPassOf memo.now pass.old }
     requires sinks { AreSinksInRange sinks.now }
     requires shape { IsShapeOver (length sinks.now) shape.now }
+    requires last { MayStandIn known.old.items last.now }
     requires noted { All (IsNoted (seen_by pass.old)) known.old.items }
     ensures pass { GoesOn memo.now pass.old pass.new }
     ensures noted { All (IsNoted (seen_by pass.new)) known.new.items }
-    ensures plan { IfOk result (λ tree. IsPlan (params_of memo.now) sinks.now shape.now (map (λ node. node.finished) (picked known.new.items tree.items))) }
-    ensures sites { IfOk result (λ tree. sites.new.items ≡ sites.old.items ++ sites_of (picked known.new.items tree.items)) }
+    ensures last { MayStandIn known.new.items last.now }
+    ensures within { IfOk result (λ tree. All (λ p. p < length known.new.items) tree.places.items) }
+    ensures long { IfOk result (λ tree. length tree.places.items ≡ length shape.now) }
+    ensures plan { IfOk result (λ tree. IsPlan (params_of memo.now) sinks.now shape.now (map (λ node. node.finished) (picked known.new.items tree.places.items))) }
+    ensures keyed { IfOk result (λ tree. tree.numbered ≡ true → AreKeyed sinks.now shape.now (picked known.new.items tree.places.items)) }
+    ensures sites { IfOk result (λ tree. tree.sites.items ≡ sites_of (picked known.new.items tree.places.items)) }
     ensures ends { IfErr result (Ends (params_of memo.now) sinks.now shape.now) }
     ensures known { OnOk result ((length (seen_by pass.new) ≡ max_entries) ⊎ AreKnown (seen_by pass.new) sinks.now shape.now) }
     ensures merges { steps.new ≤ steps.old + missing (seen_by pass.old) sinks.now shape.now }
 {
     let nodes = shape.nodes();
+    let leaves = last.same_leaves(alloc, sinks)?;
+    let same = leaves.as_slice();
     let work = Work { memo, sinks, nodes };
     let worker = Worker {
         rt,
         gate,
         number,
         hints,
+        last,
+        leaves: same,
     };
     let root = nodes.len() as u32 - 1;
-    match build_part(&worker, &work, alloc, pass, 0, root, known, sites, steps) {
+    match build_part(&worker, &work, alloc, pass, root, known, steps) {
         Ok(tree) => Ok(tree),
         Err(end) => Err(end),
     }
 }
 
-/// The sites of the plan of a shape over sinks, which is that of [`rebuild`]. Where a tree was built before, the
-/// entries that came to the memo since are read first, many in one call, and the memo is asked only for the nodes
-/// that are neither known of earlier trees nor among these entries.
+/// Makes the plan of a shape over sinks, which is that of [`rebuild`]; its sites are [`Past::sites`] afterwards. Where a
+/// tree was built before, its nodes that stayed are taken over. Then the entries that came to the memo since are read
+/// first, many in one call, and the memo is asked only for the nodes that are neither known of earlier trees nor among
+/// these entries.
 ///
-/// Afterwards the nodes of this tree are known too, or none where they are too many or memory runs out. Where
-/// there is no plan those stay that were known before, unless they are more than are kept.
+/// Where there is no plan what was known before stays, unless it is more than is kept.
 pub fn rebuild_with<L: Ledger, R: Wait, G: Gate>(
     rt: &R,
     alloc: Global,
@@ -94,27 +106,23 @@ pub fn rebuild_with<L: Ledger, R: Wait, G: Gate>(
     number: u32,
     sinks: &[Sink],
     shape: &Shape,
-    known: &mut Option<Known>,
+    past: &mut Past,
     steps: &mut Steps<L>,
-) -> Result<Vec<Site>, UpEnd>
+) -> Result<(), UpEnd>
     requires own { IsPassOf memo.now pass.old }
     requires sinks { AreSinksInRange sinks.now }
     requires shape { IsShapeOver (length sinks.now) shape.now }
-    requires kept { MayKnow (seen_by pass.old) known.old }
+    requires kept { IsPast (seen_by pass.old) past.old }
     ensures own { IsPassOf memo.now pass.new }
     ensures share { share_of pass.new ≡ share_of pass.old }
     ensures goes_on { IsPrefix (seen_by pass.old) (seen_by pass.new) }
-    ensures sites { IfOk result (λ sites. AreSites (params_of memo.now) sinks.now shape.now sites.items) }
+    ensures sites { OnOk result (AreSites (params_of memo.now) sinks.now shape.now past.new.last.sites.items) }
     ensures ends { IfErr result (Ends (params_of memo.now) sinks.now shape.now) }
     ensures known { OnOk result ((length (seen_by pass.new) ≡ max_entries) ⊎ AreKnown (seen_by pass.new) sinks.now shape.now) }
-    ensures kept { MayKnow (seen_by pass.new) known.new }
+    ensures kept { IsPast (seen_by pass.new) past.new }
     ensures merges { steps.new ≤ steps.old + missing (seen_by pass.old) sinks.now shape.now }
 {
-    let mut now = known.take().unwrap_or(Known::nothing(alloc));
-    now.listen(rt, alloc, memo, pass);
-    let nodes = shape.nodes();
-    let leaves = leaves_of(alloc, &Work { memo, sinks, nodes });
-    let mut sites = Vec::with_capacity(alloc, nodes.len())?;
+    past.known.listen(rt, alloc, memo, pass);
     match build_over(
         rt,
         alloc,
@@ -124,17 +132,18 @@ pub fn rebuild_with<L: Ledger, R: Wait, G: Gate>(
         number,
         sinks,
         shape,
-        &now.hints,
-        &mut now.nodes,
-        &mut sites,
+        &past.known.hints,
+        &past.last,
+        &mut past.known.nodes,
         steps,
     ) {
         Ok(tree) => {
-            *known = now.with_tree(alloc, tree, leaves);
-            Ok(sites)
+            let nodes = shape.nodes();
+            past.keep_tree(alloc, sinks, nodes, tree.places, tree.sites, tree.numbered);
+            Ok(())
         }
         Err(end) => {
-            *known = now.without_tree();
+            past.keep_no_tree(alloc);
             Err(end)
         }
     }
@@ -170,12 +179,12 @@ pub fn rebuild<L: Ledger, R: Wait, G: Gate>(
     ensures merges { steps.new ≤ steps.old + missing (seen_by pass.old) sinks.now shape.now }
 {
     let hints = Hints::none(alloc);
+    let last = LastTree::none(alloc);
     let mut nodes = Vec::new(alloc);
-    let mut sites = Vec::new(alloc);
     match build_over(
-        rt, alloc, memo, pass, gate, number, sinks, shape, &hints, &mut nodes, &mut sites, steps,
+        rt, alloc, memo, pass, gate, number, sinks, shape, &hints, &last, &mut nodes, steps,
     ) {
-        Ok(tree) => Ok(finished_of(alloc, &nodes_at(alloc, &nodes, &tree)?)?),
+        Ok(tree) => Ok(finished_of(alloc, &nodes_at(alloc, &nodes, &tree.places)?)?),
         Err(end) => Err(end),
     }
 }

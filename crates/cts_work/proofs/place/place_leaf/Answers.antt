@@ -1,4 +1,4 @@
-use Rattle.std.proofs.Common.{subst}
+use Rattle.std.proofs.Common.{Some, ap, subst, ◌∙◌}
 use Rattle.cts_turn.specs.Passes.{seen_by}
 use Rattle.cts_memo.specs.Passes.{params_of}
 use Rattle.cts_work.specs.Known.{HasKeyAt}
@@ -27,3 +27,8 @@ returns-clause-noted g c =
     c.add.ensures.noted (seen_by c.build_leaf.new.pass)
     (all_noted_stay (seen_by c.args.pass.now) (seen_by c.build_leaf.new.pass) c.build_leaf.ensures.pass.goes_on c.args.nodes.now.items c.requires.noted)
     c.in_ok-leaf.ensures.built.noted
+
+pub returns-in-Some-clause-keyed : goal.returns-in-Some-clause-keyed
+returns-in-Some-clause-keyed g c =
+    let known = subst (λ ns. HasKeyAt ns c.of_sink-key.result c.in-Some.place) c.deref.ensures.value c.in-Some.ensures in
+    (known.0, known.2, known.3 ∙ ap Some c.of_sink-key.ensures)

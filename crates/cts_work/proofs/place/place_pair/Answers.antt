@@ -1,5 +1,5 @@
-use Rattle.std.proofs.Common.{arith, sym, subst, ◌∙◌}
-use Rattle.std.proofs.lemmas.Option.{slice_get_within}
+use Rattle.std.proofs.Common.{◌≡◌, ℕ, List, Some, get_or, slice_get, arith, sym, ap, subst, ◌∙◌}
+use Rattle.std.proofs.lemmas.Option.{get_or_from_slice_get, slice_get_within}
 use Rattle.cts_turn.proofs.Prefixes.{prefix_self}
 use Rattle.cts_work.proofs.Nodes.{stands_still}
 use Rattle.cts_turn.specs.Passes.{seen_by}
@@ -9,7 +9,9 @@ use Rattle.cts_work.specs.Built.{IsBuilt}
 use Rattle.cts_work.specs.Known.{HasKeyAt, IsAtPlace}
 use Rattle.cts_work.specs.Work.{IsBuiltAt}
 use Rattle.cts_work.proofs.Builts.{at_place_is, known_pair, sound_for}
+use Rattle.cts_work.specs.declared.node.Built.{Built}
 use Rattle.cts_work.proofs.Noted.{all_noted_stay}
+use Rattle.cts_work.proofs.Picked.{node_stays}
 use Rattle.cts_work.proofs.place.place_pair.Goals as goal
 
 pub returns-in-Some-find-clause-built : goal.returns-in-Some-find-clause-built
@@ -71,3 +73,35 @@ index-a-requires g c =
 pub index-b-requires : goal.index-b-requires
 index-b-requires g c =
     omega (arith, slice_get_within c.args.nodes.now.items c.args.right c.requires.right.0 c.requires.right.1, c.args.nodes.now.ok.0)
+
+node_read : (nodes : List Built) (p : ℕ) (a b : Built) → slice_get nodes p ≡ Some b → a ≡ get_or nodes p a → slice_get nodes p ≡ Some a
+node_read nodes p a b here is = here ∙ ap Some (sym (is ∙ get_or_from_slice_get nodes p b a here))
+
+pub returns-in-Some-find-clause-keyed : goal.returns-in-Some-find-clause-keyed
+returns-in-Some-find-clause-keyed g c =
+    let nodes = c.args.nodes.now.items in
+    let known = subst (λ ns. HasKeyAt ns c.in-Some.key c.in-Some-find.place) c.deref.ensures.value c.in-Some-find.ensures in (
+      c.index-a.result.now,
+      c.index-b.result.now,
+      known.0,
+      node_read nodes c.args.left c.index-a.result.now c.requires.left.0 (c.requires.left.1) c.index-a.ensures,
+      node_read nodes c.args.right c.index-b.result.now c.requires.right.0 (c.requires.right.1) c.index-b.ensures,
+      known.2,
+      known.3 ∙ sym (sym c.of_pair.ensures ∙ c.in-Some.is),
+    )
+
+pub returns-in_ok-add-in-Ok-clause-keyed : goal.returns-in_ok-add-in-Ok-clause-keyed
+returns-in_ok-add-in-Ok-clause-keyed g c =
+    let nodes = c.args.nodes.now.items in
+    let more = c.add.ensures.more in
+    let longer = c.add.new.nodes.items in (
+      c.index-a.result.now,
+      c.index-b.result.now,
+      c.in-Ok.pair,
+      node_stays nodes longer more c.args.left c.index-a.result.now
+          (node_read nodes c.args.left c.index-a.result.now c.requires.left.0 (c.requires.left.1) c.index-a.ensures),
+      node_stays nodes longer more c.args.right c.index-b.result.now
+          (node_read nodes c.args.right c.index-b.result.now c.requires.right.0 (c.requires.right.1) c.index-b.ensures),
+      c.in_ok-add-in-Ok.ensures.added,
+      c.in-Ok.ensures.keyed,
+    )

@@ -1,3 +1,4 @@
+use mathlib.Core.List.{IsPrefix}
 use Rattle.cts_turn.specs.Passes.{seen_by}
 use Rattle.cts_work.specs.Built.{GoesOn}
 use Rattle.cts_work.specs.Known.{IsKnown}
@@ -8,4 +9,5 @@ invariant-loop g l =
     record {
       pass : GoesOn l.memo l.fn.pass l.pass;
       known : IsKnown (seen_by l.pass) l.self;
+      more : IsPrefix l.fn.self.nodes.items l.self.nodes.items;
     }

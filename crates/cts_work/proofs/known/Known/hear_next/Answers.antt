@@ -8,7 +8,7 @@ pub returns-in-Ok-clause-known : goal.returns-in-Ok-clause-known
 returns-in-Ok-clause-known g c =
     let seen = seen_by c.read.new.pass in
     let first = c.args.self.now.next in
-    c.hear.ensures seen
+    c.hear.ensures.known seen
     (subst (StandFrom seen first) (sym c.deref.ensures.value) (read_stand seen c.in-Ok.entries.items first 128 c.in-Ok.ensures.entries))
     (known_stays (seen_by c.args.pass.now) seen c.read.ensures.goes_on c.args.self.now c.requires.known)
 

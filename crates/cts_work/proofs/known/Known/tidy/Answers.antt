@@ -4,7 +4,7 @@ use Rattle.cts_work.specs.Known.{picked}
 use Rattle.cts_work.proofs.Noted.{noted_picked}
 use Rattle.cts_work.proofs.known.Known.tidy.Goals as goal
 
-pub returns : goal.returns
-returns c seen known =
-    subst (All (IsNoted seen)) (sym (c.in_ok-self-2.ensures ∙ (λ z. picked (c.deref.ensures.value z) (c.deref-2.ensures.value z))))
-    (noted_picked seen c.args.self.now.nodes.items c.args.tree.items known)
+pub returns-clause-known : goal.returns-clause-known
+returns-clause-known c seen known =
+    subst (All (IsNoted seen)) (sym (c.in_ok-self.ensures ∙ (λ z. picked (c.deref.ensures.value z) c.args.tree.now)))
+    (noted_picked seen c.args.self.now.nodes.items c.args.tree.now known)
