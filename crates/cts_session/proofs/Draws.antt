@@ -1,6 +1,7 @@
 -- A tree that a version's instance has, as what is drawn.
-use Rattle.std.proofs.Common.{◌≡◌, ◌⊎◌, ℕ, inr, List, length, Result, Ok, Err, IfOk, IfErr, OnOk, subst, sym, ap, ◌∙◌}
+use Rattle.std.proofs.Common.{◌≡◌, ◌⊎◌, ℕ, inr, List, length, Option, Some, None, Result, Ok, Err, IfOk, IfErr, OnOk, subst, sym, ap, ◌∙◌}
 use Rattle.std.specs.List.{All}
+use Rattle.std.specs.Option.{unwrap_or}
 use Rattle.cts_instance.specs.declared.parts.Parts.{Parts}
 use Rattle.cts_instance.specs.Validity.{IsValid, with_sinks}
 use Rattle.cts_units.specs.declared.params.Sink.{Sink}
@@ -19,6 +20,8 @@ use Rattle.cts_totals.specs.Totals.{AreTotalsOver}
 use Rattle.cts_memo.specs.declared.entry.MemoEntry.{MemoEntry}
 use Rattle.cts_memo.specs.Numbers.{AreKnown}
 use Rattle.cts_memo.specs.Sound.{max_entries}
+use Rattle.cts_work.specs.declared.past.Past.{Past}
+use Rattle.cts_work.specs.Last.{IsPast, MayKnow}
 use Rattle.cts_edit.specs.declared.edit.Entry.{Entry}
 use Rattle.cts_design.specs.Edits.{after}
 use Rattle.cts_session.specs.Desks.{version_of}
@@ -111,3 +114,9 @@ pub closed_sinks : (base of_design : Parts) (edits seen : List Entry) (sinks : L
     → sinks ≡ after of_design.sinks seen → sinks ≡ after base.sinks edits
 closed_sinks base of_design edits seen sinks e f g =
     g ∙ (ap (λ (i : Parts). after i.sinks seen) e ∙ ap (after base.sinks) (sym f))
+
+-- what a session keeps of its trees, or nothing
+pub past_or : (seen : List MemoEntry) (kept : Option Past) (nothing : Past) → MayKnow seen kept → IsPast seen nothing
+    → IsPast seen (unwrap_or kept nothing)
+past_or seen None nothing may none = none
+past_or seen (Some past) nothing may none = may

@@ -274,7 +274,7 @@ pub(crate) fn draw_now<L: Ledger, R: Wait, G: Gate>(
         &mut hands.design,
     )?;
     let mut now = past.take().unwrap_or(Past::nothing(alloc));
-    let end = draw(
+    match draw(
         rt,
         alloc,
         &desk.memo,
@@ -285,15 +285,19 @@ pub(crate) fn draw_now<L: Ledger, R: Wait, G: Gate>(
         caller,
         &instance,
         steps,
-    );
-    *past = Some(now);
-    match end {
-        Ok((tree, figures)) => Ok(Drawn {
-            version,
-            tree,
-            figures,
-        }),
-        Err(why) => Err(end_at(version, why)),
+    ) {
+        Ok((tree, figures)) => {
+            *past = Some(now);
+            Ok(Drawn {
+                version,
+                tree,
+                figures,
+            })
+        }
+        Err(why) => {
+            *past = Some(now);
+            Err(end_at(version, why))
+        }
     }
 }
 
@@ -334,7 +338,7 @@ pub(crate) fn sum_up_now<L: Ledger, R: Wait, G: Gate>(
         &mut hands.design,
     )?;
     let mut now = past.take().unwrap_or(Past::nothing(alloc));
-    let end = sum_up(
+    match sum_up(
         rt,
         alloc,
         &desk.memo,
@@ -345,10 +349,14 @@ pub(crate) fn sum_up_now<L: Ledger, R: Wait, G: Gate>(
         caller,
         &instance,
         steps,
-    );
-    *past = Some(now);
-    match end {
-        Ok(totals) => Ok(VersionTotals { version, totals }),
-        Err(why) => Err(end_at(version, why)),
+    ) {
+        Ok(totals) => {
+            *past = Some(now);
+            Ok(VersionTotals { version, totals })
+        }
+        Err(why) => {
+            *past = Some(now);
+            Err(end_at(version, why))
+        }
     }
 }

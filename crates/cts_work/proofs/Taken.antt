@@ -21,13 +21,13 @@ use Rattle.cts_work.specs.Known.{HasKeyAt, IsAtPlace, picked, sites_of}
 use Rattle.cts_work.specs.Last.{AreFound, AreKeyed, AreSameLeaves, IsAgain, IsKeyAt, IsKeyOf, IsPairOver, IsSameLeaf, IsSameNode, IsTakenOver, MayStandIn, StandsIn}
 use Rattle.cts_memo.specs.declared.entry.MemoEntry.{MemoEntry}
 use Rattle.cts_memo.specs.Passes.{params_of}
-use Rattle.cts_memo.specs.Sound.{IsSound}
+use Rattle.cts_memo.specs.Sound.{IsSound, max_entries}
 use Rattle.cts_work.specs.Built.{IsBuilt, IsBuiltLeaf, IsNoted}
 use Rattle.cts_work.specs.Known.{StandAt}
 use Rattle.cts_work.specs.Work.{AreBuilt, IsBuiltAt, IsReady, missing_at, missing_from}
 use Rattle.cts_work.proofs.Builts.{known_leaf, known_pair}
 use Rattle.cts_work.proofs.Nodes.{leaf_built, pair_at_number, tip_at}
-use Rattle.cts_work.proofs.Parts.{earlier_at, merges_next, part_at}
+use Rattle.cts_work.proofs.Parts.{built_all_stay, earlier_at, merges_next, part_at}
 use Rattle.cts_work.proofs.Picked.{length-picked, node_stays, picked-at, picked_further, picked_stays, places_stay}
 
 -- what stands there
@@ -256,7 +256,7 @@ taken_over : (last : LastTree) (nodes : List Built) (placed : Placed) (n : ℕ) 
     → IsAtPlace nodes (λ node. IsSome node.number) placed.place → StandsIn nodes last → IsTakenOver last nodes placed
 taken_over last nodes placed n is place number st =
     subst (λ (o : Option ℕ). IfSome o (λ number. (slice_get last.places.items number ≡ Some placed.place)
-        × IsAtPlace nodes (λ node. IsSome node.number) placed.place × StandsIn nodes last)) (sym is) (place, number, st)
+    × IsAtPlace nodes (λ node. IsSome node.number) placed.place × StandsIn nodes last)) (sym is) (place, number, st)
 
 -- what was not taken over
 pub not_taken : (last : LastTree) (nodes : List Built) (place : ℕ) → IsTakenOver last nodes (record { place = place; again = None })
@@ -425,4 +425,13 @@ pair_key_at work nodes tree k l r a b place within at left right over = (
         picked_get nodes tree within r b over.1 right (over.4),
         over.6,
       ),
+)
+
+-- what stands, stands in longer lists
+pub stand_stays : (work : Work) (seen later : List MemoEntry) (nodes longer : List Built) (tree : List ℕ) → IsPrefix seen later
+    → length later ≤ max_entries → IsPrefix nodes longer → StandAt nodes tree (AreBuilt work seen 0) → StandAt longer tree (AreBuilt work later 0)
+stand_stays work seen later nodes longer tree goes_on short more stand = (
+  places_stay nodes longer more tree (stand.0),
+  subst (AreBuilt work later 0) (sym (picked_stays nodes longer more tree (stand.0)))
+      (built_all_stay work seen later 0 (picked nodes tree) goes_on short (stand.1)),
 )

@@ -18,6 +18,9 @@ use std::sync::Wait;
 /// So many entries are read in one call of the memo: so few that no other caller waits long.
 const AT_ONCE: u32 = 128;
 
+/// So many entries ahead of what was heard is far.
+const FAR: u32 = 32;
+
 /// The most calls at one time: as many as all 2^21 entries take, and one more.
 const MOST_CALLS: u32 = (1 << 21) / AT_ONCE + 1;
 
@@ -118,5 +121,33 @@ impl Known {
         }
         self.hear_all(rt, alloc, memo, pass);
         self.hints.note(&self.nodes);
+    }
+
+    /// Whether many entries came since this caller heard: the last node that it knows stands far behind them.
+    fn is_behind(&self) -> bool {
+        match self.nodes.last().and_then(|node| node.number) {
+            Some(number) => number >= self.next.saturating_add(FAR),
+            None => false,
+        }
+    }
+
+    /// Hears what others published meanwhile, where it is much.
+    pub(crate) fn catch_up<R: Wait>(
+        &mut self,
+        rt: &R,
+        alloc: Global,
+        memo: &Memo,
+        pass: &mut MemoPass,
+    )
+        requires own { IsPassOf memo.now pass.old }
+        requires known { IsKnown (seen_by pass.old) self.old }
+        ensures pass { GoesOn memo.now pass.old pass.new }
+        ensures known { IsKnown (seen_by pass.new) self.new }
+        ensures more { IsPrefix self.old.nodes.items self.new.nodes.items }
+    {
+        if self.is_behind() {
+            self.hints.note(&self.nodes);
+            self.listen(rt, alloc, memo, pass);
+        }
     }
 }

@@ -7,11 +7,11 @@ use crate::node::Built;
 use cts_memo::Key;
 use std::alloc::{AllocError, Global};
 
-/// The fewest cells.
-const LEAST_CELLS: usize = 1 << 18;
+/// The fewest cells, which take half a megabyte: more than one for each node that is kept beside those of a small tree.
+const LEAST_CELLS: usize = 1 << 17;
 
 /// The most cells, which take a megabyte.
-const MOST_CELLS: usize = 1 << 19;
+const MOST_CELLS: usize = 1 << 18;
 
 /// Where the nodes of a list may stand. Nothing rests on it: a node counts only where it has the key that is looked for.
 ///

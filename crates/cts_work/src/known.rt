@@ -12,7 +12,7 @@ use cts_num::NoMemory;
 use std::alloc::{AllocError, Global};
 
 /// So many nodes are kept beside those of a tree, however small it is.
-const SPARE: usize = 1 << 17;
+const SPARE: usize = 1 << 16;
 
 /// Nodes of trees that were built over a memo, and entries of the memo that were heard of since, so that the next tree
 /// asks the memo for the others alone.

@@ -47,11 +47,7 @@ fn place_of_id(sinks: &[Sink], first: usize, id: u32) -> usize {
 }
 
 /// Notes the number of each leaf of a shape over so many sinks at its sink's place.
-fn note_leaves(
-    leaves: &mut Vec<u32>,
-    sinks: usize,
-    shape: &[ShapeNode],
-) -> Result<(), AllocError> {
+fn note_leaves(leaves: &mut Vec<u32>, sinks: usize, shape: &[ShapeNode]) -> Result<(), AllocError> {
     leaves.resize(sinks, 0)?;
     let mut number: u32 = 0;
     for node in shape {

@@ -11,7 +11,8 @@ ghost use Rattle.cts_work.specs.Work.{AreBuilt, EndsAt, EndsIn, IsBuiltAt, IsPar
 
 use crate::again::{Placed, all_numbered, node_again, site_at};
 use crate::gate::Gate;
-use crate::node::{Built, PairNumbers};
+use crate::known::Known;
+use crate::node::PairNumbers;
 use crate::place::{place_leaf, place_pair};
 use crate::work::{Work, Worker};
 use cts_memo::MemoPass;
@@ -35,15 +36,17 @@ pub(crate) struct PlacedTree {
 }
 
 /// The node of a number, by the places of those before it and by their numbers in the last tree: taken over from there,
-/// or at the place where it is known, or built and put behind those that are known.
+/// or at the place where it is known, or built and put behind those that are known. Where others published much
+/// meanwhile, that is heard first.
 pub(crate) fn place_node<L: Ledger, R: Wait, G: Gate>(
     worker: &Worker<'_, '_, R, G>,
     work: &Work<'_>,
+    alloc: Global,
     pass: &mut MemoPass,
     node: u32,
     tree: &[u32],
     found: &[Option<u32>],
-    nodes: &mut Vec<Built>,
+    known: &mut Known,
     cursor: &mut u32,
     steps: &mut Steps<L>,
 ) -> Result<Placed, UpEnd>
@@ -52,16 +55,16 @@ pub(crate) fn place_node<L: Ledger, R: Wait, G: Gate>(
     requires leaves { AreSameLeaves worker.now.last.now work.now.sinks.now worker.now.leaves.now }
     requires node { node < length work.now.nodes.now }
     requires long { length tree.now ≡ node }
-    requires before { StandAt nodes.old.items tree.now (AreBuilt work.now (seen_by pass.old) 0) }
+    requires before { StandAt known.old.nodes.items tree.now (AreBuilt work.now (seen_by pass.old) 0) }
     requires found { AreFound worker.now.last.now.places.items tree.now found.now }
-    requires last { MayStandIn nodes.old.items worker.now.last.now }
-    requires noted { All (IsNoted (seen_by pass.old)) nodes.old.items }
+    requires last { MayStandIn known.old.nodes.items worker.now.last.now }
+    requires noted { All (IsNoted (seen_by pass.old)) known.old.nodes.items }
     ensures pass { GoesOn work.now.memo.now pass.old pass.new }
-    ensures more { IsPrefix nodes.old.items nodes.new.items }
-    ensures noted { All (IsNoted (seen_by pass.new)) nodes.new.items }
-    ensures built { IfOk result (λ placed. IsAtPlace nodes.new.items (IsBuiltAt work.now (seen_by pass.new) node) placed.place) }
-    ensures keyed { IfOk result (λ placed. IsAtPlace nodes.new.items (IsKeyAt work.now (picked nodes.new.items tree.now) node) placed.place) }
-    ensures again { IfOk result (IsTakenOver worker.now.last.now nodes.new.items) }
+    ensures more { IsPrefix known.old.nodes.items known.new.nodes.items }
+    ensures noted { All (IsNoted (seen_by pass.new)) known.new.nodes.items }
+    ensures built { IfOk result (λ placed. IsAtPlace known.new.nodes.items (IsBuiltAt work.now (seen_by pass.new) node) placed.place) }
+    ensures keyed { IfOk result (λ placed. IsAtPlace known.new.nodes.items (IsKeyAt work.now (picked known.new.nodes.items tree.now) node) placed.place) }
+    ensures again { IfOk result (IsTakenOver worker.now.last.now known.new.nodes.items) }
     ensures ends { IfErr result (EndsAt work.now node) }
     ensures merges { steps.new ≤ steps.old + missing_at work.now (seen_by pass.old) node }
 {
@@ -69,10 +72,20 @@ pub(crate) fn place_node<L: Ledger, R: Wait, G: Gate>(
     if let Some(placed) = node_again(last, worker.leaves, work.nodes[node as usize], found) {
         return Ok(placed);
     }
+    known.catch_up(worker.rt, alloc, work.memo, pass);
+    let hints = &known.hints;
     match work.nodes[node as usize] {
         ShapeNode::Leaf { sink } => {
             let sink = &work.sinks[sink as usize];
-            match place_leaf(worker, work.memo, pass, sink, nodes, cursor) {
+            match place_leaf(
+                worker,
+                hints,
+                work.memo,
+                pass,
+                sink,
+                &mut known.nodes,
+                cursor,
+            ) {
                 Ok(place) => Ok(Placed { place, again: None }),
                 Err(NoMemory) => Err(UpEnd::NoMemory),
             }
@@ -81,7 +94,18 @@ pub(crate) fn place_node<L: Ledger, R: Wait, G: Gate>(
             let a = tree[left as usize];
             let b = tree[right as usize];
             let at = PairNumbers { node, left, right };
-            match place_pair(worker, work, pass, at, a, b, nodes, cursor, steps) {
+            match place_pair(
+                worker,
+                hints,
+                work,
+                pass,
+                at,
+                a,
+                b,
+                &mut known.nodes,
+                cursor,
+                steps,
+            ) {
                 Ok(place) => Ok(Placed { place, again: None }),
                 Err(end) => Err(end),
             }
@@ -96,22 +120,22 @@ pub(crate) fn build_part<L: Ledger, R: Wait, G: Gate>(
     alloc: Global,
     pass: &mut MemoPass,
     root: u32,
-    nodes: &mut Vec<Built>,
+    known: &mut Known,
     steps: &mut Steps<L>,
 ) -> Result<PlacedTree, UpEnd>
     requires own { IsPassOf work.now.memo.now pass.old }
     requires ready { IsReady work.now }
     requires leaves { AreSameLeaves worker.now.last.now work.now.sinks.now worker.now.leaves.now }
     requires part { IsPart work.now.nodes.now 0 root }
-    requires last { MayStandIn nodes.old.items worker.now.last.now }
-    requires noted { All (IsNoted (seen_by pass.old)) nodes.old.items }
+    requires last { MayStandIn known.old.nodes.items worker.now.last.now }
+    requires noted { All (IsNoted (seen_by pass.old)) known.old.nodes.items }
     ensures pass { GoesOn work.now.memo.now pass.old pass.new }
-    ensures noted { All (IsNoted (seen_by pass.new)) nodes.new.items }
-    ensures last { MayStandIn nodes.new.items worker.now.last.now }
+    ensures noted { All (IsNoted (seen_by pass.new)) known.new.nodes.items }
+    ensures last { MayStandIn known.new.nodes.items worker.now.last.now }
     ensures long { IfOk result (λ tree. length tree.places.items ≡ root + 1) }
-    ensures built { IfOk result (λ tree. StandAt nodes.new.items tree.places.items (AreBuilt work.now (seen_by pass.new) 0)) }
-    ensures keyed { IfOk result (λ tree. tree.numbered ≡ true → AreKeyed work.now.sinks.now work.now.nodes.now (picked nodes.new.items tree.places.items)) }
-    ensures sites { IfOk result (λ tree. tree.sites.items ≡ sites_of (picked nodes.new.items tree.places.items)) }
+    ensures built { IfOk result (λ tree. StandAt known.new.nodes.items tree.places.items (AreBuilt work.now (seen_by pass.new) 0)) }
+    ensures keyed { IfOk result (λ tree. tree.numbered ≡ true → AreKeyed work.now.sinks.now work.now.nodes.now (picked known.new.nodes.items tree.places.items)) }
+    ensures sites { IfOk result (λ tree. tree.sites.items ≡ sites_of (picked known.new.nodes.items tree.places.items)) }
     ensures ends { IfErr result (EndsIn work.now 0 root) }
     ensures merges { steps.new ≤ steps.old + missing_from work.now (seen_by pass.old) 0 (root + 1) }
 {
@@ -127,16 +151,17 @@ pub(crate) fn build_part<L: Ledger, R: Wait, G: Gate>(
         match place_node(
             worker,
             work,
+            alloc,
             pass,
             node,
             before,
             numbers,
-            nodes,
+            known,
             &mut cursor,
             steps,
         ) {
             Ok(placed) => {
-                let now = nodes.as_slice();
+                let now = known.nodes.as_slice();
                 numbered = all_numbered(numbered, now, placed);
                 let site = site_at(worker.last, now, placed);
                 places.push(placed.place)?;

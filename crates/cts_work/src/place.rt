@@ -12,6 +12,7 @@ ghost use Rattle.cts_work.specs.Last.{IsPairOver};
 ghost use Rattle.cts_work.specs.Work.{EndsAt, IsBuiltAt, IsReady, missing_at};
 
 use crate::gate::Gate;
+use crate::hints::Hints;
 use crate::known::add;
 use crate::node::{Built, PairNumbers, build_leaf, build_pair};
 use crate::work::{Work, Worker};
@@ -26,6 +27,7 @@ use std::sync::ledger::Ledger;
 /// The place of a sink's leaf among the nodes that are known, with those that are put behind them.
 pub(crate) fn place_leaf<R: Wait, G: Gate>(
     worker: &Worker<'_, '_, R, G>,
+    hints: &Hints,
     memo: &Memo,
     pass: &mut MemoPass,
     sink: &Sink,
@@ -42,7 +44,7 @@ pub(crate) fn place_leaf<R: Wait, G: Gate>(
     ensures keyed { IfOk result (IsAtPlace nodes.new.items (λ leaf. leaf.key ≡ Some (leaf_key sink.now))) }
 {
     let key = Key::of_sink(sink);
-    if let Some(place) = worker.hints.find(nodes, key, cursor) {
+    if let Some(place) = hints.find(nodes, key, cursor) {
         return Ok(place);
     }
     let leaf = build_leaf(worker, memo, pass, sink)?;
@@ -52,6 +54,7 @@ pub(crate) fn place_leaf<R: Wait, G: Gate>(
 /// The place of the pair at a number, whose two parts stand at such places.
 pub(crate) fn place_pair<L: Ledger, R: Wait, G: Gate>(
     worker: &Worker<'_, '_, R, G>,
+    hints: &Hints,
     work: &Work<'_>,
     pass: &mut MemoPass,
     at: PairNumbers,
@@ -78,7 +81,7 @@ pub(crate) fn place_pair<L: Ledger, R: Wait, G: Gate>(
     let a = &nodes[left as usize];
     let b = &nodes[right as usize];
     if let Some(key) = Key::of_pair(a.number, b.number) {
-        if let Some(place) = worker.hints.find(nodes, key, cursor) {
+        if let Some(place) = hints.find(nodes, key, cursor) {
             return Ok(place);
         }
     }

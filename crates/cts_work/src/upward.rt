@@ -16,8 +16,7 @@ ghost use Rattle.cts_work.specs.Known.{picked, sites_of};
 ghost use Rattle.cts_work.specs.Last.{AreKeyed, IsPast, MayStandIn};
 
 use crate::gate::Gate;
-use crate::hints::Hints;
-use crate::known::nodes_at;
+use crate::known::{Known, nodes_at};
 use crate::last::LastTree;
 use crate::node::Built;
 use crate::part::{PlacedTree, build_part};
@@ -50,24 +49,23 @@ fn build_over<L: Ledger, R: Wait, G: Gate>(
     number: u32,
     sinks: &[Sink],
     shape: &Shape,
-    hints: &Hints,
     last: &LastTree,
-    known: &mut Vec<Built>,
+    known: &mut Known,
     steps: &mut Steps<L>,
 ) -> Result<PlacedTree, UpEnd>
     requires own { IsPassOf memo.now pass.old }
     requires sinks { AreSinksInRange sinks.now }
     requires shape { IsShapeOver (length sinks.now) shape.now }
-    requires last { MayStandIn known.old.items last.now }
-    requires noted { All (IsNoted (seen_by pass.old)) known.old.items }
+    requires last { MayStandIn known.old.nodes.items last.now }
+    requires noted { All (IsNoted (seen_by pass.old)) known.old.nodes.items }
     ensures pass { GoesOn memo.now pass.old pass.new }
-    ensures noted { All (IsNoted (seen_by pass.new)) known.new.items }
-    ensures last { MayStandIn known.new.items last.now }
-    ensures within { IfOk result (λ tree. All (λ p. p < length known.new.items) tree.places.items) }
+    ensures noted { All (IsNoted (seen_by pass.new)) known.new.nodes.items }
+    ensures last { MayStandIn known.new.nodes.items last.now }
+    ensures within { IfOk result (λ tree. All (λ p. p < length known.new.nodes.items) tree.places.items) }
     ensures long { IfOk result (λ tree. length tree.places.items ≡ length shape.now) }
-    ensures plan { IfOk result (λ tree. IsPlan (params_of memo.now) sinks.now shape.now (map (λ node. node.finished) (picked known.new.items tree.places.items))) }
-    ensures keyed { IfOk result (λ tree. tree.numbered ≡ true → AreKeyed sinks.now shape.now (picked known.new.items tree.places.items)) }
-    ensures sites { IfOk result (λ tree. tree.sites.items ≡ sites_of (picked known.new.items tree.places.items)) }
+    ensures plan { IfOk result (λ tree. IsPlan (params_of memo.now) sinks.now shape.now (map (λ node. node.finished) (picked known.new.nodes.items tree.places.items))) }
+    ensures keyed { IfOk result (λ tree. tree.numbered ≡ true → AreKeyed sinks.now shape.now (picked known.new.nodes.items tree.places.items)) }
+    ensures sites { IfOk result (λ tree. tree.sites.items ≡ sites_of (picked known.new.nodes.items tree.places.items)) }
     ensures ends { IfErr result (Ends (params_of memo.now) sinks.now shape.now) }
     ensures known { OnOk result ((length (seen_by pass.new) ≡ max_entries) ⊎ AreKnown (seen_by pass.new) sinks.now shape.now) }
     ensures merges { steps.new ≤ steps.old + missing (seen_by pass.old) sinks.now shape.now }
@@ -80,7 +78,6 @@ fn build_over<L: Ledger, R: Wait, G: Gate>(
         rt,
         gate,
         number,
-        hints,
         last,
         leaves: same,
     };
@@ -132,9 +129,8 @@ pub fn rebuild_with<L: Ledger, R: Wait, G: Gate>(
         number,
         sinks,
         shape,
-        &past.known.hints,
         &past.last,
-        &mut past.known.nodes,
+        &mut past.known,
         steps,
     ) {
         Ok(tree) => {
@@ -178,13 +174,12 @@ pub fn rebuild<L: Ledger, R: Wait, G: Gate>(
     ensures known { OnOk result ((length (seen_by pass.new) ≡ max_entries) ⊎ AreKnown (seen_by pass.new) sinks.now shape.now) }
     ensures merges { steps.new ≤ steps.old + missing (seen_by pass.old) sinks.now shape.now }
 {
-    let hints = Hints::none(alloc);
     let last = LastTree::none(alloc);
-    let mut nodes = Vec::new(alloc);
+    let mut known = Known::nothing(alloc);
     match build_over(
-        rt, alloc, memo, pass, gate, number, sinks, shape, &hints, &last, &mut nodes, steps,
+        rt, alloc, memo, pass, gate, number, sinks, shape, &last, &mut known, steps,
     ) {
-        Ok(tree) => Ok(finished_of(alloc, &nodes_at(alloc, &nodes, &tree.places)?)?),
+        Ok(tree) => Ok(finished_of(alloc, &nodes_at(alloc, &known.nodes, &tree.places)?)?),
         Err(end) => Err(end),
     }
 }

@@ -1,6 +1,5 @@
 //! What is built, and by whom.
 
-use crate::hints::Hints;
 use crate::last::LastTree;
 use cts_memo::Memo;
 use cts_topo::ShapeNode;
@@ -14,14 +13,13 @@ pub(crate) struct Work<'a> {
     pub(crate) nodes: &'a [ShapeNode],
 }
 
-/// A worker or caller, with its number, the gate at which it can be watched, where the nodes may stand that it knows, its
-/// last tree, and for each sink the number of its leaf there, where that is the same.
+/// A worker or caller, with its number, the gate at which it can be watched, its last tree, and for each sink the number of
+/// its leaf there, where that is the same.
 #[derive(Drop)]
 pub(crate) struct Worker<'a, 'k, R, G> {
     pub(crate) rt: &'a R,
     pub(crate) gate: &'a G,
     pub(crate) number: u32,
-    pub(crate) hints: &'k Hints,
     pub(crate) last: &'k LastTree,
     pub(crate) leaves: &'k [Option<u32>],
 }

@@ -1,11 +1,13 @@
-use Rattle.std.proofs.Common.{◌+◌, ◌≤◌, subst}
+use Rattle.std.proofs.Common.{◌+◌, ◌≤◌, sym, ap, subst, ◌∙◌}
+use Rattle.std.specs.Option.{unwrap_or}
 use Rattle.cts_instance.specs.declared.parts.Parts.{Parts}
 use Rattle.cts_topo.specs.Topology.{shape_of}
 use Rattle.cts_turn.specs.Passes.{seen_by}
 use Rattle.cts_memo.specs.Numbers.{missing}
+use Rattle.cts_work.specs.Last.{IsPast}
 use Rattle.cts_session.specs.Desks.{base_of}
 use Rattle.cts_session.specs.Draws.{KnowsTree}
-use Rattle.cts_session.proofs.Draws.{ends_draw, is_drawn, known_at_end}
+use Rattle.cts_session.proofs.Draws.{ends_draw, is_drawn, known_at_end, past_or}
 use Rattle.cts_session.proofs.draw.draw_now.Goals as goal
 
 pub returns-in-Ok-clause-drawn : goal.returns-in-Ok-clause-drawn
@@ -40,3 +42,9 @@ pub returns-clause-merges : goal.returns-clause-merges
 returns-clause-merges g c =
     subst (λ (i : Parts). c.draw.new.steps ≤ c.args.steps.now + missing (seen_by c.args.hands.now.memo) i.sinks (shape_of i.sinks))
     c.in_ok-version.ensures.instance c.draw.ensures.merges
+
+pub draw-requires-clause-kept : goal.draw-requires-clause-kept
+draw-requires-clause-kept g c κs within =
+    let seen = seen_by c.args.hands.now.memo in
+    subst (IsPast seen) (sym (c.unwrap_or-now.ensures ∙ ap (λ o. unwrap_or o c.nothing.result) c.take.ensures.value))
+    (past_or seen c.args.past.now c.nothing.result c.requires.kept (c.nothing.ensures seen))

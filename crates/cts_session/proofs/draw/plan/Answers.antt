@@ -10,4 +10,4 @@ returns-clause-shape g c = c.in_ok-shape.ensures.definition ∙ ap shape_of c.si
 pub returns-clause-known : goal.returns-clause-known
 returns-clause-known g c =
     known_of_plan c.args.instance.now c.sinks-sinks.result.now c.in_ok-shape.shape (seen_by c.rebuild_with.new.pass)
-    c.sinks-sinks.ensures.part c.in_ok-shape.ensures.definition c.in_ok-sites.ensures.known
+    c.sinks-sinks.ensures.part c.in_ok-shape.ensures.definition c.in_ok-rebuild_with.ensures.known

@@ -24,9 +24,9 @@ loop-node-init g c =
       last = c.requires.last;
       long = omega (arith, ap length none);
       found = none_found c.args.worker.now.last.now.places.items places c.in_ok-found.found.items none c.in_ok-found.ensures.items;
-      built = none_stand c.args.work.now (seen_by c.args.pass.now) 0 c.args.nodes.now.items places none;
-      keyed = λ e. none_keyed c.args.work.now.sinks.now c.args.work.now.nodes.now (picked c.args.nodes.now.items places) (ap (picked c.args.nodes.now.items) none);
-      sites = c.in_ok-sites.ensures.items ∙ ap (λ ps. sites_of (picked c.args.nodes.now.items ps)) (sym none);
+      built = none_stand c.args.work.now (seen_by c.args.pass.now) 0 c.args.known.now.nodes.items places none;
+      keyed = λ e. none_keyed c.args.work.now.sinks.now c.args.work.now.nodes.now (picked c.args.known.now.nodes.items places) (ap (picked c.args.known.now.nodes.items) none);
+      sites = c.in_ok-sites.ensures.items ∙ ap (λ ps. sites_of (picked c.args.known.now.nodes.items ps)) (sym none);
       merges = omega arith;
     }
 
@@ -41,7 +41,7 @@ place_node-requires-clause-long g c κs within = ap length c.as_slice-before.ens
 
 pub place_node-requires-clause-before : goal.place_node-requires-clause-before
 place_node-requires-clause-before g c κs within =
-    subst (λ ps. StandAt c.loop-node.nodes.items ps (AreBuilt c.args.work.now (seen_by c.loop-node.pass) 0)) (sym c.as_slice-before.ensures.value)
+    subst (λ ps. StandAt c.loop-node.known.nodes.items ps (AreBuilt c.args.work.now (seen_by c.loop-node.pass) 0)) (sym c.as_slice-before.ensures.value)
     c.loop-node.invariant.built
 
 pub place_node-requires-clause-found : goal.place_node-requires-clause-found
@@ -58,14 +58,14 @@ place_node-requires-clause-noted g c κs within = c.loop-node.invariant.noted
 pub all_numbered-numbered-requires : goal.all_numbered-numbered-requires
 all_numbered-numbered-requires g c = (
   c.args.worker.now.last.now,
-  taken_in c.args.worker.now.last.now c.place_node.new.nodes.items c.as_slice-now.result.now c.in-Ok.placed c.as_slice-now.ensures.value
+  taken_in c.args.worker.now.last.now c.place_node.new.known.nodes.items c.as_slice-now.result.now c.in-Ok.placed c.as_slice-now.ensures.value
       c.in-Ok.ensures.again,
 )
 
 pub site_at-site-requires-clause-within : goal.site_at-site-requires-clause-within
 site_at-site-requires-clause-within g c =
     subst (λ ns. c.in-Ok.placed.place < length ns) (sym c.as_slice-now.ensures.value)
-    (slice_get_within c.place_node.new.nodes.items c.in-Ok.placed.place c.in-Ok.ensures.built.0 (c.in-Ok.ensures.built.1))
+    (slice_get_within c.place_node.new.known.nodes.items c.in-Ok.placed.place c.in-Ok.ensures.built.0 (c.in-Ok.ensures.built.1))
 
 pub returns-in_err-push-in-Ok-clause-pass : goal.returns-in_err-push-in-Ok-clause-pass
 returns-in_err-push-in-Ok-clause-pass g c =
@@ -76,7 +76,7 @@ returns-in_err-push-in-Ok-clause-noted g c = c.place_node.ensures.noted
 
 pub returns-in_err-push-in-Ok-clause-last : goal.returns-in_err-push-in-Ok-clause-last
 returns-in_err-push-in-Ok-clause-last g c =
-    stands_stays c.loop-node.nodes.items c.place_node.new.nodes.items c.args.worker.now.last.now c.place_node.ensures.more c.loop-node.invariant.last
+    stands_stays c.loop-node.known.nodes.items c.place_node.new.known.nodes.items c.args.worker.now.last.now c.place_node.ensures.more c.loop-node.invariant.last
 
 pub returns-in_err-push-in-Ok-clause-merges : goal.returns-in_err-push-in-Ok-clause-merges
 returns-in_err-push-in-Ok-clause-merges g c =
@@ -95,7 +95,7 @@ returns-in_err-push-in-Ok-2-clause-noted g c = c.place_node.ensures.noted
 
 pub returns-in_err-push-in-Ok-2-clause-last : goal.returns-in_err-push-in-Ok-2-clause-last
 returns-in_err-push-in-Ok-2-clause-last g c =
-    stands_stays c.loop-node.nodes.items c.place_node.new.nodes.items c.args.worker.now.last.now c.place_node.ensures.more c.loop-node.invariant.last
+    stands_stays c.loop-node.known.nodes.items c.place_node.new.known.nodes.items c.args.worker.now.last.now c.place_node.ensures.more c.loop-node.invariant.last
 
 pub returns-in_err-push-in-Ok-2-clause-merges : goal.returns-in_err-push-in-Ok-2-clause-merges
 returns-in_err-push-in-Ok-2-clause-merges g c =
@@ -114,7 +114,7 @@ returns-in_err-push-in-Ok-3-clause-noted g c = c.place_node.ensures.noted
 
 pub returns-in_err-push-in-Ok-3-clause-last : goal.returns-in_err-push-in-Ok-3-clause-last
 returns-in_err-push-in-Ok-3-clause-last g c =
-    stands_stays c.loop-node.nodes.items c.place_node.new.nodes.items c.args.worker.now.last.now c.place_node.ensures.more c.loop-node.invariant.last
+    stands_stays c.loop-node.known.nodes.items c.place_node.new.known.nodes.items c.args.worker.now.last.now c.place_node.ensures.more c.loop-node.invariant.last
 
 pub returns-in_err-push-in-Ok-3-clause-merges : goal.returns-in_err-push-in-Ok-3-clause-merges
 returns-in_err-push-in-Ok-3-clause-merges g c =
@@ -133,7 +133,7 @@ returns-in-Err-clause-noted g c = c.place_node.ensures.noted
 
 pub returns-in-Err-clause-last : goal.returns-in-Err-clause-last
 returns-in-Err-clause-last g c =
-    stands_stays c.loop-node.nodes.items c.place_node.new.nodes.items c.args.worker.now.last.now c.place_node.ensures.more c.loop-node.invariant.last
+    stands_stays c.loop-node.known.nodes.items c.place_node.new.known.nodes.items c.args.worker.now.last.now c.place_node.ensures.more c.loop-node.invariant.last
 
 pub returns-in-Err-clause-merges : goal.returns-in-Err-clause-merges
 returns-in-Err-clause-merges g c =
@@ -146,9 +146,9 @@ returns-in-Err-clause-merges g c =
 pub returns-in-Err-clause-ends : goal.returns-in-Err-clause-ends
 returns-in-Err-clause-ends g c =
     let stand = c.loop-node.invariant.built in
-    let bs = picked c.loop-node.nodes.items c.loop-node.places.items in
+    let bs = picked c.loop-node.known.nodes.items c.loop-node.places.items in
     ends_here c.args.work.now (seen_by c.loop-node.pass) 0 c.loop-node.node c.args.root bs c.in-Err.end
-    (stand.1) (omega (arith, c.loop-node.invariant.long, length-picked c.loop-node.nodes.items c.loop-node.places.items (stand.0)))
+    (stand.1) (omega (arith, c.loop-node.invariant.long, length-picked c.loop-node.known.nodes.items c.loop-node.places.items (stand.0)))
     (omega (arith, c.loop-node-test.true)) c.in-Err.ensures.ends
 
 pub loop-node-preserved : goal.loop-node-preserved
@@ -157,8 +157,8 @@ loop-node-preserved g c =
     let items = c.in_ok-push-in-Ok.ensures.items in
     let work = c.args.work.now in
     let last = c.args.worker.now.last.now in
-    let nodes = c.loop-node.nodes.items in
-    let longer = c.place_node.new.nodes.items in
+    let nodes = c.loop-node.known.nodes.items in
+    let longer = c.place_node.new.known.nodes.items in
     let more = c.place_node.ensures.more in
     let tree = c.loop-node.places.items in
     let within = c.loop-node.invariant.built.0 in

@@ -8,9 +8,10 @@ use Rattle.cts_work.specs.Built.{IsBuilt}
 use Rattle.cts_work.proofs.Nodes.{tip_at, pair_at_number, child_within, leaf_built}
 use Rattle.cts_work.specs.Known.{IsAtPlace, picked}
 use Rattle.cts_work.proofs.Builts.{sound_for}
+use Rattle.cts_work.proofs.Misses.{missing_earlier}
 use Rattle.cts_work.proofs.Picked.{places_stay}
 use Rattle.cts_work.proofs.Parts.{starts_first}
-use Rattle.cts_work.proofs.Taken.{again_built, again_keyed, again_taken, leaf_key_at, pair_key_at, place_at}
+use Rattle.cts_work.proofs.Taken.{again_built, again_keyed, again_taken, leaf_key_at, pair_key_at, place_at, stand_stays}
 use Rattle.cts_work.proofs.part.place_node.Goals as goal
 
 pub bounds-work-sink : goal.bounds-work-sink
@@ -47,8 +48,9 @@ place_pair-requires-clause-left g c = λ κs within.
     let w = child_within c.args.work.now.sinks.now c.args.work.now.nodes.now c.requires.ready.shape c.args.node c.requires.node _ 0
     c.in-Pair.left c.in-Pair.right c.in-Pair.is
     (starts_first c.args.work.now.nodes.now _ c.requires.ready.shape c.args.node c.requires.node) in
-    place_at c.args.work.now (seen_by c.args.pass.now) c.args.node c.args.nodes.now.items c.args.tree.now c.in-Pair.left _
-    c.requires.before c.requires.long (w.1)
+    place_at c.args.work.now (seen_by c.catch_up.new.pass) c.args.node c.catch_up.new.self.nodes.items c.args.tree.now c.in-Pair.left _
+    (stand_stays c.args.work.now (seen_by c.args.pass.now) (seen_by c.catch_up.new.pass) c.args.known.now.nodes.items c.catch_up.new.self.nodes.items
+    c.args.tree.now c.catch_up.ensures.pass.goes_on c.catch_up.ensures.pass.own.short c.catch_up.ensures.more c.requires.before) c.requires.long (w.1)
     (get_or_default c.args.tree.now c.in-Pair.left 0 _ (omega (arith, c.requires.long, w.1)))
 
 pub place_pair-requires-clause-right : goal.place_pair-requires-clause-right
@@ -56,28 +58,29 @@ place_pair-requires-clause-right g c = λ κs within.
     let w = child_within c.args.work.now.sinks.now c.args.work.now.nodes.now c.requires.ready.shape c.args.node c.requires.node _ 0
     c.in-Pair.left c.in-Pair.right c.in-Pair.is
     (starts_first c.args.work.now.nodes.now _ c.requires.ready.shape c.args.node c.requires.node) in
-    place_at c.args.work.now (seen_by c.args.pass.now) c.args.node c.args.nodes.now.items c.args.tree.now c.in-Pair.right _
-    c.requires.before c.requires.long (w.3)
+    place_at c.args.work.now (seen_by c.catch_up.new.pass) c.args.node c.catch_up.new.self.nodes.items c.args.tree.now c.in-Pair.right _
+    (stand_stays c.args.work.now (seen_by c.args.pass.now) (seen_by c.catch_up.new.pass) c.args.known.now.nodes.items c.catch_up.new.self.nodes.items
+    c.args.tree.now c.catch_up.ensures.pass.goes_on c.catch_up.ensures.pass.own.short c.catch_up.ensures.more c.requires.before) c.requires.long (w.3)
     (get_or_default c.args.tree.now c.in-Pair.right 0 _ (omega (arith, c.requires.long, w.3)))
 
 pub returns-in-Some-clause-built : goal.returns-in-Some-clause-built
 returns-in-Some-clause-built g c =
     again_built c.args.work.now (seen_by c.args.pass.now) c.args.worker.now.last.now c.args.worker.now.leaves.now c.args.found.now
-    c.args.nodes.now.items c.args.tree.now c.args.node (sound_for c.args.work.now.memo.now c.args.pass.now c.requires.own) c.requires.ready
+    c.args.known.now.nodes.items c.args.tree.now c.args.node (sound_for c.args.work.now.memo.now c.args.pass.now c.requires.own) c.requires.ready
     c.requires.node c.requires.long c.requires.before c.requires.last c.requires.leaves c.requires.found c.requires.noted c.in-Some.placed _
     (slice_get-get_or c.args.work.now.nodes.now c.args.node _ c.requires.node) c.in-Some.ensures
 
 pub returns-in-Some-clause-keyed : goal.returns-in-Some-clause-keyed
 returns-in-Some-clause-keyed g c =
     again_keyed c.args.work.now (seen_by c.args.pass.now) c.args.worker.now.last.now c.args.worker.now.leaves.now c.args.found.now
-    c.args.nodes.now.items c.args.tree.now c.args.node (sound_for c.args.work.now.memo.now c.args.pass.now c.requires.own) c.requires.ready
+    c.args.known.now.nodes.items c.args.tree.now c.args.node (sound_for c.args.work.now.memo.now c.args.pass.now c.requires.own) c.requires.ready
     c.requires.node c.requires.long c.requires.before c.requires.last c.requires.leaves c.requires.found c.requires.noted c.in-Some.placed _
     (slice_get-get_or c.args.work.now.nodes.now c.args.node _ c.requires.node) c.in-Some.ensures
 
 pub returns-in-Some-clause-again : goal.returns-in-Some-clause-again
 returns-in-Some-clause-again g c =
     again_taken c.args.work.now (seen_by c.args.pass.now) c.args.worker.now.last.now c.args.worker.now.leaves.now c.args.found.now
-    c.args.nodes.now.items c.args.tree.now c.args.node (sound_for c.args.work.now.memo.now c.args.pass.now c.requires.own) c.requires.ready
+    c.args.known.now.nodes.items c.args.tree.now c.args.node (sound_for c.args.work.now.memo.now c.args.pass.now c.requires.own) c.requires.ready
     c.requires.node c.requires.long c.requires.before c.requires.last c.requires.leaves c.requires.found c.requires.noted c.in-Some.placed _
     (slice_get-get_or c.args.work.now.nodes.now c.args.node _ c.requires.node) c.in-Some.ensures
 
@@ -106,8 +109,19 @@ returns-in-Ok-place_pair-clause-keyed g c =
     let w = child_within work.sinks.now work.nodes.now c.requires.ready.shape c.args.node c.requires.node _ 0 c.in-Pair.left c.in-Pair.right c.in-Pair.is
     (starts_first work.nodes.now _ c.requires.ready.shape c.args.node c.requires.node) in
     pair_key_at work c.place_pair.new.nodes.items c.args.tree.now c.args.node c.in-Pair.left c.in-Pair.right _ _ c.in-Ok-place_pair.place
-    (places_stay c.args.nodes.now.items c.place_pair.new.nodes.items c.place_pair.ensures.more c.args.tree.now (c.requires.before.0))
+    (places_stay c.catch_up.new.self.nodes.items c.place_pair.new.nodes.items c.place_pair.ensures.more c.args.tree.now
+    (places_stay c.args.known.now.nodes.items c.catch_up.new.self.nodes.items c.catch_up.ensures.more c.args.tree.now (c.requires.before.0)))
     (slice_get-get_or work.nodes.now c.args.node _ c.requires.node ∙ ap Some c.in-Pair.is)
     (slice_get-get_or c.args.tree.now c.in-Pair.left _ (omega (arith, c.requires.long, w.1)))
     (slice_get-get_or c.args.tree.now c.in-Pair.right _ (omega (arith, c.requires.long, w.3)))
     c.in-Ok-place_pair.ensures.keyed
+
+pub returns-in-Ok-place_pair-clause-merges : goal.returns-in-Ok-place_pair-clause-merges
+returns-in-Ok-place_pair-clause-merges g c =
+    missing_earlier (seen_by c.args.pass.now) (seen_by c.catch_up.new.pass) c.args.work.now.sinks.now _ c.args.steps.now c.place_pair.new.steps
+    c.catch_up.ensures.pass.goes_on c.place_pair.ensures.merges
+
+pub returns-in-Err-place_pair-clause-merges : goal.returns-in-Err-place_pair-clause-merges
+returns-in-Err-place_pair-clause-merges g c =
+    missing_earlier (seen_by c.args.pass.now) (seen_by c.catch_up.new.pass) c.args.work.now.sinks.now _ c.args.steps.now c.place_pair.new.steps
+    c.catch_up.ensures.pass.goes_on c.place_pair.ensures.merges

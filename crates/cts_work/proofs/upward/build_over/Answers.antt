@@ -39,8 +39,8 @@ returns-in-Ok-clause-plan g c =
     let work : Work = record { memo = c.args.memo; sinks = c.args.sinks; nodes = c.nodes-nodes.result } in
     let over = subst (IsShapeOver (length c.args.sinks.now)) (sym c.nodes-nodes.ensures.nodes) c.requires.shape in
     plan_made work c.args.shape.now c.nodes-nodes.ensures.nodes (length c.nodes-nodes.result.now - 1)
-    (omega (arith, length_pos children c.nodes-nodes.result.now over.post_order)) (seen_by c.build_part.new.pass) (picked c.build_part.new.nodes.items c.in-Ok.tree.places.items)
-    (omega (arith, c.in-Ok.ensures.long, length-picked c.build_part.new.nodes.items c.in-Ok.tree.places.items (c.in-Ok.ensures.built.0)))
+    (omega (arith, length_pos children c.nodes-nodes.result.now over.post_order)) (seen_by c.build_part.new.pass) (picked c.build_part.new.known.nodes.items c.in-Ok.tree.places.items)
+    (omega (arith, c.in-Ok.ensures.long, length-picked c.build_part.new.known.nodes.items c.in-Ok.tree.places.items (c.in-Ok.ensures.built.0)))
     (c.in-Ok.ensures.built.1) _ refl
 
 pub returns-in-Ok-clause-known : goal.returns-in-Ok-clause-known
@@ -48,8 +48,8 @@ returns-in-Ok-clause-known g c =
     let work : Work = record { memo = c.args.memo; sinks = c.args.sinks; nodes = c.nodes-nodes.result } in
     let over = subst (IsShapeOver (length c.args.sinks.now)) (sym c.nodes-nodes.ensures.nodes) c.requires.shape in
     all_known work c.args.shape.now c.nodes-nodes.ensures.nodes (length c.nodes-nodes.result.now - 1)
-    (omega (arith, length_pos children c.nodes-nodes.result.now over.post_order)) (seen_by c.build_part.new.pass) (picked c.build_part.new.nodes.items c.in-Ok.tree.places.items)
-    (omega (arith, c.in-Ok.ensures.long, length-picked c.build_part.new.nodes.items c.in-Ok.tree.places.items (c.in-Ok.ensures.built.0)))
+    (omega (arith, length_pos children c.nodes-nodes.result.now over.post_order)) (seen_by c.build_part.new.pass) (picked c.build_part.new.known.nodes.items c.in-Ok.tree.places.items)
+    (omega (arith, c.in-Ok.ensures.long, length-picked c.build_part.new.known.nodes.items c.in-Ok.tree.places.items (c.in-Ok.ensures.built.0)))
     (c.in-Ok.ensures.built.1)
 
 pub returns-in-Ok-clause-within : goal.returns-in-Ok-clause-within
@@ -62,7 +62,7 @@ returns-in-Ok-clause-long g c =
 
 pub returns-in-Ok-clause-keyed : goal.returns-in-Ok-clause-keyed
 returns-in-Ok-clause-keyed g c whole =
-    subst (λ ns. AreKeyed c.args.sinks.now ns (picked c.build_part.new.nodes.items c.in-Ok.tree.places.items)) c.nodes-nodes.ensures.nodes
+    subst (λ ns. AreKeyed c.args.sinks.now ns (picked c.build_part.new.known.nodes.items c.in-Ok.tree.places.items)) c.nodes-nodes.ensures.nodes
     (c.in-Ok.ensures.keyed whole)
 
 pub returns-in-Ok-clause-sites : goal.returns-in-Ok-clause-sites

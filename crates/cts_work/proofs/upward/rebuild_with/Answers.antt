@@ -19,12 +19,12 @@ keep_tree-requires-clause-long g c = c.in-Ok.ensures.long ∙ sym (ap length c.n
 
 pub keep_tree-requires-clause-keyed : goal.keep_tree-requires-clause-keyed
 keep_tree-requires-clause-keyed g c whole =
-    subst (λ ns. AreKeyed c.args.sinks.now ns (picked c.build_over.new.known.items c.in-Ok.tree.places.items)) (sym c.nodes-nodes.ensures.nodes)
+    subst (λ ns. AreKeyed c.args.sinks.now ns (picked c.build_over.new.known.nodes.items c.in-Ok.tree.places.items)) (sym c.nodes-nodes.ensures.nodes)
     (c.in-Ok.ensures.keyed whole)
 
 pub returns-in-Ok-clause-sites : goal.returns-in-Ok-clause-sites
 returns-in-Ok-clause-sites g c =
-    let nodes = picked c.build_over.new.known.items c.in-Ok.tree.places.items in (
+    let nodes = picked c.build_over.new.known.nodes.items c.in-Ok.tree.places.items in (
       map (λ (b : Built). b.finished) nodes,
       c.in-Ok.ensures.plan,
       c.keep_tree.ensures.sites ∙ c.in-Ok.ensures.sites ∙ sym (map-map site_of (λ (b : Built). b.finished) nodes),

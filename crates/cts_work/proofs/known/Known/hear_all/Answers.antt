@@ -3,7 +3,7 @@ use Rattle.cts_work.proofs.Nodes.{stands_still, goes_further}
 use Rattle.cts_work.proofs.known.Known.hear_all.Goals as goal
 
 pub loop-init : goal.loop-init
-loop-init g c = 
+loop-init g c =
     record {
       pass = stands_still c.args.memo.now c.args.pass.now c.requires.own;
       known = c.requires.known;

@@ -9,4 +9,3 @@ loop-sink-init c =
     record {
       same = no_leaves c.args.self.now (take 0 c.args.sinks.now) c.in_ok-leaves.leaves.items refl c.in_ok-leaves.ensures.items;
     }
-
