@@ -7,6 +7,7 @@ ghost use Rattle.cts_embed.specs.Prepared.{IsGroundOf};
 ghost use Rattle.cts_embed_workers.specs.Stretches.{ArePlaced, IsPlacedAt, IsReady, IsStretch, StretchEnds};
 ghost use denote.Param.Send.{IsSync};
 
+use cts_beside::beside_mut;
 use cts_embed::{EmbedEnd, Ground, place_node};
 use cts_geom::Spot;
 use cts_instance::Instance;
@@ -15,7 +16,7 @@ use cts_topo::ShapeNode;
 use cts_tree::TreeNode;
 use cts_up::Site;
 use std::alloc::Global;
-use std::thread::{Threads, join_mut};
+use std::thread::Threads;
 
 /// Two parts with no more nodes than these are placed by one worker: they take it no longer than a thread takes to start.
 const FEW: u32 = 4096;
@@ -200,7 +201,7 @@ fn place_beside<R: Threads + Sync>(
             rt, alloc, here, instance, ground, nodes, sites, first, left, place, left_out,
         )
     };
-    let (right_end, left_end) = join_mut(rt, &mut back, &mut front);
+    let (right_end, left_end) = beside_mut(rt, &mut back, &mut front);
     right_end?;
     left_end
 }

@@ -18,6 +18,7 @@ use crate::answer::{Telling, answer_no_tree, answer_synthesis_by};
 use crate::stop::{Answer, Stop};
 use crate::valid::instance_is_valid;
 use crate::workers::{closed, fill, finish_plan, make_room, make_shape};
+use cts_beside::beside_mut;
 use cts_instance::Instance;
 use cts_io::ByteSink;
 use cts_memo::{Memo, Secret, Table};
@@ -27,7 +28,7 @@ use cts_topo::Shape;
 use cts_up::UpEnd;
 use cts_work::{Gate, Numbers, Plan, plan_all};
 use std::alloc::Global;
-use std::thread::{Threads, join_mut};
+use std::thread::Threads;
 
 /// How a run by workers ends, and the table of its memo, unless memory ran out.
 type Ended = (Result<Answer, Stop>, Option<Table>);
@@ -101,7 +102,7 @@ fn answer_beside<R: Threads + Sync, K: ByteSink, G: Gate>(
             × IsPlan instance.now.params instance.now.sinks shape.now (nodes_of plan.now) × (workers ≤ 64) }
         ensures { Answers (TellsSynthesis (told_by telling) instance.entry.now) K.held K.faults sink.entry.now sink.exit.now result }
     { answer_plan(rt, alloc, telling, instance, shape, plan, workers, sink) };
-    let (table, answer) = join_mut(rt, &mut bring, &mut go_on);
+    let (table, answer) = beside_mut(rt, &mut bring, &mut go_on);
     (answer, table)
 }
 

@@ -19,6 +19,7 @@ ghost use Rattle.cts_work.specs.Filling.{HasRoom};
 ghost use Rattle.cts_work.specs.Plans.{nodes_of};
 
 use crate::valid::instance_is_valid;
+use cts_beside::beside;
 use cts_elmore::Figures;
 use cts_embed::embed_sites;
 use cts_embed_workers::{embed_by, room_for};
@@ -33,7 +34,7 @@ use cts_units::Sink;
 use cts_up::Site;
 use cts_work::{Gate, Numbers, Plan, fill_table};
 use std::alloc::Global;
-use std::thread::{Threads, join};
+use std::thread::Threads;
 
 /// Room for the plan of a shape in a table that has no entries yet, so that it can be brought there without memory.
 pub(crate) fn make_room(
@@ -106,7 +107,7 @@ fn list_sites<R: Threads>(
     let list = move || -> Result<Vec<Site>, NoMemory>
         ensures { IfOk result (λ sites. sites.items ≡ map site_of (nodes_of plan.entry.now)) }
     { plan.sites(alloc) };
-    join(rt, room, list)
+    beside(rt, room, list)
 }
 
 /// The nodes of the shape of an instance in their places, by its plan, which one thread places.
@@ -189,6 +190,6 @@ pub(crate) fn make_shape<R: Threads + Sync>(
         ensures definition { IfOk result (λ shape. shape ≡ shape_of sinks.entry.now) }
         ensures shape { IfOk result (IsShapeOver (length sinks.entry.now)) }
     { topology_by(rt, alloc, sinks, workers) };
-    let (secret, shape) = join(rt, mix, divide);
+    let (secret, shape) = beside(rt, mix, divide);
     (shape, secret)
 }

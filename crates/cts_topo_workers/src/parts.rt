@@ -6,10 +6,11 @@ ghost use Rattle.cts_topo.specs.declared.shape.ShapeNode.TheVariants.{Pair};
 ghost use Rattle.cts_topo_workers.specs.Parts.{CanGrow, Grows};
 ghost use denote.Param.Send.{IsSync};
 
+use cts_beside::beside;
 use cts_num::NoMemory;
 use cts_topo::{Pin, ShapeNode, add_tree, halve, is_turned};
 use std::alloc::Global;
-use std::thread::{Threads, join};
+use std::thread::Threads;
 
 /// Fewer pins than these are divided by one worker: the halves take it no longer than a thread takes to start.
 pub(crate) const FEW: usize = 4096;
@@ -104,7 +105,7 @@ fn add_parts_by<R: Threads + Sync>(
             nodes,
         )
     };
-    let (right, left) = join(rt, back, front);
+    let (right, left) = beside(rt, back, front);
     pair_over(first, left?, right?)
 }
 

@@ -8,11 +8,12 @@ ghost use Rattle.cts_topo.specs.Sinks.{AreSinks};
 ghost use Rattle.cts_topo.specs.Topology.{is_before, shape_of};
 
 use crate::parts::{FEW, add_tree_by};
+use cts_beside::beside;
 use cts_num::NoMemory;
 use cts_topo::{Pin, Shape, pins_of, sorted_along, topology};
 use cts_units::Sink;
 use std::alloc::Global;
-use std::thread::{Threads, join};
+use std::thread::Threads;
 
 /// The shape of the tree over these sinks, which `cts_topo::topology` makes too, by at most so many workers beside
 /// each other. Takes 1 to 65,536 sinks with distinct ids and coordinates from 0 to 10^8 nm.
@@ -75,5 +76,5 @@ fn sorted_both<R: Threads>(
         ensures same { IfOk result (λ by_y. IsPermutation pins.entry.now by_y.items) }
         ensures sorted { IfOk result (λ by_y. IsSortedBy (is_before false) by_y.items) }
     { sorted_along(alloc, pins, false) };
-    join(rt, x, y)
+    beside(rt, x, y)
 }

@@ -10,6 +10,7 @@ use crate::gate::Gate;
 use crate::making::make_part;
 use crate::pieces::Piece;
 use crate::work::Work;
+use cts_beside::beside;
 use cts_deal::{Deal, Hand};
 use cts_memo::Memo;
 use cts_memo::laws::memo_is_shared;
@@ -21,7 +22,7 @@ use cts_up::UpEnd;
 use std::alloc::Global;
 use std::marker::Brand;
 use std::sync::ledger::{Blank, Ledger};
-use std::thread::{Threads, join};
+use std::thread::Threads;
 
 /// What became of the piece of a number.
 #[derive(Drop)]
@@ -156,7 +157,7 @@ fn run_workers<R: Threads + Sync, G: Gate>(
         )
     };
     memo_is_shared();
-    let (a, b) = join(rt, front, back);
+    let (a, b) = beside(rt, front, back);
     Shift {
         done: together(a.done, b.done),
         hand: deal.join(a.hand, b.hand),

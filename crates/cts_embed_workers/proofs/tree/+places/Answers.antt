@@ -7,16 +7,16 @@ use Rattle.cts_embed_workers.proofs.tree.+places.Goals as goal
 
 pub place_beside-returns-clause-ends : goal.place_beside-returns-clause-ends
 place_beside-returns-clause-ends g t c =
-    let told : IfErr c.join_mut-right_end.result.1 (StretchEnds c.args.instance.now c.args.nodes.now c.args.first c.args.left) =
-    c.join_mut-right_end.ensures.1.met.1.1 in
-    let right : IfOk c.join_mut-right_end.result.0
-    (λ x. ArePlaced c.args.instance.now c.args.nodes.now (c.args.left + 1) c.args.right c.join_mut-right_end.new.f.10.now) =
-    c.join_mut-right_end.ensures.0.met.1.0 in
-    err_weaker c.join_mut-right_end.result.1 (StretchEnds c.args.instance.now c.args.nodes.now c.args.first c.args.left)
+    let told : IfErr c.beside_mut-right_end.result.1 (StretchEnds c.args.instance.now c.args.nodes.now c.args.first c.args.left) =
+    c.beside_mut-right_end.ensures.1.met.1.1 in
+    let right : IfOk c.beside_mut-right_end.result.0
+    (λ x. ArePlaced c.args.instance.now c.args.nodes.now (c.args.left + 1) c.args.right c.beside_mut-right_end.new.f.10.now) =
+    c.beside_mut-right_end.ensures.0.met.1.0 in
+    err_weaker c.beside_mut-right_end.result.1 (StretchEnds c.args.instance.now c.args.nodes.now c.args.first c.args.left)
     (StretchEnds c.args.instance.now c.args.nodes.now c.args.first c.args.right)
     (λ end ends. ends_in_front c.args.instance.now c.args.nodes.now c.args.first c.args.left (c.args.left + 1) c.args.right
-    c.join_mut-right_end.new.f.10.now end refl (omega (arith, c.requires.order.1))
-    (IfOk-at_ok (λ x. ArePlaced c.args.instance.now c.args.nodes.now (c.args.left + 1) c.args.right c.join_mut-right_end.new.f.10.now)
+    c.beside_mut-right_end.new.f.10.now end refl (omega (arith, c.requires.order.1))
+    (IfOk-at_ok (λ x. ArePlaced c.args.instance.now c.args.nodes.now (c.args.left + 1) c.args.right c.beside_mut-right_end.new.f.10.now)
     c.in_ok-right_end.was right) ends)
     told
 

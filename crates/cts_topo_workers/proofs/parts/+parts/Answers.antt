@@ -12,8 +12,8 @@ pub add_parts_by-split_at_mut-left_spare-requires : goal.add_parts_by-split_at_m
 add_parts_by-split_at_mut-left_spare-requires g t c =
     omega (arith, length-Shuffled c.requires.ready.pins.same, c.halve-half.ensures.within.1)
 
-pub add_parts_by-join-right-requires-after_bounds : goal.add_parts_by-join-right-requires-after_bounds
-add_parts_by-join-right-requires-after_bounds g t c κs within =
+pub add_parts_by-beside-right-requires-after_bounds : goal.add_parts_by-beside-right-requires-after_bounds
+add_parts_by-beside-right-requires-after_bounds g t c κs within =
     let half = c.halve-half.ensures in
     let along = c.split_at_mut-left_along.ensures in
     let across = c.split_at_mut-left_across.ensures in
@@ -53,11 +53,11 @@ add_parts_by-returns g t c =
     let next = c.args.first + (c.len.result + 2 * c.halve-half.result - 1) in
     let l : Grows c.args.first c.split_at_mut-left_along.result.0.now c.args.nodes.items left =
     IfOk-at_ok (λ all. Grows c.args.first c.split_at_mut-left_along.result.0.now c.args.nodes.items all.items) c.in_ok-left.was
-    c.join-right.ensures.second in
+    c.beside-right.ensures.second in
     let r : Grows next c.split_at_mut-left_along.result.1.now [] right =
     subst (λ ns. Grows next c.split_at_mut-left_along.result.1.now ns right) c.in_ok-apart.ensures.items
     (IfOk-at_ok (λ all. Grows next c.split_at_mut-left_along.result.1.now c.in_ok-apart.apart.items all.items) c.in_ok-right.was
-    c.join-right.ensures.first) in
+    c.beside-right.ensures.first) in
     IfOk-weaker c.pair_over.result _ _
     (λ all h. subst (Grows c.args.first c.args.along.now c.args.nodes.items) (sym h)
     (grows_pair c.args.first next c.args.along.now c.split_at_mut-left_along.result.0.now c.split_at_mut-left_along.result.1.now

@@ -10,16 +10,16 @@ use Rattle.cts_work.proofs.Drawn.{numbers_append, covers_append}
 use Rattle.cts_work.proofs.Sent.{shift_send}
 use Rattle.cts_work.proofs.workers.+shifts.Goals as goal
 
-pub join-a-requires-send-A : goal.join-a-requires-send-A
-join-a-requires-send-A g t c κs within = search (crosses, shift_send, sendable) depth 60 fits 20000
+pub beside-a-requires-send-A : goal.beside-a-requires-send-A
+beside-a-requires-send-A g t c κs within = search (crosses, shift_send, sendable) depth 60 fits 20000
 
 pub join-requires : goal.join-requires
-join-requires g t c = record { own = (c.join-a.ensures.first.own, c.join-a.ensures.second.own) }
+join-requires g t c = record { own = (c.beside-a.ensures.first.own, c.beside-a.ensures.second.own) }
 
 pub returns : goal.returns
 returns g t c =
-    let a = c.join-a.ensures.first in
-    let b = c.join-a.ensures.second in
+    let a = c.beside-a.ensures.first in
+    let b = c.beside-a.ensures.second in
     let work : Work = record { memo = c.args.memo; sinks = c.args.sinks; nodes = c.args.nodes } in
     record {
       own = c.join.ensures.own;
@@ -32,9 +32,9 @@ returns g t c =
           c.together.ensures;
       drawn = IfOk-weaker c.together.result _ _
           (λ d t. subst (λ items. Covers (length c.args.pieces.now) (drawn_by c.join.result) (numbers_of items)) (sym (t.4))
-          (covers_append (length c.args.pieces.now) (drawn_by c.join-a.result.0.hand) (drawn_by c.join-a.result.1.hand) (drawn_by c.join.result)
+          (covers_append (length c.args.pieces.now) (drawn_by c.beside-a.result.0.hand) (drawn_by c.beside-a.result.1.hand) (drawn_by c.join.result)
           (numbers_of t.0.items) (numbers_of t.1.items) _ c.join.ensures.drawn (numbers_append t.0.items t.1.items)
-          (IfOk-at_ok (λ v. Covers (length c.args.pieces.now) (drawn_by c.join-a.result.0.hand) (numbers_of v.items)) (t.2) a.drawn)
-          (IfOk-at_ok (λ v. Covers (length c.args.pieces.now) (drawn_by c.join-a.result.1.hand) (numbers_of v.items)) (t.3) b.drawn)))
+          (IfOk-at_ok (λ v. Covers (length c.args.pieces.now) (drawn_by c.beside-a.result.0.hand) (numbers_of v.items)) (t.2) a.drawn)
+          (IfOk-at_ok (λ v. Covers (length c.args.pieces.now) (drawn_by c.beside-a.result.1.hand) (numbers_of v.items)) (t.3) b.drawn)))
           c.together.ensures;
     }
