@@ -18,7 +18,7 @@ const SPARE: usize = 1 << 16;
 /// asks the memo for the others alone.
 ///
 /// They stand in one list, and a tree is a list of places in it: a node that is found again isn't copied. The list
-/// grows at its end; once it is far longer than the last tree, the nodes of that tree are put into a list of their own.
+/// grows at its end; once it is far longer than the last tree, the nodes of that tree alone stay in it.
 #[derive(Drop)]
 pub(crate) struct Known {
     pub(crate) nodes: Vec<Built>,
@@ -60,6 +60,16 @@ pub(crate) fn nodes_at(
     Ok(own)
 }
 
+/// Puts other nodes in the place of those of a list, which keeps its room.
+fn refill(nodes: &mut Vec<Built>, others: Vec<Built>)
+    ensures { nodes.new.items ≡ others.items }
+{
+    nodes.clear();
+    if nodes.extend_from_slice(&others).is_err() {
+        *nodes = others;
+    }
+}
+
 impl Known {
     /// Nothing.
     pub(crate) fn nothing(alloc: Global) -> Known
@@ -83,8 +93,18 @@ impl Known {
         self.hints.cells.is_empty() || self.nodes.len() > self.most()
     }
 
-    /// Puts the nodes of a tree, which stand at these places, into a list of their own, where it is far shorter than
-    /// the list of all, and tells whether it did.
+    /// Makes room for all nodes that are kept beside each other, so that the list stays where it is while it grows.
+    /// Where the room can't be had the list grows as it comes.
+    fn make_room(&mut self)
+        ensures rest { self.new ≡ record self.old { nodes = self.new.nodes } }
+        ensures nodes { self.new.nodes.items ≡ self.old.nodes.items }
+    {
+        let more = self.most().saturating_sub(self.nodes.len());
+        let _room = self.nodes.reserve(more);
+    }
+
+    /// Forgets all nodes but those of a tree, which stand at these places, where they are far fewer than all, and tells
+    /// whether it did.
     fn tidy(&mut self, alloc: Global, tree: &[u32]) -> Result<bool, AllocError>
         ensures known { (seen : List MemoEntry) → IsKnown seen self.old → IsKnown seen self.new }
         ensures same { IfOk result (λ tidied. tidied ≡ false → self.new.nodes.items ≡ self.old.nodes.items) }
@@ -95,7 +115,8 @@ impl Known {
         if self.nodes.len() <= enough {
             return Ok(false);
         }
-        self.nodes = nodes_at(alloc, &self.nodes, tree)?;
+        let own = nodes_at(alloc, &self.nodes, tree)?;
+        refill(&mut self.nodes, own);
         self.hints.noted = 0;
         Ok(true)
     }
@@ -112,6 +133,7 @@ impl Known {
         }
         self.count = tree.len();
         let moved = self.tidy(alloc, tree).unwrap_or(false);
+        self.make_room();
         if self.hints.make_room(alloc, tree.len()).is_ok() {
             self.hints.note(&self.nodes);
         }

@@ -6,5 +6,5 @@ use Rattle.cts_work.proofs.known.Known.tidy.Goals as goal
 
 pub returns-clause-known : goal.returns-clause-known
 returns-clause-known c seen known =
-    subst (All (IsNoted seen)) (sym (c.in_ok-self.ensures ∙ (λ z. picked (c.deref.ensures.value z) c.args.tree.now)))
+    subst (All (IsNoted seen)) (sym (c.refill.ensures ∙ c.in_ok-own.ensures ∙ (λ z. picked (c.deref.ensures.value z) c.args.tree.now)))
     (noted_picked seen c.args.self.now.nodes.items c.args.tree.now known)
