@@ -1,9 +1,11 @@
 //! The table of a memo: entries by key, in the order in which they were made.
 
-ghost use Rattle.std.specs.Prelude.{◌≤◌, ◌^◌, length};
+ghost use Rattle.std.specs.Prelude.{◌≡◌, ◌+◌, ◌<◌, ◌≤◌, ◌^◌, length, None, IfNone, IfSome, OnSome};
+ghost use Rattle.indexmap.specs.IndexMap.{get, insert_entry, insert_index, spare};
 ghost use Rattle.cts_units.specs.Limits.{IsParams};
 ghost use Rattle.cts_memo.specs.Keys.{entries_of};
-ghost use Rattle.cts_memo.specs.Sound.{IsSound};
+ghost use Rattle.cts_memo.specs.Sound.{IsSound, max_entries};
+ghost use Rattle.cts_memo.specs.contracts.key.KeyPartialEq.TheImpl.{ghosts};
 
 use crate::entry::{Answer, MemoCall, MemoEntry, MemoReply, PutEnd};
 use crate::key::Key;
@@ -15,6 +17,7 @@ use cts_num::NoMemory;
 use cts_turn::Object;
 use cts_units::Params;
 use indexmap::IndexMap;
+use indexmap::map::Entry;
 use std::alloc::Global;
 use std::snapshot::Snapshot;
 
@@ -34,7 +37,7 @@ pub struct Table {
 impl Table {
     ghost use Rattle.std.specs.Prelude.{◌≡◌, ◌≢◌, ◌+◌, ◌<◌, min, drop, slice_get, take, [], IfOk, IsOk, OnOk};
     ghost use Rattle.cts_memo.specs.Sound.{IsMadeOf, max_entries};
-    ghost use Rattle.cts_memo.specs.Replies.{IsFound, IsPut, after_put};
+    ghost use Rattle.cts_memo.specs.Replies.{IsFound, IsPut, after_put, fill_end};
     ghost use Rattle.cts_memo.specs.Questions.{AreAnswers, IsAnswered};
     ghost use Rattle.cts_memo.specs.Tables.{base_of, room_of, told_by};
 
@@ -160,6 +163,60 @@ impl Table {
             },
             Err(_) => PutEnd::NoMemory,
         }
+    }
+
+    /// The number of a key's entry, for the table's owner: what `find` and then `publish` come to, with one look-up.
+    /// Where the key is absent `between` is called, and then what was made of the key is appended, unless there are 2^21
+    /// entries: then, and only then, `None` comes. The table has room, so it takes no memory.
+    #[inline(always)]
+    pub fn fill<F: FnOnce()>(&mut self, key: Key, finished: &Finished, between: F) -> Option<u32>
+        requires made { IsMadeOf (base_of self.old) (told_by self.old) key finished.now }
+        requires room { 0 < room_of self.old }
+        requires between { F.pre between }
+        ensures base { base_of self.new ≡ base_of self.old }
+        ensures end { IsPut (told_by self.old) key (fill_end result) }
+        ensures told { told_by self.new ≡ after_put (told_by self.old) key finished.now (fill_end result) }
+        ensures left { room_of self.old ≤ room_of self.new + 1 }
+    {
+        number_or_insert(&mut self.map, key, finished, between)
+    }
+}
+
+/// The number of a key in a map that has room. Where the key is absent `between` is called, and then it is inserted with
+/// the value, unless there are 2^21 entries: then `None` comes.
+#[inline(always)]
+fn number_or_insert<F: FnOnce()>(
+    map: &mut IndexMap<Key, Finished, Seeded>,
+    key: Key,
+    value: &Finished,
+    between: F,
+) -> Option<u32>
+    requires short { length map.old.entries ≤ max_entries }
+    requires room { 0 < spare map.old }
+    requires between { F.pre between }
+    ensures number { IfSome result (λ n. n ≡ insert_index ghosts.eq map.old key) }
+    ensures found { IfSome (get ghosts.eq map.old key) (λ _. map.new.entries ≡ map.old.entries) }
+    ensures inserted { OnSome result (IfNone (get ghosts.eq map.old key) (map.new.entries ≡ insert_entry ghosts.eq map.old.entries key value.now)) }
+    ensures fewer { OnSome result (IfNone (get ghosts.eq map.old key) (length map.old.entries < max_entries)) }
+    ensures absent { IfNone result (get ghosts.eq map.old key ≡ None) }
+    ensures full { IfNone result (length map.old.entries ≡ max_entries) }
+    ensures unchanged { IfNone result (map.new.entries ≡ map.old.entries) }
+    ensures left { spare map.old ≤ spare map.new + 1 }
+{
+    match map.entry(key) {
+        Ok(Entry::Occupied(entry)) => Some(entry.index() as u32),
+        Ok(Entry::Vacant(entry)) => {
+            between();
+            let number = entry.index();
+            if number < MAX_ENTRIES {
+                entry.insert(*value);
+                Some(number as u32)
+            } else {
+                None
+            }
+        }
+        // The map has room.
+        Err(_) => unreachable!(),
     }
 }
 

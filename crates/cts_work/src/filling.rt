@@ -20,7 +20,7 @@ use crate::gate::Gate;
 use crate::node::PairNumbers;
 use crate::plan::Plan;
 use crate::publishing::Brought;
-use cts_memo::{Answer, Key, PutEnd, Table};
+use cts_memo::{Key, Table};
 use cts_merge::Finished;
 use cts_num::NoMemory;
 use cts_topo::{Shape, ShapeNode};
@@ -51,25 +51,8 @@ impl Numbers {
     }
 }
 
-/// Publishes what was made of a key. Its number, or `None` where the table is full.
-#[inline(always)]
-fn put(table: &mut Table, key: Key, finished: &Finished) -> Option<u32>
-    requires made { IsMadeOf (base_of table.old) (told_by table.old) key finished.now }
-    requires room { 0 < room_of table.old }
-    ensures table { Grows table.old table.new }
-    ensures kept { IsKept (told_by table.new) key finished.now result }
-    ensures left { room_of table.old ≤ room_of table.new + 1 }
-{
-    match table.publish(key, *finished) {
-        PutEnd::At { number } => Some(number),
-        PutEnd::Full => None,
-        // The table has room.
-        PutEnd::NoMemory => unreachable!(),
-    }
-}
-
 /// The number of what was made of a key: that of its entry, or, where it is absent, published past the gate. `None`
-/// where the table is full.
+/// where it is absent and the table is full.
 #[inline(always)]
 fn fill_key<G: Gate>(
     gate: &G,
@@ -84,13 +67,7 @@ fn fill_key<G: Gate>(
     ensures kept { IsKept (told_by table.new) key finished.now result }
     ensures left { room_of table.old ≤ room_of table.new + 1 }
 {
-    match table.find(key) {
-        Answer::Have { number, .. } => Some(number),
-        Answer::Absent => {
-            gate.between(piece);
-            put(table, key, finished)
-        }
-    }
+    table.fill(key, finished, || gate.between(piece))
 }
 
 /// The number of the leaf of a sink.
