@@ -86,21 +86,14 @@ fn with_version(alloc: Global, run: Run) -> Result<Edited, NoMemory>
     ensures synthesis { IfOk result (λ e. e.synthesis ≡ run.synthesis) }
     ensures table { IfOk result (λ e. e.table ≡ run.table) }
 {
-    let Run {
-        instance,
-        history,
-        sinks,
-        replies,
-        synthesis,
-        table,
-    } = run;
-    let version = instance.with_sinks(alloc, sinks)?;
+    let sinks = run.sinks;
+    let version = run.instance.with_sinks(alloc, sinks)?;
     Ok(Edited {
         version,
-        history,
-        replies,
-        synthesis,
-        table,
+        history: run.history,
+        replies: run.replies,
+        synthesis: run.synthesis,
+        table: run.table,
     })
 }
 
