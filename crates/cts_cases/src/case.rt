@@ -1,10 +1,9 @@
 //! One case: a run over streams in memory, and what reading the text alone gives; or hostile use of the text.
 
-use crate::runs::{Ran, Stream, Streams, over, words_of};
+use crate::runs::{Ran, Stream, Streams, run_open, words_of};
 use crate::text::expand;
 use crate::{hostile, show};
 use cts_num::read_decimal;
-use cts_work::OpenGate;
 use std::str::SplitWhitespace;
 use std::sync::Wait;
 use std::thread::Threads;
@@ -77,11 +76,18 @@ fn run_over<R: AllocGlobal + Threads + Wait + Sync + Print>(
     head: &str,
     text: &[u8],
 ) -> io::Result<()> {
-    let (words, streams) = head.split_once('/').unwrap_or((head, ""));
-    let words = words_of(rt.alloc(), words)?;
-    let ran = over(rt, &OpenGate, &words, text, streams_of(streams))?;
-    print_ran(rt, &ran)?;
+    print_run(rt, head, text)?;
     show::reading(rt, text)
+}
+
+fn print_run<R: AllocGlobal + Threads + Wait + Sync + Print>(
+    rt: &R,
+    head: &str,
+    text: &[u8],
+) -> io::Result<()> {
+    let (words, streams) = head.split_once('/').unwrap_or((head, ""));
+    let ran = run_open(rt, words, text, streams_of(streams))?;
+    print_ran(rt, &ran)
 }
 
 fn print_ran<R: Print>(rt: &R, ran: &Ran) -> io::Result<()> {

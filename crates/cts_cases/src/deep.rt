@@ -19,6 +19,17 @@ const WIRES: [(&str, &str); 3] = [
     ("1000 0.001", "2147483.647"),
 ];
 
+/// The last lines of a report.
+const FIGURES: &str = "\
+delay greatest 0.0000000000000000
+delay least 0.0000000000000000
+skew 0.0000000000000000
+bound 0.0000000000000000
+load met yes
+slew met yes
+end
+";
+
 /// Prints the verdicts on reports of trees in which every pair but the lowest has a leaf on its right.
 pub(crate) fn check<R: AllocGlobal + Threads + Wait + Sync + Print>(rt: &R) -> io::Result<()> {
     for (wire, length) in WIRES {
@@ -49,14 +60,18 @@ fn write_report(text: &mut String, length: &str) -> io::Result<()> {
     writeln!(text, "cts report 1\nnodes {}", 2 * SINKS - 1)?;
     for id in 0..SINKS {
         let leaf = (2 * id).saturating_sub(1);
-        write!(text, "node {leaf} leaf {id} at 0.0000 0.0000 load 1.000000")?;
-        write_delays(text, length)?;
+        write_leaf(text, leaf, id, length)?;
         if id > 0 {
             write_pair(text, leaf + 1, (leaf - 1, leaf), id + 1)?;
             write_delays(text, length)?;
         }
     }
     write_figures(text)
+}
+
+fn write_leaf(text: &mut String, node: u32, id: u32, length: &str) -> io::Result<()> {
+    write!(text, "node {node} leaf {id} at 0.0000 0.0000 load 1.000000")?;
+    write_delays(text, length)
 }
 
 /// The node of a pair up to its delays, with so many sinks below it.
@@ -72,10 +87,7 @@ fn write_pair(text: &mut String, node: u32, pair: (u32, u32), sinks: u32) -> io:
 
 fn write_figures(text: &mut String) -> io::Result<()> {
     writeln!(text, "source load {SINKS}.000000\nwire total 0.000")?;
-    for name in ["delay greatest", "delay least", "skew", "bound"] {
-        writeln!(text, "{name} 0.0000000000000000")?;
-    }
-    text.push_str("load met yes\nslew met yes\nend\n")?;
+    text.push_str(FIGURES)?;
     Ok(())
 }
 

@@ -86,7 +86,7 @@ impl Tally {
     fn count_of(&mut self, ran: &Ran, whole: &Ran) -> &mut u32 {
         let (bytes, text) = (ran.output.bytes(), whole.output.bytes());
         match ran.status {
-            status if status == whole.status && bytes == text => &mut self.same,
+            _ if ran.ends_as(whole) => &mut self.same,
             Status::Refused if bytes.is_empty() => &mut self.refused,
             Status::No => &mut self.judged,
             Status::ReadFault if bytes.is_empty() => &mut self.unread,

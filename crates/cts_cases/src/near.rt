@@ -14,13 +14,16 @@ pub(crate) fn check<R: AllocGlobal + Threads + Wait + Sync + Print>(rt: &R) -> i
 
 fn most<R: AllocGlobal + Threads + Wait + Sync + Print>(rt: &R) -> io::Result<()> {
     let made = alike::answer(rt, "make 1 2048", b"")?;
-    alike::end(rt, "near", "2048 sinks", made.output.bytes())?;
-    alike::judge(rt, "near", made.output.bytes())
+    most_of(rt, made.output.bytes())
+}
+
+fn most_of<R: AllocGlobal + Threads + Wait + Sync + Print>(rt: &R, made: &[u8]) -> io::Result<()> {
+    alike::end(rt, "near", "2048 sinks", made)?;
+    alike::judge(rt, "near", made)
 }
 
 fn more<R: AllocGlobal + Threads + Wait + Sync + Print>(rt: &R, made: &[u8]) -> io::Result<()> {
     alike::end(rt, "near", "2049 sinks", made)?;
-    let mut text = made.to_vec(rt.alloc())?;
-    text.extend_from_slice(b"more\n")?;
+    let text = alike::joined(rt.alloc(), made, b"more\n")?;
     alike::end(rt, "near", "2049 sinks and a word after them", &text)
 }

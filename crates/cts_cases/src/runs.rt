@@ -4,7 +4,7 @@ use cts_draw::draw;
 use cts_io::{MemSink, MemSource};
 use cts_num::NoMemory;
 use cts_top::{Status, run};
-use cts_work::Gate;
+use cts_work::{Gate, OpenGate};
 use std::alloc::Global;
 use std::io::{self, ErrorKind};
 use std::sync::Wait;
@@ -85,6 +85,13 @@ pub(crate) struct Ran {
     pub(crate) notes: MemSink,
 }
 
+impl Ran {
+    /// Whether it has the status and the output of another.
+    pub(crate) fn ends_as(&self, other: &Ran) -> bool {
+        self.status == other.status && self.output.bytes() == other.output.bytes()
+    }
+}
+
 /// Runs the program on some words, or, where the first of them is `cts-draw`, the program of that name on the others.
 fn end<R: AllocGlobal + Threads + Wait + Sync, G: Gate>(
     rt: &R,
@@ -120,6 +127,17 @@ pub(crate) fn over<R: AllocGlobal + Threads + Wait + Sync, G: Gate>(
         output,
         notes,
     })
+}
+
+/// Runs the words of a text under a gate that is open.
+pub(crate) fn run_open<R: AllocGlobal + Threads + Wait + Sync>(
+    rt: &R,
+    words: &str,
+    text: &[u8],
+    streams: Streams,
+) -> io::Result<Ran> {
+    let words = words_of(rt.alloc(), words)?;
+    over(rt, &OpenGate, &words, text, streams)
 }
 
 /// The words of a text.
