@@ -93,14 +93,15 @@ impl Known {
         self.hints.cells.is_empty() || self.nodes.len() > self.most()
     }
 
-    /// Makes room for all nodes that are kept beside each other, so that the list stays where it is while it grows.
-    /// Where the room can't be had the list grows as it comes.
+    /// Makes room for all nodes that are kept beside each other, or for eight times those of the last tree where that is
+    /// less, so that the list stays where it is while it grows. Where the room can't be had the list grows as it comes.
     fn make_room(&mut self)
         ensures rest { self.new ≡ record self.old { nodes = self.new.nodes } }
         ensures nodes { self.new.nodes.items ≡ self.old.nodes.items }
     {
-        let more = self.most().saturating_sub(self.nodes.len());
-        let _room = self.nodes.reserve(more);
+        let room = self.most().min(self.count.saturating_mul(8));
+        let more = room.saturating_sub(self.nodes.len());
+        let _reserved = self.nodes.reserve(more);
     }
 
     /// Forgets all nodes but those of a tree, which stand at these places, where they are far fewer than all, and tells
