@@ -103,8 +103,8 @@ fn join(params: &Params, a: &Side, ea: u64, b: &Side, eb: u64) -> Result<Finishe
             load: seen,
             region: meet(&a.region, ea, &b.region, eb),
         },
-        ea,
-        eb,
+        ea: ea as u32,
+        eb: eb as u32,
         buffer,
     })
 }

@@ -21,9 +21,9 @@ pub struct Finished {
     /// What a merge above it sees.
     pub side: Side,
     /// The length of the wire to its first child in nm, 0 at a leaf.
-    pub ea: u64,
+    pub ea: u32,
     /// The length of the wire to its second child in nm, 0 at a leaf.
-    pub eb: u64,
+    pub eb: u32,
     /// The index in the library of the buffer at the node.
     pub buffer: Option<u16>,
 }

@@ -68,7 +68,7 @@ fn compare(
     metal: &Metal<'_>,
     a: Point,
     b: Point,
-    want: Option<((u64, u64), u64, u128)>,
+    want: Option<((u32, u32), u64, u128)>,
 ) -> Result<(), Fail> {
     let got = match pair(alloc, metal, &side(a), &side(b))? {
         Ok(pair) => Some(((pair.ea, pair.eb), pair.side.load, pair.side.greatest)),
@@ -168,7 +168,7 @@ fn compare_region(rt: &impl Abort, node: &Finished, ends: (i64, i64, i64, i64)) 
 fn compare_node(
     rt: &impl Abort,
     node: &Finished,
-    lengths: (u64, u64),
+    lengths: (u32, u32),
     buffer: Option<u16>,
     load: u64,
     greatest: u128,

@@ -59,7 +59,7 @@ fn planned(alloc: Global, given: &Given<'_>) -> Result<Result<Vec<Finished>, UpE
 
 /// What a row says of a node: its greatest doubled delay and its load, the lengths of its wires, its buffer, and the
 /// ends of its region in u and v.
-type Row = ((u128, u64), (u64, u64), Option<u16>, (i64, i64, i64, i64));
+type Row = ((u128, u64), (u32, u32), Option<u16>, (i64, i64, i64, i64));
 
 fn compare(rt: &impl Abort, node: &Finished, row: Row) {
     let (side, region) = (node.side, node.side.region);

@@ -87,7 +87,7 @@ fn plan_of<R: Wait>(
 
 /// What is told of a tree over two sinks: the wires to both in nm, the greatest doubled delay in 10^-27 s, the
 /// load in zF, and how many nodes were made by then.
-pub(crate) type Built = ((u64, u64), u128, u64, u64);
+pub(crate) type Built = ((u32, u32), u128, u64, u64);
 
 /// What is told of the root of a plan over two sinks.
 fn built(plan: &[Finished], gate: &Counter) -> Option<Built> {

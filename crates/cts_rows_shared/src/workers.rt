@@ -179,7 +179,7 @@ fn make<R: Threads + Wait + Abort + Sync, G: Gate>(
 }
 
 /// The wires to both parts of a root in nm, its greatest doubled delay in 10^-27 s and its load in zF.
-type Root = ((u64, u64), u128, u64);
+type Root = ((u32, u32), u128, u64);
 
 /// The root of a plan.
 fn root_of(plan: &[Finished]) -> Option<Root> {
