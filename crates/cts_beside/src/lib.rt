@@ -3,7 +3,8 @@
 //! `std::thread::join` starts a thread for one of them and goes on with the other. A system may leave a thread that it
 //! starts on the processor of the one that starts it, behind that one, until it waits or some ms are over, though other
 //! processors have nothing to do. Where a thread is behind it already, the next one is put elsewhere at once. So a layer
-//! above that calls [`beside`], or [`beside_mut`] for work that it lends, starts a thread more, which does nothing.
+//! above that calls [`beside`], or [`beside_mut`] for work that it lends, starts a thread more, which does nothing; so does one
+//! that calls [`threads_at_once`] for work that starts several threads by itself.
 #![tactic(auto)]
 
 use std::thread::{Threads, join, join_mut};
@@ -41,4 +42,13 @@ pub fn beside_mut<R: Threads, F: FnMut() -> A + Send, G: FnMut() -> B, A: Send, 
     { join_mut(rt, f, g) };
     let ((), results) = join_mut(rt, &mut || {}, &mut both);
     results
+}
+
+/// Calls one that is lent and starts threads, so that the first of them begins at once too.
+pub fn threads_at_once<R: Threads, F: FnMut() -> A, A>(rt: &R, f: &mut F) -> A
+    requires { F.pre f.old }
+    ensures { F.step f.old result f.new }
+{
+    let ((), result) = join_mut(rt, &mut || {}, f);
+    result
 }
