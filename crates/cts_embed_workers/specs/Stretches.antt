@@ -1,6 +1,8 @@
 -- What a worker is given, and what it makes of it. A stretch of a shape has the nodes from a first number to a last one.
 use Rattle.std.specs.Prelude.{◌≡◌, ℕ, ◌+◌, ◌<◌, ◌≤◌, List, length, slice_index_or}
+use Rattle.std.specs.List.{AllZip}
 use Rattle.cts_geom.specs.declared.points.Spot.{Spot}
+use Rattle.cts_units.specs.declared.params.Sink.{Sink}
 use Rattle.cts_postorder.specs.BinaryTree.{BinaryTree, size}
 use Rattle.cts_postorder.specs.PostOrder.{trees_of}
 use Rattle.cts_postorder.specs.Occurrence.{Occurrence, occurrences_of}
@@ -12,8 +14,13 @@ use Rattle.cts_tree.specs.declared.nodes.TreeNode.{TreeNode}
 use Rattle.cts_instance.specs.declared.parts.Parts.{Parts}
 use Rattle.cts_embed.specs.declared.end.EmbedEnd.{EmbedEnd}
 use Rattle.cts_embed.specs.declared.end.EmbedEnd.TheVariants.{Cut, NoMemory}
+use Rattle.cts_embed.specs.Leaves.{IsIdOf}
 use Rattle.cts_embed.specs.Places.{IsRouteStart}
 use Rattle.cts_embed.specs.PlacedTree.{IsCutNode, IsPlacedNode}
+
+-- the ids of the sinks that leaves name, each at the number of its leaf
+abbrev pub AreIds : List Sink → List ShapeNode → List ℕ → Type 0
+AreIds sinks nodes ids = AllZip (IsIdOf sinks) nodes ids
 
 -- the node of a number can be placed from here, by the site of it
 pub record IsReady (parts : Parts) (nodes : List ShapeNode) (sites : List Site) (number : ℕ) (from : Spot) : Type 0 where

@@ -1,10 +1,11 @@
 //! The places of a tree's nodes by several workers: that of the root, and then its two parts beside each other.
 
-ghost use Rattle.std.specs.Prelude.{◌≡◌, ℕ, ◌+◌, ◌<◌, ◌≤◌, length, IfOk, IfErr};
+ghost use Rattle.std.specs.Prelude.{◌≡◌, ℕ, ◌+◌, ◌<◌, ◌≤◌, length, slice_index_or, IfOk, IfErr};
+ghost use Rattle.cts_topo.specs.declared.shape.ShapeNode.{ShapeNode};
 ghost use Rattle.cts_topo.specs.declared.shape.ShapeNode.TheVariants.{Leaf};
 ghost use Rattle.cts_embed.specs.Leaves.{IsIdOf};
 ghost use Rattle.cts_embed.specs.Prepared.{IsGroundOf};
-ghost use Rattle.cts_embed_workers.specs.Stretches.{ArePlaced, IsPlacedAt, IsReady, IsStretch, StretchEnds};
+ghost use Rattle.cts_embed_workers.specs.Stretches.{AreIds, ArePlaced, IsPlacedAt, IsReady, IsStretch, StretchEnds};
 ghost use denote.Param.Send.{IsSync};
 
 use cts_beside::beside_mut;
@@ -22,7 +23,7 @@ use std::thread::Threads;
 const FEW: u32 = 4096;
 
 /// Places the tree at the number `root`, whose nodes have the numbers from `first` on, from the place where the route to
-/// its root starts, by at most so many workers beside each other.
+/// its root starts, by at most so many workers beside each other. The ids are those of the leaves' sinks, each at the number of its leaf.
 #[cycle(places)]
 pub(crate) fn place_tree<R: Threads + Sync>(
     rt: &R,
@@ -32,6 +33,7 @@ pub(crate) fn place_tree<R: Threads + Sync>(
     ground: &Ground,
     nodes: &[ShapeNode],
     sites: &[Site],
+    ids: &[u32],
     first: u32,
     root: u32,
     from: Spot,
@@ -39,20 +41,23 @@ pub(crate) fn place_tree<R: Threads + Sync>(
 ) -> Result<(), EmbedEnd>
     requires shared { IsSync R.row }
     requires ground { IsGroundOf instance.now ground.now }
+    requires ids { AreIds instance.now.sinks nodes.now ids.now }
     requires ready { IsReady instance.now nodes.now sites.now root from }
     requires stretch { IsStretch nodes.now first root }
     requires room { first + length out.old ≡ root + 1 }
     ensures placed { IfOk result (λ _. ArePlaced instance.now nodes.now first root out.new) }
     ensures ends { IfErr result (StretchEnds instance.now nodes.now first root) }
 {
-    let node = place_at(alloc, instance, ground, nodes, sites, root, from)?;
+    let id = ids[root as usize];
+    let node = place_known(alloc, instance, ground, nodes, sites, root, id, from)?;
     let place = node.place;
     let (below, own) = out.split_at_mut((root - first) as usize);
     own[0] = node;
     match nodes[root as usize] {
         ShapeNode::Leaf { .. } => Ok(()),
         ShapeNode::Pair { left, right } => place_parts(
-            rt, alloc, workers, instance, ground, nodes, sites, first, left, right, place, below,
+            rt, alloc, workers, instance, ground, nodes, sites, ids, first, left, right, place,
+            below,
         ),
     }
 }
@@ -68,6 +73,7 @@ fn place_parts<R: Threads + Sync>(
     ground: &Ground,
     nodes: &[ShapeNode],
     sites: &[Site],
+    ids: &[u32],
     first: u32,
     left: u32,
     right: u32,
@@ -76,6 +82,7 @@ fn place_parts<R: Threads + Sync>(
 ) -> Result<(), EmbedEnd>
     requires shared { IsSync R.row }
     requires ground { IsGroundOf instance.now ground.now }
+    requires ids { AreIds instance.now.sinks nodes.now ids.now }
     requires left_ready { IsReady instance.now nodes.now sites.now left place }
     requires left_stretch { IsStretch nodes.now first left }
     requires right_ready { IsReady instance.now nodes.now sites.now right place }
@@ -88,12 +95,12 @@ fn place_parts<R: Threads + Sync>(
     let (left_out, right_out) = out.split_at_mut((left + 1 - first) as usize);
     if workers < 2 || right - first < FEW {
         place_in_turn(
-            rt, alloc, instance, ground, nodes, sites, first, left, right, place, left_out,
+            rt, alloc, instance, ground, nodes, sites, ids, first, left, right, place, left_out,
             right_out,
         )
     } else {
         place_beside(
-            rt, alloc, workers, instance, ground, nodes, sites, first, left, right, place,
+            rt, alloc, workers, instance, ground, nodes, sites, ids, first, left, right, place,
             left_out, right_out,
         )
     }
@@ -108,6 +115,7 @@ fn place_in_turn<R: Threads + Sync>(
     ground: &Ground,
     nodes: &[ShapeNode],
     sites: &[Site],
+    ids: &[u32],
     first: u32,
     left: u32,
     right: u32,
@@ -117,6 +125,7 @@ fn place_in_turn<R: Threads + Sync>(
 ) -> Result<(), EmbedEnd>
     requires shared { IsSync R.row }
     requires ground { IsGroundOf instance.now ground.now }
+    requires ids { AreIds instance.now.sinks nodes.now ids.now }
     requires left_ready { IsReady instance.now nodes.now sites.now left place }
     requires left_stretch { IsStretch nodes.now first left }
     requires right_ready { IsReady instance.now nodes.now sites.now right place }
@@ -136,13 +145,14 @@ fn place_in_turn<R: Threads + Sync>(
         ground,
         nodes,
         sites,
+        ids,
         left + 1,
         right,
         place,
         right_out,
     )?;
     place_tree(
-        rt, alloc, 1, instance, ground, nodes, sites, first, left, place, left_out,
+        rt, alloc, 1, instance, ground, nodes, sites, ids, first, left, place, left_out,
     )
 }
 
@@ -157,6 +167,7 @@ fn place_beside<R: Threads + Sync>(
     ground: &Ground,
     nodes: &[ShapeNode],
     sites: &[Site],
+    ids: &[u32],
     first: u32,
     left: u32,
     right: u32,
@@ -166,6 +177,7 @@ fn place_beside<R: Threads + Sync>(
 ) -> Result<(), EmbedEnd>
     requires shared { IsSync R.row }
     requires ground { IsGroundOf instance.now ground.now }
+    requires ids { AreIds instance.now.sinks nodes.now ids.now }
     requires left_ready { IsReady instance.now nodes.now sites.now left place }
     requires left_stretch { IsStretch nodes.now first left }
     requires right_ready { IsReady instance.now nodes.now sites.now right place }
@@ -180,25 +192,25 @@ fn place_beside<R: Threads + Sync>(
     let (here, there) = (workers - workers / 2, workers / 2);
     let middle = left + 1;
     let mut back = || -> Result<(), EmbedEnd>
-        requires { IsSync R.row × IsGroundOf instance.now ground.now
+        requires { IsSync R.row × IsGroundOf instance.now ground.now × AreIds instance.now.sinks nodes.now ids.now
             × IsReady instance.now nodes.now sites.now right place × IsStretch nodes.now middle right
             × (middle + length right_out.now ≡ right + 1) }
         ensures { IfOk result (λ _. ArePlaced instance.entry.now nodes.entry.now middle right right_out.exit.now)
             × IfErr result (StretchEnds instance.entry.now nodes.entry.now middle right) }
     {
         place_tree(
-            rt, alloc, there, instance, ground, nodes, sites, middle, right, place, right_out,
+            rt, alloc, there, instance, ground, nodes, sites, ids, middle, right, place, right_out,
         )
     };
     let mut front = || -> Result<(), EmbedEnd>
-        requires { IsSync R.row × IsGroundOf instance.now ground.now
+        requires { IsSync R.row × IsGroundOf instance.now ground.now × AreIds instance.now.sinks nodes.now ids.now
             × IsReady instance.now nodes.now sites.now left place × IsStretch nodes.now first left
             × (first + length left_out.now ≡ left + 1) }
         ensures { IfOk result (λ _. ArePlaced instance.entry.now nodes.entry.now first left left_out.exit.now)
             × IfErr result (StretchEnds instance.entry.now nodes.entry.now first left) }
     {
         place_tree(
-            rt, alloc, here, instance, ground, nodes, sites, first, left, place, left_out,
+            rt, alloc, here, instance, ground, nodes, sites, ids, first, left, place, left_out,
         )
     };
     let (right_end, left_end) = beside_mut(rt, &mut back, &mut front);
@@ -221,8 +233,28 @@ pub fn place_at(
     ensures placed { IfOk result (IsPlacedAt instance.now nodes.now number) }
     ensures ends { IfErr result (StretchEnds instance.now nodes.now number number) }
 {
+    let id = id_of(instance, nodes[number as usize]);
+    place_known(alloc, instance, ground, nodes, sites, number, id, from)
+}
+
+/// The same, where the id of a leaf's sink is known.
+fn place_known(
+    alloc: Global,
+    instance: &Instance,
+    ground: &Ground,
+    nodes: &[ShapeNode],
+    sites: &[Site],
+    number: u32,
+    id: u32,
+    from: Spot,
+) -> Result<TreeNode, EmbedEnd>
+    requires ground { IsGroundOf instance.now ground.now }
+    requires ready { IsReady instance.now nodes.now sites.now number from }
+    requires id { (e : ShapeNode) → IsIdOf instance.now.sinks (slice_index_or nodes.now number e) id }
+    ensures placed { IfOk result (IsPlacedAt instance.now nodes.now number) }
+    ensures ends { IfErr result (StretchEnds instance.now nodes.now number number) }
+{
     let node = nodes[number as usize];
-    let id = id_of(instance, node);
     match place_node(alloc, ground, node, id, &sites[number as usize], from) {
         Ok(placed) => Ok(placed),
         Err(RouteEnd::Cut) => Err(EmbedEnd::Cut { node: number }),
@@ -231,7 +263,7 @@ pub fn place_at(
 }
 
 /// The id of a leaf's sink; 0 at a pair, which has none.
-fn id_of(instance: &Instance, node: ShapeNode) -> u32
+pub(crate) fn id_of(instance: &Instance, node: ShapeNode) -> u32
     requires { (sink : ℕ) → node ≡ Leaf sink → sink < length instance.now.sinks }
     ensures { IsIdOf instance.now.sinks node result }
 {

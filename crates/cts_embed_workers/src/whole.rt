@@ -6,8 +6,9 @@ ghost use Rattle.cts_up.specs.Sites.{AreSites};
 ghost use Rattle.cts_embed.specs.Ends.{EmbedEnds};
 ghost use Rattle.cts_embed.specs.Fitting.{Fits};
 ghost use Rattle.cts_embed.specs.PlacedTree.{IsPlacedTree};
+ghost use Rattle.cts_embed_workers.specs.Stretches.{AreIds};
 
-use crate::tree::place_tree;
+use crate::tree::{id_of, place_tree};
 use cts_embed::{EmbedEnd, ground_of, source_place};
 use cts_geom::Spot;
 use cts_instance::Instance;
@@ -43,8 +44,24 @@ fn no_node() -> TreeNode {
     }
 }
 
+/// The ids of the leaves' sinks, each at the number of its leaf; 0 at a pair, which has none. They are looked up before the
+/// nodes are placed, since each look-up goes far in memory, and a node that waits for one takes far longer. Answers
+/// `NoMemory` where an allocation fails.
+pub fn ids_for(alloc: Global, instance: &Instance, shape: &Shape) -> Result<Vec<u32>, NoMemory>
+    requires shape { IsShapeOver (length instance.now.sinks) shape.now }
+    ensures { IfOk result (λ ids. AreIds instance.now.sinks shape.now ids.items) }
+{
+    let nodes = shape.nodes();
+    let mut ids = Vec::with_capacity(alloc, nodes.len())?;
+    for node in nodes {
+        ids.push(id_of(instance, *node))?;
+    }
+    Ok(ids)
+}
+
 /// The placed tree of a shape by the sites of its plan, as `cts_embed::embed_sites` gives it, by at most so many workers
-/// beside each other. The nodes go into the room, which has one place for each.
+/// beside each other. The nodes go into the room, which has one place for each. The ids of their sinks are those that
+/// [`ids_for`] lists.
 ///
 /// Answers `Cut` with the greatest number of a node that no route reaches, and `NoMemory` where an allocation fails; where
 /// both happen, either may be told.
@@ -55,10 +72,12 @@ pub fn embed_by<R: Threads + Sync>(
     instance: &Instance,
     shape: &Shape,
     sites: &[Site],
+    ids: &[u32],
     mut room: Vec<TreeNode>,
 ) -> Result<Placed, EmbedEnd>
     requires shape { IsShapeOver (length instance.now.sinks) shape.now }
     requires sites { AreSites instance.now.params instance.now.sinks shape.now sites.now }
+    requires ids { AreIds instance.now.sinks shape.now ids.now }
     requires room { length room.items ≡ length shape.now }
     ensures placed { IfOk result (IsPlacedTree instance.now shape.now) }
     ensures fits { IfOk result (Fits instance.now) }
@@ -71,6 +90,7 @@ pub fn embed_by<R: Threads + Sync>(
         instance,
         shape.nodes(),
         sites,
+        ids,
         room.as_mut_slice(),
     )?;
     Ok(Placed::of(room))
@@ -84,10 +104,12 @@ fn place_all<R: Threads + Sync>(
     instance: &Instance,
     nodes: &[ShapeNode],
     sites: &[Site],
+    ids: &[u32],
     out: &mut [TreeNode],
 ) -> Result<(), EmbedEnd>
     requires shape { IsShapeOver (length instance.now.sinks) nodes.now }
     requires sites { AreSites instance.now.params instance.now.sinks nodes.now sites.now }
+    requires ids { AreIds instance.now.sinks nodes.now ids.now }
     requires room { length out.old ≡ length nodes.now }
     ensures placed { IfOk result (λ _. IsPlacedTree instance.now nodes.now out.new) }
     ensures fits { IfOk result (λ _. Fits instance.now out.new) }
@@ -103,6 +125,7 @@ fn place_all<R: Threads + Sync>(
         &ground,
         nodes,
         sites,
+        ids,
         0,
         last,
         source_place(instance),

@@ -49,8 +49,28 @@ impl Memo {
     ghost use Rattle.cts_memo.specs.Passes.{IsPassOf, IsPublication, params_of};
     ghost use Rattle.cts_memo.specs.Tables.{base_of, told_by};
 
-    /// A memo without entries, whose room grows with them, and the pass with the whole share of it. The
-    /// secret is that of the hash of keys; no answer depends on it. `NoMemory` comes where an allocation fails.
+    /// A memo without entries, with room for so many, or for 2^21 where that is less, and the pass with the whole share of
+    /// it. Its room grows with its entries. The secret is that of the hash of keys; no answer depends on it. `NoMemory` comes
+    /// where an allocation fails.
+    pub fn start_with_room(
+        alloc: Global,
+        params: &Params,
+        secret: Secret,
+        entries: usize,
+    ) -> Result<(Memo, MemoPass), NoMemory>
+        requires { IsParams params.now }
+        ensures params { IfOk result (λ m. params_of m.0 ≡ params.now) }
+        ensures own { IfOk result (λ m. IsPassOf m.0 m.1) }
+        ensures pass { IfOk result (λ m. (seen_by m.1 ≡ []) × (made_by m.1 ≡ 0) × (share_of m.1 ≡ 65536)) }
+    {
+        let kept = params.try_clone(alloc)?;
+        let mut table = Table::new(alloc, params, secret);
+        table.reserve(entries)?;
+        let (turn, pass) = Turn::start(alloc, table)?;
+        Ok((Memo { turn, params: kept }, pass))
+    }
+
+    /// The same without room for any entry.
     pub fn start_seeded(
         alloc: Global,
         params: &Params,
@@ -61,10 +81,7 @@ impl Memo {
         ensures own { IfOk result (λ m. IsPassOf m.0 m.1) }
         ensures pass { IfOk result (λ m. (seen_by m.1 ≡ []) × (made_by m.1 ≡ 0) × (share_of m.1 ≡ 65536)) }
     {
-        let kept = params.try_clone(alloc)?;
-        let table = Table::new(alloc, params, secret);
-        let (turn, pass) = Turn::start(alloc, table)?;
-        Ok((Memo { turn, params: kept }, pass))
+        Memo::start_with_room(alloc, params, secret, 0)
     }
 
     /// A memo without entries, and the pass with the whole share of it. Everybody knows the secret of its

@@ -1,5 +1,8 @@
 //! The hash of a table's keys.
 
+ghost use Rattle.std.specs.Prelude.{◌≡◌};
+ghost use Rattle.cts_memo.specs.Secrets.{seeded_by};
+
 use crate::secret::Secret;
 use std::hash::{BuildHasher, FoldHasher, Hasher};
 
@@ -12,7 +15,9 @@ pub struct Seeded {
 
 impl Seeded {
     /// Makes hashers that begin with this secret.
-    pub fn new(secret: Secret) -> Seeded {
+    pub fn new(secret: Secret) -> Seeded
+        ensures { result.start ≡ seeded_by secret }
+    {
         let mut start = FoldHasher::default();
         start.write_u64(secret.low);
         start.write_u64(secret.high);

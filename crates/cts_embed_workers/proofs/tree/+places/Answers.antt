@@ -1,6 +1,7 @@
 use Rattle.std.proofs.Common.{rules, ◌≡◌, ◌+◌, ◌<◌, ◌≤◌, length, IfOk, IfErr, refl, arith}
 use Rattle.cts_topo.specs.declared.shape.ShapeNode.TheVariants.{Leaf}
 use Rattle.cts_embed_workers.specs.Stretches.{ArePlaced, IsReady, IsStretch, StretchEnds}
+use Rattle.cts_embed_workers.proofs.Ids.{id_at, ids_long}
 use Rattle.cts_embed_workers.proofs.Stretches.{begins_before, leaf_stretch, right_next, left_stretch, right_stretch, in_order, left_ready, right_ready, placed_joined, placed_leaf, placed_pair, ends_in_back, ends_in_front, ends_below, ok_both, err_weaker}
 use Rattle.std.proofs.lemmas.Result.{IfOk-at_ok, IfOk-weaker}
 use Rattle.cts_embed_workers.proofs.tree.+places.Goals as goal
@@ -10,13 +11,13 @@ place_beside-returns-clause-ends g t c =
     let told : IfErr c.beside_mut-right_end.result.1 (StretchEnds c.args.instance.now c.args.nodes.now c.args.first c.args.left) =
     c.beside_mut-right_end.ensures.1.met.1.1 in
     let right : IfOk c.beside_mut-right_end.result.0
-    (λ x. ArePlaced c.args.instance.now c.args.nodes.now (c.args.left + 1) c.args.right c.beside_mut-right_end.new.f.10.now) =
+    (λ x. ArePlaced c.args.instance.now c.args.nodes.now (c.args.left + 1) c.args.right c.beside_mut-right_end.new.f.11.now) =
     c.beside_mut-right_end.ensures.0.met.1.0 in
     err_weaker c.beside_mut-right_end.result.1 (StretchEnds c.args.instance.now c.args.nodes.now c.args.first c.args.left)
     (StretchEnds c.args.instance.now c.args.nodes.now c.args.first c.args.right)
     (λ end ends. ends_in_front c.args.instance.now c.args.nodes.now c.args.first c.args.left (c.args.left + 1) c.args.right
-    c.beside_mut-right_end.new.f.10.now end refl (omega (arith, c.requires.order.1))
-    (IfOk-at_ok (λ x. ArePlaced c.args.instance.now c.args.nodes.now (c.args.left + 1) c.args.right c.beside_mut-right_end.new.f.10.now)
+    c.beside_mut-right_end.new.f.11.now end refl (omega (arith, c.requires.order.1))
+    (IfOk-at_ok (λ x. ArePlaced c.args.instance.now c.args.nodes.now (c.args.left + 1) c.args.right c.beside_mut-right_end.new.f.11.now)
     c.in_ok-right_end.was right) ends)
     told
 
@@ -80,7 +81,7 @@ place_tree-place_parts-requires g t c κs within =
     let room : c.args.first + length c.split_at_mut-below.result.0.now ≡ c.in-Pair.right + 1 =
     omega (arith, next, c.split_at_mut-below.ensures.front_len, begins) in (
       omega (arith, c.decreases, next, begins, c.split_at_mut-below.ensures.front_len, c.requires.room),
-      (within, (c.requires.shared, (c.requires.shared, (c.requires.ground, (ready_left, (stretch_left, (ready_right, (stretch_right, (room, order))))))))),
+      (within, (c.requires.shared, (c.requires.shared, (c.requires.ground, (c.requires.ids, (ready_left, (stretch_left, (ready_right, (stretch_right, (room, order)))))))))),
     )
 
 pub place_tree-returns-in-Leaf-clause-placed : goal.place_tree-returns-in-Leaf-clause-placed
@@ -136,16 +137,19 @@ place_parts-place_in_turn-requires g t c κs within = (
         (
           c.requires.ground,
           (
-            c.requires.left_ready,
+            c.requires.ids,
             (
-              c.requires.left_stretch,
+              c.requires.left_ready,
               (
-                c.requires.right_ready,
+                c.requires.left_stretch,
                 (
-                  c.requires.right_stretch,
+                  c.requires.right_ready,
                   (
-                    omega (arith, c.split_at_mut-left_out.ensures.front_len, c.requires.order.0),
-                    (omega (arith, c.split_at_mut-left_out.ensures.front_len, c.split_at_mut-left_out.ensures.back_len, c.requires.room, c.requires.order.0, c.requires.order.1), c.requires.order),
+                    c.requires.right_stretch,
+                    (
+                      omega (arith, c.split_at_mut-left_out.ensures.front_len, c.requires.order.0),
+                      (omega (arith, c.split_at_mut-left_out.ensures.front_len, c.split_at_mut-left_out.ensures.back_len, c.requires.room, c.requires.order.0, c.requires.order.1), c.requires.order),
+                    ),
                   ),
                 ),
               ),
@@ -169,16 +173,19 @@ place_parts-place_beside-requires g t c κs within = (
         (
           c.requires.ground,
           (
-            c.requires.left_ready,
+            c.requires.ids,
             (
-              c.requires.left_stretch,
+              c.requires.left_ready,
               (
-                c.requires.right_ready,
+                c.requires.left_stretch,
                 (
-                  c.requires.right_stretch,
+                  c.requires.right_ready,
                   (
-                    omega (arith, c.split_at_mut-left_out.ensures.front_len, c.requires.order.0),
-                    (omega (arith, c.split_at_mut-left_out.ensures.front_len, c.split_at_mut-left_out.ensures.back_len, c.requires.room, c.requires.order.0, c.requires.order.1), c.requires.order),
+                    c.requires.right_stretch,
+                    (
+                      omega (arith, c.split_at_mut-left_out.ensures.front_len, c.requires.order.0),
+                      (omega (arith, c.split_at_mut-left_out.ensures.front_len, c.split_at_mut-left_out.ensures.back_len, c.requires.room, c.requires.order.0, c.requires.order.1), c.requires.order),
+                    ),
                   ),
                 ),
               ),
@@ -193,13 +200,13 @@ place_parts-place_beside-requires g t c κs within = (
 pub place_in_turn-place_tree-requires : goal.place_in_turn-place_tree-requires
 place_in_turn-place_tree-requires g t c κs within = (
   omega (arith, c.decreases),
-  (within, (c.requires.shared, (c.requires.shared, (c.requires.ground, (c.requires.right_ready, (c.requires.right_stretch, c.requires.right_room)))))),
+  (within, (c.requires.shared, (c.requires.shared, (c.requires.ground, (c.requires.ids, (c.requires.right_ready, (c.requires.right_stretch, c.requires.right_room))))))),
 )
 
 pub place_in_turn-place_tree-requires-2 : goal.place_in_turn-place_tree-requires-2
 place_in_turn-place_tree-requires-2 g t c κs within = (
   omega (arith, c.decreases),
-  (within, (c.requires.shared, (c.requires.shared, (c.requires.ground, (c.requires.left_ready, (c.requires.left_stretch, c.requires.left_room)))))),
+  (within, (c.requires.shared, (c.requires.shared, (c.requires.ground, (c.requires.ids, (c.requires.left_ready, (c.requires.left_stretch, c.requires.left_room))))))),
 )
 
 pub place_in_turn-returns-in_err-place_tree-clause-ends : goal.place_in_turn-returns-in_err-place_tree-clause-ends
@@ -208,3 +215,15 @@ place_in_turn-returns-in_err-place_tree-clause-ends g t c =
     ends_in_back c.args.instance.now c.args.nodes.now c.args.first (c.args.left + 1) c.args.right c.in_err-place_tree.field-0.0
     (omega (arith, c.requires.order.0)) c.in_err-place_tree.ensures.ends in
     search rules
+
+pub place_tree-bounds-ids-root : goal.place_tree-bounds-ids-root
+place_tree-bounds-ids-root g t c =
+    omega (
+      arith,
+      ids_long c.args.instance.now.sinks c.args.nodes.now c.args.ids.now c.requires.ids,
+      c.requires.ready.within,
+    )
+
+pub place_tree-place_known-requires-clause-id : goal.place_tree-place_known-requires-clause-id
+place_tree-place_known-requires-clause-id g t c = λ e.
+    id_at c.args.instance.now.sinks c.args.nodes.now c.args.ids.now c.args.root e 0 c.requires.ids c.requires.ready.within
