@@ -1,6 +1,6 @@
 -- Secrets, by the parts of an input that were mixed into them. Each part is a list of bytes, as SipHash takes it.
-use Rattle.std.specs.Prelude.{◌≡◌, ℤ, List, [], ◌++◌}
-use Rattle.std.specs.List.{flat_map, fold}
+use Rattle.std.specs.Prelude.{◌≡◌, ℤ, ◌++◌}
+use Rattle.std.specs.List.{fold}
 use Rattle.std.specs.Hash.{HashWrites, u64, i64}
 use Rattle.std.specs.Hash.DefaultHasher.{initial, write, finish}
 use Rattle.std.specs.Hash.FoldHasher.{write as fold_write, initial as fold_initial}

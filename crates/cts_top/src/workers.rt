@@ -2,18 +2,18 @@
 
 ghost use Rattle.std.specs.Prelude.{◌≡◌, ◌≤◌, [], length, map, IfErr, IfOk, MatchOption};
 ghost use Rattle.cts_topo.specs.Shape.{IsShapeOver};
-ghost use Rattle.cts_topo.specs.Sinks.{AreSinks};
 ghost use Rattle.cts_topo.specs.Topology.{shape_of};
 ghost use Rattle.cts_up.specs.Plan.{IsPlan};
 ghost use Rattle.cts_up.specs.Sites.{site_of};
 ghost use Rattle.cts_embed.specs.Fitting.{Fits};
+ghost use Rattle.cts_embed_workers.specs.Stretches.{AreIds};
 ghost use Rattle.cts_plain.specs.Ends.{EndsWithPlan};
 ghost use Rattle.cts_plain.specs.Synthesis.{IsPlacedBy};
 ghost use Rattle.cts_turn.specs.Passes.{seen_by, share_of};
 ghost use Rattle.cts_memo.specs.Passes.{IsPassOf, params_of};
 ghost use Rattle.cts_memo.specs.Sound.{IsSound, max_entries};
 ghost use Rattle.cts_memo.specs.Tables.{base_of, room_of, told_by};
-ghost use Rattle.cts_top.specs.Memos.{IsFilled, IsReadyFor};
+ghost use Rattle.cts_top.specs.Memos.{IsFilled, IsNewMemo, IsReadyFor};
 ghost use Rattle.cts_top.specs.Synthesised.{IsSynthesised};
 ghost use Rattle.cts_work.specs.Filling.{HasRoom};
 ghost use Rattle.cts_work.specs.Plans.{nodes_of};
@@ -22,7 +22,7 @@ use crate::valid::instance_is_valid;
 use cts_beside::beside;
 use cts_elmore::Figures;
 use cts_embed::embed_sites;
-use cts_embed_workers::{embed_by, room_for};
+use cts_embed_workers::{embed_by, ids_for, room_for};
 use cts_instance::Instance;
 use cts_memo::{Memo, MemoPass, Secret, Table};
 use cts_num::NoMemory;
@@ -30,11 +30,10 @@ use cts_plain::{NoTree, settle};
 use cts_topo::Shape;
 use cts_topo_workers::topology_by;
 use cts_tree::{Placed, Tree, TreeNode};
-use cts_units::Sink;
 use cts_up::Site;
 use cts_work::{Gate, Numbers, Plan, fill_table};
 use std::alloc::Global;
-use std::thread::Threads;
+use std::thread::{Threads, join};
 
 /// Room for the plan of a shape in a table that has no entries yet, so that it can be brought there without memory.
 pub(crate) fn make_room(
@@ -90,24 +89,46 @@ pub(crate) fn closed(memo: Memo, pass: MemoPass) -> Table
     }
 }
 
-/// Room for the nodes of a tree, which a thread of its own has meanwhile, and the sites of its plan.
+/// What the nodes of a tree are placed by: room for them, the ids of their sinks, and the sites of the plan.
+#[derive(Drop)]
+struct Ground {
+    room: Vec<TreeNode>,
+    ids: Vec<u32>,
+    sites: Vec<Site>,
+}
+
+/// Room for the nodes of a tree, the ids of their sinks and the sites of its plan, which three threads make.
 fn list_sites<R: Threads>(
     rt: &R,
     alloc: Global,
+    instance: &Instance,
     shape: &Shape,
     plan: &Plan,
-) -> (Result<Vec<TreeNode>, NoMemory>, Result<Vec<Site>, NoMemory>)
-    ensures room { IfOk result.0 (λ room. length room.items ≡ length shape.now) }
-    ensures sites { IfOk result.1 (λ sites. sites.items ≡ map site_of (nodes_of plan.now)) }
+) -> Result<Ground, NoMemory>
+    requires shape { IsShapeOver (length instance.now.sinks) shape.now }
+    ensures room { IfOk result (λ made. length made.room.items ≡ length shape.now) }
+    ensures ids { IfOk result (λ made. AreIds instance.now.sinks shape.now made.ids.items) }
+    ensures sites { IfOk result (λ made. made.sites.items ≡ map site_of (nodes_of plan.now)) }
 {
     let count = shape.nodes().len();
     let room = move || -> Result<Vec<TreeNode>, NoMemory>
         ensures { IfOk result (λ room. length room.items ≡ count) }
     { room_for(alloc, count) };
+    let ids = move || -> Result<Vec<u32>, NoMemory>
+        requires { IsShapeOver (length instance.now.sinks) shape.now }
+        ensures { IfOk result (λ ids. AreIds instance.entry.now.sinks shape.entry.now ids.items) }
+    { ids_for(alloc, instance, shape) };
     let list = move || -> Result<Vec<Site>, NoMemory>
         ensures { IfOk result (λ sites. sites.items ≡ map site_of (nodes_of plan.entry.now)) }
     { plan.sites(alloc) };
-    beside(rt, room, list)
+    let both = move || -> (Result<Vec<u32>, NoMemory>, Result<Vec<Site>, NoMemory>)
+        requires { IsShapeOver (length instance.now.sinks) shape.now }
+        ensures { IfOk result.0 (λ ids. AreIds instance.entry.now.sinks shape.entry.now ids.items)
+            × IfOk result.1 (λ sites. sites.items ≡ map site_of (nodes_of plan.entry.now)) }
+    { join(rt, ids, list) };
+    let (room, (ids, sites)) = beside(rt, room, both);
+    let (room, ids, sites) = (room?, ids?, sites?);
+    Ok(Ground { room, ids, sites })
 }
 
 /// The nodes of the shape of an instance in their places, by its plan, which one thread places.
@@ -146,10 +167,9 @@ fn place_plan<R: Threads + Sync>(
     if workers < 3 {
         return place_alone(alloc, instance, shape, plan);
     }
-    let (room, sites) = list_sites(rt, alloc, shape, plan);
-    let sites = sites?;
-    let sites = sites.as_slice();
-    Ok(embed_by(rt, alloc, workers, instance, shape, sites, room?)?)
+    let Ground { room, ids, sites } = list_sites(rt, alloc, instance, shape, plan)?;
+    let (sites, ids) = (sites.as_slice(), ids.as_slice());
+    Ok(embed_by(rt, alloc, workers, instance, shape, sites, ids, room)?)
 }
 
 /// What the plan of an instance comes to, whose nodes so many workers place.
@@ -173,23 +193,28 @@ pub(crate) fn finish_plan<R: Threads + Sync>(
     }
 }
 
-/// The shape over sinks, by so many workers, and the secret of the memo, which a thread of its own makes meanwhile.
+/// The shape over the sinks of an instance, by so many workers, and a memo without entries, which a thread of its own starts
+/// meanwhile, with room for all nodes of the shape.
 pub(crate) fn make_shape<R: Threads + Sync>(
     rt: &R,
     alloc: Global,
-    sinks: &[Sink],
+    instance: &Instance,
     workers: u32,
-) -> (Result<Shape, NoMemory>, Secret)
-    requires { AreSinks sinks.now }
-    ensures definition { IfOk result.0 (λ shape. shape ≡ shape_of sinks.now) }
-    ensures shape { IfOk result.0 (IsShapeOver (length sinks.now)) }
+) -> (Result<Shape, NoMemory>, Result<(Memo, MemoPass), NoMemory>)
+    ensures definition { IfOk result.0 (λ shape. shape ≡ shape_of instance.now.sinks) }
+    ensures shape { IfOk result.0 (IsShapeOver (length instance.now.sinks)) }
+    ensures memo { IfOk result.1 (IsNewMemo instance.now) }
 {
-    let mix = move || Secret::of_sinks(sinks);
+    let start = move || -> Result<(Memo, MemoPass), NoMemory>
+        ensures { IfOk result (IsNewMemo instance.entry.now) }
+    {
+        let sinks = instance.sinks();
+        Memo::start_with_room(alloc, instance.params(), Secret::of_sinks(sinks), 2 * sinks.len())
+    };
     let divide = move || -> Result<Shape, NoMemory>
-        requires { AreSinks sinks.now }
-        ensures definition { IfOk result (λ shape. shape ≡ shape_of sinks.entry.now) }
-        ensures shape { IfOk result (IsShapeOver (length sinks.entry.now)) }
-    { topology_by(rt, alloc, sinks, workers) };
-    let (secret, shape) = beside(rt, mix, divide);
-    (shape, secret)
+        ensures definition { IfOk result (λ shape. shape ≡ shape_of instance.entry.now.sinks) }
+        ensures shape { IfOk result (IsShapeOver (length instance.entry.now.sinks)) }
+    { topology_by(rt, alloc, instance.sinks(), workers) };
+    let (memo, shape) = beside(rt, start, divide);
+    (shape, memo)
 }
