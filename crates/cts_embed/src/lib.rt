@@ -29,3 +29,4 @@ pub use ground::Ground;
 pub use node::NodeBalance;
 pub use placing::{ground_of, place_node, source_place};
 pub use upward::{is_root_within, leaf_balance, pair_balance};
+pub use wires::balance_part;
