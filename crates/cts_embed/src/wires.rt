@@ -22,10 +22,10 @@ use std::alloc::Global;
 /// Balances a stretch of placed nodes that are those of one tree, of which the first has the number `first`, so that its
 /// pairs name their children by the numbers from there on.
 ///
-/// Each node below a pair of the stretch gets the length of its wire in nm, as the balance makes it of that pair. What the
-/// balance makes of the stretch's root is answered, and its own wire stays as it was. The pins are those of the leaves' sinks,
-/// in the order of the leaves. Answers `Beyond` with the least number of a pair of the stretch that is over the limits of
-/// wires, loads or delays, and `NoMemory` where an allocation fails; then some wires are set and the others are as they were.
+/// Each node below a pair of the stretch gets the length of its wire in nm, as the balance makes it of that pair, and what
+/// the balance makes of the stretch's root is answered; the root's own wire is for the caller to set. The pins are those of
+/// the leaves' sinks, in the order of the leaves. Answers `Beyond` with the least number of a pair of the stretch that is
+/// over the limits of wires, loads or delays, and `NoMemory` where an allocation fails; some wires may be set by then.
 pub fn balance_part(
     alloc: Global,
     instance: &Instance,
