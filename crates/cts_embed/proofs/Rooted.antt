@@ -1,20 +1,21 @@
 -- A balanced stretch that is the whole of a placed tree, and the root's own wire, which is set last.
-use Rattle.std.proofs.Common.{◌≡◌, ℕ, ◌+◌, ◌-◌, ◌<◌, inl, List, [], ◌∷◌, ◌++◌, map, set, length, get_or, refl, sym, ap, subst, ◌∙◌, arith, length-append}
+use Rattle.std.proofs.Common.{◌≡◌, ℕ, ◌≤◌, ◌+◌, ◌-◌, ◌<◌, inl, List, [], ◌∷◌, ◌++◌, map, set, length, get_or, refl, sym, ap, subst, ◌∙◌, arith, length-append}
 use Rattle.std.specs.Prelude.{IfSome}
 use Rattle.std.specs.List.{All, AllZip}
 use Rattle.std.proofs.lemmas.List.Elements.{All-append, All-cons, All-nil, All-head, All-tail}
-use Rattle.cts_postorder.specs.BinaryTree.{BinaryTree, tip, fork, label, size, root_number}
+use Rattle.cts_postorder.specs.BinaryTree.{BinaryTree, tip, fork, label, labels, size, root_number, IsNumbered}
 use Rattle.cts_postorder.specs.PostOrder.{IsPostOrder, root_of}
 use Rattle.cts_postorder.specs.Occurrence.{Occurrence, occurrence, occurrences, occurrences_of}
 use Rattle.cts_postorder.specs.Pass.{IsLeastFailure}
 use Rattle.cts_postorder.proofs.Lists.{Whole, whole_of, length_pos, length-occurrences_of}
 use Rattle.cts_postorder.proofs.Places.{get_or-occurrences-root}
 use Rattle.cts_postorder.proofs.Sizes.{length-occurrences, root_number-next}
+use Rattle.cts_postorder.proofs.Stretches.{names_from}
 use Rattle.cts_postorder.proofs.Zips.{all_zip-at}
 use Rattle.cts_tree.specs.declared.nodes.NodeKind.{NodeKind}
 use Rattle.cts_tree.specs.declared.nodes.NodeKind.TheVariants.{Leaf, Pair}
 use Rattle.cts_tree.specs.declared.nodes.TreeNode.{TreeNode}
-use Rattle.cts_tree.specs.Nodes.{children_from, tree_children}
+use Rattle.cts_tree.specs.Nodes.{children_of, children_from, tree_children}
 use Rattle.cts_tree.proofs.Stretches.{whole_from_start}
 use Rattle.cts_instance.specs.declared.parts.Parts.{Parts}
 use Rattle.cts_embed.specs.declared.end.BalanceEnd.{BalanceEnd}
@@ -34,6 +35,17 @@ names_from_start : (kind : NodeKind) → NamesFrom 0 kind
 unfolding NamesFrom
 names_from_start (Leaf id sink) = tt
 names_from_start (Pair left right buffer) = (omega arith, omega arith)
+
+-- a tree that is numbered from a number on names no lower one
+names_of : (first : ℕ) (kind : NodeKind) → IfSome (children_of kind) (λ (c : ℕ × ℕ). (first ≤ c.0) × (first ≤ c.1)) → NamesFrom first kind
+unfolding NamesFrom
+names_of first (Leaf id sink) above = tt
+names_of first (Pair left right buffer) above = above
+
+pub names_from_first : (first : ℕ) (t : BinaryTree TreeNode) → IsNumbered tree_children first t
+    → All (λ node. NamesFrom first node.kind) (labels t)
+names_from_first first t numbered k d h =
+    names_of first (get_or (labels t) k d).kind (names_from tree_children t first first (omega arith) numbered k d h)
 
 pub all_from_start : (nodes : List TreeNode) → All (λ node. NamesFrom 0 node.kind) nodes
 all_from_start nodes k d h = names_from_start (get_or nodes k d).kind
