@@ -5,6 +5,7 @@ pub mod Beyond
 pub mod Pins
 pub mod Steps
 pub mod Root
+pub mod Rooted
 pub mod PartsOfPairs
 pub mod HandedDown
 pub mod Ascent

@@ -1,5 +1,5 @@
 -- One step of the balance: what is known of the node at the next number.
-use Rattle.std.proofs.Common.{◌≡◌, ℕ, ◌+◌, ◌<◌, ◌≤◌, ◌++◌, ◌∷◌, [], List, map, length, get_or, slice_get, Option, Some, None, IfSome, MatchOption, sym, ap, subst, ◌∙◌, arith}
+use Rattle.std.proofs.Common.{◌≡◌, ℕ, ◌+◌, ◌-◌, ◌<◌, ◌≤◌, ◌++◌, ◌∷◌, [], List, map, length, get_or, slice_get, Option, Some, None, IfSome, MatchOption, sym, ap, subst, ◌∙◌, arith}
 use Rattle.std.specs.List.{All}
 use Rattle.std.proofs.lemmas.Option.{slice_get-get_or}
 use Rattle.cts_units.specs.declared.params.Sink.{Sink}
@@ -16,7 +16,7 @@ use Rattle.cts_postorder.proofs.Waiting.{AtPair, waiting_at_leaf, waiting_at_pai
 use Rattle.cts_tree.specs.declared.nodes.NodeKind.{NodeKind}
 use Rattle.cts_tree.specs.declared.nodes.NodeKind.TheVariants.{Leaf, Pair}
 use Rattle.cts_tree.specs.declared.nodes.TreeNode.{TreeNode}
-use Rattle.cts_tree.specs.Nodes.{children_of, tree_children, buffer_of}
+use Rattle.cts_tree.specs.Nodes.{children_of_from, children_from, buffer_of}
 use Rattle.cts_embed.specs.declared.node.NodeBalance.{NodeBalance}
 use Rattle.cts_embed.specs.Balance.{IsBalance, IsBeyondBalance, IsLeafBalance, IsPairBalance, IsPairBeyond, sink_of}
 use Rattle.cts_embed.specs.Fitting.{NamesWithin}
@@ -52,15 +52,15 @@ module _ {N V : Type 0} (kids : N → Option (ℕ × ℕ)) (R : BinaryTree N →
   pub stood : StandsAt kids nodes R number v → R t v
   stood has = subst (λ o. IfSome o (λ u. R u v)) (tree_found kids nodes number t d within is) has
 
--- The nodes of a placed tree, and the balances that wait at number k.
-module _ (params : Params) (sinks : List Sink) (nodes : List TreeNode) (ok : IsPostOrder (map tree_children nodes))
+-- The nodes of a stretch of a placed tree, whose children are counted from `first` on, and the balances that wait at number k.
+module _ (first : ℕ) (params : Params) (sinks : List Sink) (nodes : List TreeNode) (ok : IsPostOrder (map (children_from first) nodes))
     (k : ℕ) (h : k < length nodes) (waiting : List NodeBalance)
-    (before : AreWaiting tree_children nodes (IsBalance params sinks) k waiting) where
+    (before : AreWaiting (children_from first) nodes (IsBalance params sinks) k waiting) where
   abbrev pub Here : NodeBalance → Type 0
-  Here node = StandsAt tree_children nodes (IsBalance params sinks) k node
+  Here node = StandsAt (children_from first) nodes (IsBalance params sinks) k node
 
   abbrev pub BeyondHere : Type 0
-  BeyondHere = IfSome (slice_get (trees_of tree_children nodes) k) (IsBeyondBalance params sinks)
+  BeyondHere = IfSome (slice_get (trees_of (children_from first) nodes) k) (IsBeyondBalance params sinks)
 
   module _ (id s : ℕ) (e : TreeNode) (here : (get_or nodes k e).kind ≡ Leaf id s) (within : s < length sinks) (d : Sink)
       (node : NodeBalance) (leaf : IsLeafBalance (get_or sinks s d) node) where
@@ -71,75 +71,75 @@ module _ (params : Params) (sinks : List Sink) (nodes : List TreeNode) (ok : IsP
         let named : sink_of sinks n.kind ≡ Some (get_or sinks s d) = ap (sink_of sinks) here ∙ slice_get-get_or sinks s d within in
         let is : IsBalance params sinks (tip n) node =
         subst (λ (o : Option Sink). MatchOption o ⊥ (λ x. IsLeafBalance x node)) (sym named) leaf in
-        stands tree_children (IsBalance params sinks) nodes k (tip n) (tip e) node h
-        (leaf_here tree_children (IsBalance params sinks) nodes k e (tip e) h (ap children_of here)) is
+        stands (children_from first) (IsBalance params sinks) nodes k (tip n) (tip e) node h
+        (leaf_here (children_from first) (IsBalance params sinks) nodes k e (tip e) h (ap (children_of_from first) here)) is
 
-    pub leaf_next : AreWaiting tree_children nodes (IsBalance params sinks) (k + 1) (waiting ++ node ∷ [])
-    leaf_next = waiting_at_leaf tree_children nodes (IsBalance params sinks) k e h waiting before (ap children_of here) node leaf_stands
+    pub leaf_next : AreWaiting (children_from first) nodes (IsBalance params sinks) (k + 1) (waiting ++ node ∷ [])
+    leaf_next = waiting_at_leaf (children_from first) nodes (IsBalance params sinks) k e h waiting before (ap (children_of_from first) here) node leaf_stands
 
   module _ (left right : ℕ) (buffer : Option ℕ) (e : TreeNode) (here : (get_or nodes k e).kind ≡ Pair left right buffer) where
-    at_pair : IsPair tree_children nodes k (left, right) (get_or nodes k e)
-    at_pair = is_pair tree_children nodes ok k e (left, right) h (ap children_of here)
+    at_pair : IsPair (children_from first) nodes k (left - first, right - first) (get_or nodes k e)
+    at_pair = is_pair (children_from first) nodes ok k e (left - first, right - first) h (ap (children_of_from first) here)
 
-    pub left_within : left < length nodes
+    pub left_within : left - first < length nodes
     left_within = omega (arith, at_pair.left_below)
 
-    pub right_within : right < length nodes
+    pub right_within : right - first < length nodes
     right_within = omega (arith, at_pair.right_below)
 
     pub two_ready : 2 ≤ length waiting
-    two_ready = two_wait tree_children nodes (IsBalance params sinks) k e h waiting before (left, right) (ap children_of here)
+    two_ready = two_wait (children_from first) nodes (IsBalance params sinks) k e h waiting before (left - first, right - first) (ap (children_of_from first) here)
 
-    left_label : (f : TreeNode) → label at_pair.left ≡ get_or nodes left f
+    left_label : (f : TreeNode) → label at_pair.left ≡ get_or nodes (left - first) f
     left_label f =
-        ap label (sym (at_pair.left_tree (tip e))) ∙ label-tree tree_children nodes left (tip e) f left_within
+        ap label (sym (at_pair.left_tree (tip e))) ∙ label-tree (children_from first) nodes (left - first) (tip e) f left_within
 
-    right_label : (f : TreeNode) → label at_pair.right ≡ get_or nodes right f
+    right_label : (f : TreeNode) → label at_pair.right ≡ get_or nodes (right - first) f
     right_label f =
-        ap label (sym (at_pair.right_tree (tip e))) ∙ label-tree tree_children nodes right (tip e) f right_within
+        ap label (sym (at_pair.right_tree (tip e))) ∙ label-tree (children_from first) nodes (right - first) (tip e) f right_within
 
     -- the balances of the two children
     module _ (rest : List NodeBalance) (a b : NodeBalance) (taken : waiting ≡ rest ++ a ∷ b ∷ []) where
-      values : AtPair tree_children nodes (IsBalance params sinks) k (left, right) rest a b
+      values : AtPair (children_from first) nodes (IsBalance params sinks) k (left - first, right - first) rest a b
       values =
-          waiting_at_pair tree_children nodes (IsBalance params sinks) k e h waiting before (left, right) (ap children_of here) rest a b taken
+          waiting_at_pair (children_from first) nodes (IsBalance params sinks) k e h waiting before (left - first, right - first) (ap (children_of_from first) here) rest a b taken
 
       left_is : IsBalance params sinks at_pair.left a
       left_is =
-          stood tree_children (IsBalance params sinks) nodes left at_pair.left (tip e) a left_within (at_pair.left_tree (tip e)) values.left_value
+          stood (children_from first) (IsBalance params sinks) nodes (left - first) at_pair.left (tip e) a left_within (at_pair.left_tree (tip e)) values.left_value
 
       right_is : IsBalance params sinks at_pair.right b
       right_is =
-          stood tree_children (IsBalance params sinks) nodes right at_pair.right (tip e) b right_within (at_pair.right_tree (tip e))
+          stood (children_from first) (IsBalance params sinks) nodes (right - first) at_pair.right (tip e) b right_within (at_pair.right_tree (tip e))
           values.right_value
 
       -- each of which has no more nodes than there are
       few_below : (number : ℕ) (u : BinaryTree TreeNode) → number < length nodes
-          → ((d : BinaryTree TreeNode) → get_or (trees_of tree_children nodes) number d ≡ u) → length nodes ≤ 131071 → size u ≤ 131071
+          → ((d : BinaryTree TreeNode) → get_or (trees_of (children_from first) nodes) number d ≡ u) → length nodes ≤ 131071 → size u ≤ 131071
       few_below number u within is few =
-          omega (arith, size-tree tree_children nodes ok number (tip e) within, ap size (is (tip e)), few, within)
+          omega (arith, size-tree (children_from first) nodes ok number (tip e) within, ap size (is (tip e)), few, within)
 
       pub left_ready : IsParams params → All IsSmallSink sinks → length nodes ≤ 131071 → IsInRange a
       left_ready ranged small few =
-          in_range params sinks at_pair.left a left_is ranged small (few_below left at_pair.left left_within at_pair.left_tree few)
+          in_range params sinks at_pair.left a left_is ranged small (few_below (left - first) at_pair.left left_within at_pair.left_tree few)
 
       pub right_ready : IsParams params → All IsSmallSink sinks → length nodes ≤ 131071 → IsInRange b
       right_ready ranged small few =
-          in_range params sinks at_pair.right b right_is ranged small (few_below right at_pair.right right_within at_pair.right_tree few)
+          in_range params sinks at_pair.right b right_is ranged small (few_below (right - first) at_pair.right right_within at_pair.right_tree few)
 
       -- the lengths of the routes to them
-      module _ (f g : TreeNode) (la lb : ℕ) (first_route : la ≡ (get_or nodes left f).route.length)
-          (second_route : lb ≡ (get_or nodes right g).route.length) where
+      module _ (f g : TreeNode) (la lb : ℕ) (first_route : la ≡ (get_or nodes (left - first) f).route.length)
+          (second_route : lb ≡ (get_or nodes (right - first) g).route.length) where
         routes : (P : ℕ → ℕ → Option ℕ → Type 0) → P la lb buffer
             → P (label at_pair.left).route.length (label at_pair.right).route.length (buffer_of (get_or nodes k e).kind)
         routes P has =
-            let first : la ≡ (label at_pair.left).route.length =
+            let left_same : la ≡ (label at_pair.left).route.length =
             first_route ∙ ap (λ (n : TreeNode). n.route.length) (sym (left_label f)) in
-            let second : lb ≡ (label at_pair.right).route.length =
+            let right_same : lb ≡ (label at_pair.right).route.length =
             second_route ∙ ap (λ (n : TreeNode). n.route.length) (sym (right_label g)) in
-            let third : buffer ≡ buffer_of (get_or nodes k e).kind = sym (ap buffer_of here) in
-            subst (λ x. P x (label at_pair.right).route.length (buffer_of (get_or nodes k e).kind)) first
-            (subst (λ x. P la x (buffer_of (get_or nodes k e).kind)) second (subst (λ x. P la lb x) third has))
+            let buffer_same : buffer ≡ buffer_of (get_or nodes k e).kind = sym (ap buffer_of here) in
+            subst (λ x. P x (label at_pair.right).route.length (buffer_of (get_or nodes k e).kind)) left_same
+            (subst (λ x. P la x (buffer_of (get_or nodes k e).kind)) right_same (subst (λ x. P la lb x) buffer_same has))
 
         -- a pair is balanced by parameters that are these
         module _ (lent : Params) (same : lent ≡ params) where
@@ -147,7 +147,7 @@ module _ (params : Params) (sinks : List Sink) (nodes : List TreeNode) (ok : IsP
             pub pair_stands : Here node
             unfolding IsBalance
             pair_stands =
-                stands tree_children (IsBalance params sinks) nodes k (fork at_pair.left at_pair.right (get_or nodes k e)) (tip e) node h
+                stands (children_from first) (IsBalance params sinks) nodes k (fork at_pair.left at_pair.right (get_or nodes k e)) (tip e) node h
                 (at_pair.tree (tip e)) (
                   a,
                   b,
@@ -157,7 +157,7 @@ module _ (params : Params) (sinks : List Sink) (nodes : List TreeNode) (ok : IsP
                       (subst (λ ps. IsPairBalance ps buffer a la b lb node) same is),
                 )
 
-            pub pair_next : AreWaiting tree_children nodes (IsBalance params sinks) (k + 1) (rest ++ node ∷ [])
+            pub pair_next : AreWaiting (children_from first) nodes (IsBalance params sinks) (k + 1) (rest ++ node ∷ [])
             pair_next = values.next node pair_stands
 
           pub pair_beyond : IsPairBeyond lent buffer a la b lb → BeyondHere
@@ -165,7 +165,7 @@ module _ (params : Params) (sinks : List Sink) (nodes : List TreeNode) (ok : IsP
           pair_beyond over =
               let t : BinaryTree TreeNode = fork at_pair.left at_pair.right (get_or nodes k e) in
               subst (λ o. IfSome o (IsBeyondBalance params sinks))
-              (sym (tree_found tree_children nodes k t (tip e) h (at_pair.tree (tip e)))) (
+              (sym (tree_found (children_from first) nodes k t (tip e) h (at_pair.tree (tip e)))) (
                 a,
                 b,
                 left_is,

@@ -4,6 +4,8 @@ use Rattle.std.proofs.lemmas.List.{get_or-map, length-map, map-set}
 use Rattle.std.proofs.Math.Seq.{map-set_same}
 use Rattle.cts_tree.specs.declared.nodes.NodeKind.{NodeKind}
 use Rattle.cts_tree.specs.declared.nodes.TreeNode.{TreeNode}
+use Rattle.cts_tree.specs.declared.route.Route.{Route}
+use Rattle.cts_geom.specs.declared.points.Spot.{Spot}
 
 -- a node with a wire of this length
 abbrev pub with_wire : TreeNode → ℕ → TreeNode
@@ -11,6 +13,15 @@ with_wire node len = record node { wire = len }
 
 abbrev pub without_wire : TreeNode → TreeNode
 without_wire node = with_wire node 0
+
+-- two nodes that are the same but for their wires
+pub same_but_wire : (p q : TreeNode) → p.kind ≡ q.kind → p.place ≡ q.place → p.route ≡ q.route
+    → without_wire p ≡ without_wire q
+same_but_wire p q kind place route =
+    let with_kind : NodeKind → TreeNode = λ x. record { kind = x; place = p.place; wire = 0; route = p.route } in
+    let with_place : Spot → TreeNode = λ x. record { kind = q.kind; place = x; wire = 0; route = p.route } in
+    let with_route : Route → TreeNode = λ x. record { kind = q.kind; place = q.place; wire = 0; route = x } in
+    ap with_kind kind ∙ ap with_place place ∙ ap with_route route
 
 -- the lengths of the wires of the nodes
 abbrev pub wires_of : List TreeNode → List ℕ

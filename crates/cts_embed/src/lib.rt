@@ -5,7 +5,8 @@
 //! same form whose nodes are told one by one, each by its subtree and the pairs above it. A layer whose workers place nodes
 //! beside each other prepares the [`Ground`] of an instance and places one node at a time with [`place_node`]. It hands a placed tree to
 //! [`balance`], or to [`balance_with`] where it has listed the pins of the leaves (`cts_elmore::pins`),
-//! and takes the tree, or the least node that is beyond; it cites `specs/Balance.antt`, which tells by a recursion on
+//! and takes the tree, or the least node that is beyond. A layer whose workers balance the parts of a tree beside each other
+//! calls [`balance_part`] for the stretch of nodes of each. Both cite `specs/Balance.antt`, which tells by a recursion on
 //! the tree what the balance makes of each node, and `specs/BalancedTree.antt`, which tells the nodes of the balanced
 //! tree in the same way. The laws of [`laws`] say that there is exactly one answer to each, and where
 //! places lie.
@@ -29,3 +30,4 @@ pub use ground::Ground;
 pub use node::NodeBalance;
 pub use placing::{ground_of, place_node, source_place};
 pub use upward::{is_root_within, leaf_balance, pair_balance};
+pub use wires::balance_part;

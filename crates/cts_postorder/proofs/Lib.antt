@@ -10,6 +10,7 @@ pub mod Downward
 pub mod Tips
 pub mod Failures
 pub mod Nested
+pub mod Stretches
 pub mod Statements
 mod Example
 pub mod Alike

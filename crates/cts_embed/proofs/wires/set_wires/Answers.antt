@@ -1,233 +1,55 @@
-use Rattle.std.proofs.Common.{◌≡◌, ◌+◌, ◌∷◌, ◌++◌, [], pos, true, false, inl, inr, refl, sym, ap, subst, arith, ◌∙◌, drop}
-use Rattle.std.specs.Slice.Iter.{iter_rest}
-use Rattle.cts_units.specs.declared.params.Sink.{Sink}
+use Rattle.std.proofs.Common.{inr, refl, arith}
 use Rattle.cts_postorder.proofs.Lists.{length_pos}
-use Rattle.cts_postorder.proofs.Waiting.{one_waits, root_waits}
 use Rattle.cts_tree.specs.Nodes.{tree_children}
-use Rattle.cts_elmore.specs.Loads.{leaf_pins}
-use Rattle.cts_embed.specs.Balance.{IsBalance}
-use Rattle.cts_embed.proofs.Ascent.{IsAscent, ascent_named, ascent_at_start, ascent_at_leaf, ascent_at_pair, pin_waits, pins_after_leaf, pins_after_pair, ascent_all, left_within, right_within, right_within_set, two_ready, buffer_named, left_ready, right_ready, pair_beyond}
-use Rattle.cts_embed.proofs.Root.{root_in_range, all_within, root_beyond, root_route}
-use Rattle.cts_embed.proofs.wires.set_wires.Goals.{in-Leaf, in-Pair+in-Ok}
+use Rattle.cts_embed.proofs.Assembled.{same_as_placed}
+use Rattle.cts_embed.proofs.Root.{all_within, root_beyond, root_route}
+use Rattle.cts_embed.proofs.Rooted.{whole_post_order, all_from_start, whole_balance, whole_stretch, rooted}
 use Rattle.cts_embed.proofs.wires.set_wires.Goals as goal
 
--- the value past the end of the list
-abbrev none : Sink
-none = record { id = 0; x = pos 0; y = pos 0; cap = 0; offset = 0 }
+pub balance_part-requires-clause-post_order : goal.balance_part-requires-clause-post_order
+balance_part-requires-clause-post_order c = whole_post_order c.args.nodes.now c.requires.post_order
 
-pub loop-number-init : goal.loop-number-init
-loop-number-init c = record {
-  ascent = ascent_at_start c.args.instance.now c.args.nodes.now c.requires.post_order c.new-waiting.result.items c.new-waiting.ensures.items;
-  left = c.iter-leaves.ensures.rest ∙ c.requires.pins;
-}
-
-pub take_pin-requires : goal.take_pin-requires
-take_pin-requires c = record {
-  some = pin_waits c.args.instance.now c.args.nodes.now c.requires.post_order c.loop-number.number c.loop-number.waiting.items
-      c.loop-number.nodes c.loop-number.invariant.ascent (omega (arith, c.loop-number-test.true, c.loop-number.auto.nodes)) c.requires.fits
-      (iter_rest c.loop-number.leaves) c.loop-number.invariant.left c.in-Leaf.id c.in-Leaf.sink _ c.in-Leaf.is;
-}
-
-pub bounds-nodes-left : goal.bounds-nodes-left
-bounds-nodes-left c =
-    left_within c.args.instance.now c.args.nodes.now c.requires.post_order c.loop-number.number c.loop-number.waiting.items
-    c.loop-number.nodes c.loop-number.invariant.ascent (omega (arith, c.loop-number-test.true, c.loop-number.auto.nodes))
-    c.in-Pair.left c.in-Pair.right c.in-Pair.buffer _ c.in-Pair.is
-
-pub bounds-nodes-left-in-Pair : goal.bounds-nodes-left-in-Pair
-bounds-nodes-left-in-Pair c =
-    left_within c.args.instance.now c.args.nodes.now c.requires.post_order c.loop-number.number c.loop-number.waiting.items
-    c.loop-number.nodes c.loop-number.invariant.ascent (omega (arith, c.loop-number-test.true, c.loop-number.auto.nodes))
-    c.in-Pair.left c.in-Pair.right c.in-Pair.buffer _ c.in-Pair.is
-
-pub bounds-nodes-left-in-Ok : goal.bounds-nodes-left-in-Ok
-bounds-nodes-left-in-Ok c =
-    left_within c.args.instance.now c.args.nodes.now c.requires.post_order c.loop-number.number c.loop-number.waiting.items
-    c.loop-number.nodes c.loop-number.invariant.ascent (omega (arith, c.loop-number-test.true, c.loop-number.auto.nodes))
-    c.in-Pair.left c.in-Pair.right c.in-Pair.buffer _ c.in-Pair.is
-
-pub bounds-nodes-right : goal.bounds-nodes-right
-bounds-nodes-right c =
-    right_within c.args.instance.now c.args.nodes.now c.requires.post_order c.loop-number.number c.loop-number.waiting.items
-    c.loop-number.nodes c.loop-number.invariant.ascent (omega (arith, c.loop-number-test.true, c.loop-number.auto.nodes))
-    c.in-Pair.left c.in-Pair.right c.in-Pair.buffer _ c.in-Pair.is
-
-pub bounds-nodes-right-in-Pair : goal.bounds-nodes-right-in-Pair
-bounds-nodes-right-in-Pair c =
-    right_within c.args.instance.now c.args.nodes.now c.requires.post_order c.loop-number.number c.loop-number.waiting.items
-    c.loop-number.nodes c.loop-number.invariant.ascent (omega (arith, c.loop-number-test.true, c.loop-number.auto.nodes))
-    c.in-Pair.left c.in-Pair.right c.in-Pair.buffer _ c.in-Pair.is
-
-pub bounds-nodes-left-in-Ok-2 : goal.bounds-nodes-left-in-Ok-2
-bounds-nodes-left-in-Ok-2 c =
-    left_within c.args.instance.now c.args.nodes.now c.requires.post_order c.loop-number.number c.loop-number.waiting.items
-    c.loop-number.nodes c.loop-number.invariant.ascent (omega (arith, c.loop-number-test.true, c.loop-number.auto.nodes))
-    c.in-Pair.left c.in-Pair.right c.in-Pair.buffer _ c.in-Pair.is
-
-pub bounds-nodes-right-in-Ok : goal.bounds-nodes-right-in-Ok
-bounds-nodes-right-in-Ok c =
-    right_within_set c.args.instance.now c.args.nodes.now c.requires.post_order c.loop-number.number c.loop-number.waiting.items
-    c.loop-number.nodes c.loop-number.invariant.ascent (omega (arith, c.loop-number-test.true, c.loop-number.auto.nodes))
-    c.in-Pair.left c.in-Pair.right c.in-Pair.buffer _ c.in-Pair.is _
-
-pub bounds-nodes-right-in-Ok-2 : goal.bounds-nodes-right-in-Ok-2
-bounds-nodes-right-in-Ok-2 c =
-    right_within_set c.args.instance.now c.args.nodes.now c.requires.post_order c.loop-number.number c.loop-number.waiting.items
-    c.loop-number.nodes c.loop-number.invariant.ascent (omega (arith, c.loop-number-test.true, c.loop-number.auto.nodes))
-    c.in-Pair.left c.in-Pair.right c.in-Pair.buffer _ c.in-Pair.is _
-
-pub take_pair-requires : goal.take_pair-requires
-take_pair-requires c = record {
-  two = omega (
-    arith,
-    two_ready c.args.instance.now c.args.nodes.now c.requires.post_order c.loop-number.number c.loop-number.waiting.items
-        c.loop-number.nodes c.loop-number.invariant.ascent (omega (arith, c.loop-number-test.true, c.loop-number.auto.nodes))
-        c.in-Pair.left c.in-Pair.right c.in-Pair.buffer _ c.in-Pair.is,
-  );
-}
-
-pub pair_balance-requires-clause-buffer : goal.pair_balance-requires-clause-buffer
-pair_balance-requires-clause-buffer c =
-    buffer_named c.args.instance.now c.args.nodes.now c.requires.post_order c.loop-number.number c.loop-number.waiting.items
-    c.loop-number.nodes c.loop-number.invariant.ascent (omega (arith, c.loop-number-test.true, c.loop-number.auto.nodes))
-    c.in-Pair.left c.in-Pair.right c.in-Pair.buffer _ c.in-Pair.is
-    c.requires.fits c.params-params.result.now c.params-params.ensures.part
-
-pub pair_balance-requires-clause-a : goal.pair_balance-requires-clause-a
-pair_balance-requires-clause-a c =
-    left_ready c.args.instance.now c.args.nodes.now c.requires.post_order c.loop-number.number c.loop-number.waiting.items
-    c.loop-number.nodes c.loop-number.invariant.ascent (omega (arith, c.loop-number-test.true, c.loop-number.auto.nodes))
-    c.in-Pair.left c.in-Pair.right c.in-Pair.buffer _ c.in-Pair.is
-    c.take_pair.new.waiting.items c.take_pair.result.0 c.take_pair.result.1 c.take_pair.ensures c.params-params.ensures.valid c.requires.fits
-
-pub pair_balance-requires-clause-b : goal.pair_balance-requires-clause-b
-pair_balance-requires-clause-b c =
-    right_ready c.args.instance.now c.args.nodes.now c.requires.post_order c.loop-number.number c.loop-number.waiting.items
-    c.loop-number.nodes c.loop-number.invariant.ascent (omega (arith, c.loop-number-test.true, c.loop-number.auto.nodes))
-    c.in-Pair.left c.in-Pair.right c.in-Pair.buffer _ c.in-Pair.is
-    c.take_pair.new.waiting.items c.take_pair.result.0 c.take_pair.result.1 c.take_pair.ensures c.params-params.ensures.valid c.requires.fits
-
-pub returns-in_default-clause-ends : goal.returns-in_default-clause-ends
-returns-in_default-clause-ends c =
-    inl (pair_beyond c.args.instance.now c.args.nodes.now c.requires.post_order c.loop-number.number c.loop-number.waiting.items
-    c.loop-number.nodes c.loop-number.invariant.ascent (omega (arith, c.loop-number-test.true, c.loop-number.auto.nodes))
-    c.in-Pair.left c.in-Pair.right c.in-Pair.buffer _ c.in-Pair.is
-    c.take_pair.new.waiting.items c.take_pair.result.0 c.take_pair.result.1 c.take_pair.ensures
-    c.params-params.result.now c.params-params.ensures.part _ _ c.in_default.ensures.beyond)
-
-pub loop-number-preserved : goal.loop-number-preserved
-loop-number-preserved c =
-    let ascent : IsAscent c.args.instance.now c.args.nodes.now (c.loop-number.number + 1)
-    (c.match-nodes-number.waiting.items ++ c.match-nodes-number.balance ∷ []) c.match-nodes-number.nodes =
-    elim c.match-nodes-number.branch [
-      | in-Leaf w ↦
-          ascent_named c.args.instance.now c.args.nodes.now (c.loop-number.number + 1) c.match-nodes-number.waiting.items
-          c.loop-number.waiting.items c.match-nodes-number.balance w.leaf_balance-balance.result c.match-nodes-number.nodes
-          c.loop-number.nodes (ap (λ v. v.items) w.waiting-is) w.balance-is w.nodes-is
-          (ascent_at_leaf c.args.instance.now c.args.nodes.now c.requires.post_order c.loop-number.number c.loop-number.waiting.items
-          c.loop-number.nodes c.loop-number.invariant.ascent (omega (arith, c.loop-number-test.true, c.loop-number.auto.nodes)) c.requires.fits
-          (iter_rest c.loop-number.leaves) c.loop-number.invariant.left
-          w.in-Leaf.id w.in-Leaf.sink _ w.in-Leaf.is w.take_pin.result (iter_rest w.take_pin.new.pins)
-          w.take_pin.ensures none w.leaf_balance-balance.result w.leaf_balance-balance.ensures)
-      | in-Pair+in-Ok w ↦
-          ascent_named c.args.instance.now c.args.nodes.now (c.loop-number.number + 1) c.match-nodes-number.waiting.items
-          w.take_pair.new.waiting.items c.match-nodes-number.balance w.in-Ok.pair c.match-nodes-number.nodes _
-          (ap (λ v. v.items) w.waiting-is) w.balance-is w.nodes-is
-          (ascent_at_pair c.args.instance.now c.args.nodes.now c.requires.post_order c.loop-number.number c.loop-number.waiting.items
-          c.loop-number.nodes c.loop-number.invariant.ascent (omega (arith, c.loop-number-test.true, c.loop-number.auto.nodes))
-          w.in-Pair.left w.in-Pair.right w.in-Pair.buffer _ w.in-Pair.is
-          w.take_pair.new.waiting.items w.take_pair.result.0 w.take_pair.result.1 w.take_pair.ensures
-          c.params-params.result.now c.params-params.ensures.part w.index-nodes-left.result w.index-nodes-right.result
-          w.in-Ok.pair w.in-Ok.ensures.pair w.index-nodes-left-in-Pair.result w.index-nodes-right-in-Pair.result)
-    ] in
-    let left : iter_rest c.match-nodes-number.leaves ≡ leaf_pins c.args.instance.now (drop (c.loop-number.number + 1) c.args.nodes.now) =
-    elim c.match-nodes-number.branch [
-      | in-Leaf w ↦
-          ap iter_rest w.leaves-is
-          ∙ pins_after_leaf c.args.instance.now c.args.nodes.now c.requires.post_order c.loop-number.number c.loop-number.waiting.items
-          c.loop-number.nodes c.loop-number.invariant.ascent (omega (arith, c.loop-number-test.true, c.loop-number.auto.nodes)) c.requires.fits
-          (iter_rest c.loop-number.leaves) c.loop-number.invariant.left
-          w.in-Leaf.id w.in-Leaf.sink _ w.in-Leaf.is w.take_pin.result (iter_rest w.take_pin.new.pins)
-          w.take_pin.ensures
-      | in-Pair+in-Ok w ↦
-          ap iter_rest w.leaves-is
-          ∙ pins_after_pair c.args.instance.now c.args.nodes.now c.requires.post_order c.loop-number.number c.loop-number.waiting.items
-          c.loop-number.nodes c.loop-number.invariant.ascent (omega (arith, c.loop-number-test.true, c.loop-number.auto.nodes))
-          w.in-Pair.left w.in-Pair.right w.in-Pair.buffer _ w.in-Pair.is (iter_rest c.loop-number.leaves) c.loop-number.invariant.left
-    ] in
-    record {
-      ascent = subst (λ vs. IsAscent c.args.instance.now c.args.nodes.now (c.loop-number.number + 1) vs c.match-nodes-number.nodes)
-          (sym c.in_ok-push.ensures.items) ascent;
-      left = left;
-    }
-
-pub unreachable-requires : goal.unreachable-requires
-unreachable-requires c =
-    let none : false ≡ true =
-    c.in_default-pop.ensures.variant.1
-    (omega (
-      arith,
-      c.loop-number.waiting.ok.0,
-      one_waits tree_children c.args.nodes.now (IsBalance c.args.instance.now.params c.args.instance.now.sinks) c.loop-number.number
-          (omega (arith, c.loop-number-test.false, c.loop-number.auto.nodes))
-          (omega (arith, c.loop-number.auto.number-end, c.loop-number.auto.nodes))
-          c.loop-number.waiting.items c.loop-number.invariant.ascent.waits,
-    )) in
-    cc
+pub balance_part-requires-clause-numbered : goal.balance_part-requires-clause-numbered
+balance_part-requires-clause-numbered c = all_from_start c.args.nodes.now
 
 pub overflow_sub-last : goal.overflow_sub-last
-overflow_sub-last c = omega (arith, c.loop-number.auto.nodes, length_pos tree_children c.args.nodes.now c.requires.post_order)
+overflow_sub-last c = omega (arith, c.balance_part.auto.nodes, length_pos tree_children c.args.nodes.now c.requires.post_order)
 
 pub bounds-nodes-last : goal.bounds-nodes-last
-bounds-nodes-last c = omega (arith, c.loop-number.auto.nodes, length_pos tree_children c.args.nodes.now c.requires.post_order)
+bounds-nodes-last c = omega (arith, c.balance_part.auto.nodes, length_pos tree_children c.args.nodes.now c.requires.post_order)
 
-pub bounds-nodes-last-in-Some : goal.bounds-nodes-last-in-Some
-bounds-nodes-last-in-Some c = omega (arith, c.loop-number.auto.nodes, length_pos tree_children c.args.nodes.now c.requires.post_order)
+pub bounds-nodes-last-in_ok-root : goal.bounds-nodes-last-in_ok-root
+bounds-nodes-last-in_ok-root c =
+    omega (arith, c.balance_part.auto.nodes, length_pos tree_children c.args.nodes.now c.requires.post_order)
 
 pub is_root_within-requires : goal.is_root_within-requires
-is_root_within-requires c = record {
-  root = root_in_range c.args.instance.now c.args.nodes.now c.requires.post_order c.loop-number.nodes c.loop-number.invariant.ascent.same
-      c.index-nodes-last.result c.in-Some.root
-      (root_waits tree_children c.args.nodes.now (IsBalance c.args.instance.now.params c.args.instance.now.sinks) c.loop-number.number
-      (omega (arith, c.loop-number-test.false, c.loop-number.auto.nodes))
-      (omega (arith, c.loop-number.auto.number-end, c.loop-number.auto.nodes))
-      c.loop-number.waiting.items c.loop-number.invariant.ascent.waits c.pop.new.self.items
-      c.in-Some.root c.in-Some.ensures.items)
-      c.params-params.ensures.valid c.requires.fits;
-}
+is_root_within-requires c = record { root = c.in_ok-root.ensures.range }
 
 pub returns-then-not-is_root_within-clause-ends : goal.returns-then-not-is_root_within-clause-ends
 returns-then-not-is_root_within-clause-ends c =
-    inr (root_beyond c.args.instance.now c.args.nodes.now c.requires.post_order c.loop-number.nodes c.loop-number.invariant.ascent.same
-    c.index-nodes-last.result c.in-Some.root
-    (root_waits tree_children c.args.nodes.now (IsBalance c.args.instance.now.params c.args.instance.now.sinks) c.loop-number.number
-    (omega (arith, c.loop-number-test.false, c.loop-number.auto.nodes))
-    (omega (arith, c.loop-number.auto.number-end, c.loop-number.auto.nodes))
-    c.loop-number.waiting.items c.loop-number.invariant.ascent.waits c.pop.new.self.items
-    c.in-Some.root c.in-Some.ensures.items)
-    (λ within. let clash = c.if-not-is_root_within.ensures.1 within in cc))
+    inr (root_beyond c.args.instance.now c.args.nodes.now c.requires.post_order c.in_ok-root.root
+    (whole_balance c.args.instance.now c.args.nodes.now c.in_ok-root.root c.in_ok-root.ensures.balance) c.balance_part.new.nodes
+    (same_as_placed c.args.instance.now tree_children c.args.nodes.now c.requires.post_order c.balance_part.new.nodes
+    (whole_stretch c.args.instance.now c.args.nodes.now c.balance_part.new.nodes c.in_ok-root.ensures.nodes))
+    c.index-nodes-last.result (λ within. let clash = c.if-not-is_root_within.ensures.1 within in cc))
 
 pub bounds-nodes-last-else-not-is_root_within : goal.bounds-nodes-last-else-not-is_root_within
 bounds-nodes-last-else-not-is_root_within c =
-    omega (arith, c.loop-number.auto.nodes, length_pos tree_children c.args.nodes.now c.requires.post_order)
+    omega (arith, c.balance_part.auto.nodes, length_pos tree_children c.args.nodes.now c.requires.post_order)
 
 pub bounds-nodes-last-else-not-is_root_within-2 : goal.bounds-nodes-last-else-not-is_root_within-2
 bounds-nodes-last-else-not-is_root_within-2 c =
-    omega (arith, c.loop-number.auto.nodes, length_pos tree_children c.args.nodes.now c.requires.post_order)
+    omega (arith, c.balance_part.auto.nodes, length_pos tree_children c.args.nodes.now c.requires.post_order)
 
 pub returns-clause-tree : goal.returns-clause-tree
 returns-clause-tree c =
-    let root =
-    root_waits tree_children c.args.nodes.now (IsBalance c.args.instance.now.params c.args.instance.now.sinks) c.loop-number.number
-    (omega (arith, c.loop-number-test.false, c.loop-number.auto.nodes))
-    (omega (arith, c.loop-number.auto.number-end, c.loop-number.auto.nodes))
-    c.loop-number.waiting.items c.loop-number.invariant.ascent.waits c.pop.new.self.items
-    c.in-Some.root c.in-Some.ensures.items in
+    let below = whole_stretch c.args.instance.now c.args.nodes.now c.balance_part.new.nodes c.in_ok-root.ensures.nodes in
+    let same = same_as_placed c.args.instance.now tree_children c.args.nodes.now c.requires.post_order c.balance_part.new.nodes below in
+    let root = whole_balance c.args.instance.now c.args.nodes.now c.in_ok-root.root c.in_ok-root.ensures.balance in
     record {
-      within = all_within c.args.instance.now c.args.nodes.now c.requires.post_order c.loop-number.nodes c.loop-number.invariant.ascent.same
-          c.index-nodes-last.result c.in-Some.root root (c.if-not-is_root_within.ensures.0 refl);
-      nodes = ascent_all c.args.instance.now c.args.nodes.now c.requires.post_order c.loop-number.number c.loop-number.waiting.items
-          c.loop-number.nodes c.loop-number.invariant.ascent (omega (arith, c.loop-number-test.false, c.loop-number.auto.nodes)) _ _
-          (root_route c.args.instance.now c.args.nodes.now c.requires.post_order c.loop-number.nodes c.loop-number.invariant.ascent.same
-          c.index-nodes-last.result c.in-Some.root root);
+      within = all_within c.args.instance.now c.args.nodes.now c.requires.post_order c.in_ok-root.root root c.balance_part.new.nodes same
+          c.index-nodes-last.result (c.if-not-is_root_within.ensures.0 refl);
+      nodes = rooted c.args.instance.now c.args.nodes.now c.requires.post_order c.balance_part.new.nodes below same _ _
+          (root_route c.args.instance.now c.args.nodes.now c.requires.post_order c.in_ok-root.root root c.balance_part.new.nodes same
+          c.index-nodes-last.result);
     }
