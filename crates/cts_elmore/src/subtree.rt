@@ -137,6 +137,7 @@ fn pair(params: &Params, a: &Branch, b: &Branch, buffer: Option<u16>) -> Option<
 /// that wait for the pair above them, or `None` exactly where it is a pair that is over the limits. A
 /// pair's parts no longer wait. The pins are those of the leaves' sinks that are left; a leaf takes the
 /// next one.
+#[inline(always)]
 fn subtree_at(
     instance: &Instance,
     first: usize,
