@@ -1,5 +1,5 @@
 -- One step of the pass downward: what a pair hands down to its two parts, from its figures.
-use Rattle.std.proofs.Common.{◌≡◌, ℕ, ◌+◌, ◌*◌, ◌^◌, ◌<◌, ◌≤◌, ◌↔◌, Bool, true, false, ◌||◌, List, [], ◌∷◌, length, get_or, slice_get, Option, Some, None, IsTrue, refl, sym, ap, ap₂, ◌∙◌, arith}
+use Rattle.std.proofs.Common.{◌≡◌, ℕ, ◌+◌, ◌*◌, ◌<◌, ◌≤◌, ◌↔◌, Bool, true, false, ◌||◌, List, [], ◌∷◌, length, get_or, slice_get, Option, Some, None, IsTrue, refl, sym, ap, ap₂, ◌∙◌, arith}
 use Rattle.std.specs.Prelude.{if◌then◌else◌, is_some}
 use Rattle.std.specs.Option.{option_map_or, option_and_then}
 use Rattle.std.proofs.lemmas.Option.{slice_get-get_or}
@@ -18,11 +18,11 @@ use Rattle.cts_elmore.specs.declared.figures.NodeFigure.{NodeFigure}
 use Rattle.cts_elmore.specs.declared.descent.Output.{Output}
 use Rattle.cts_elmore.specs.Fits.{NamesBuffer}
 use Rattle.cts_elmore.specs.Loads.{buffer_at, is_buffered, load_below, source_load}
-use Rattle.cts_elmore.specs.Delays.{wire_delay, buffer_delay, output_delay, source_delay, stage_at}
+use Rattle.cts_elmore.specs.Delays.{wire_delay, buffer_delay, output_delay, source_delay, delay_at, stage_at}
 use Rattle.cts_elmore.specs.Skew.{greatest_below, residue}
 use Rattle.cts_elmore.specs.Limits.{IsPairOver, IsRootOver, long_left, long_right, long_root, great_leaf_delay}
 use Rattle.cts_elmore.specs.Figures.{IsNodeFigure, IsFigureInRange}
-use Rattle.cts_elmore.specs.Outputs.{stage_after, IsOutput, IsPartFigure, IsSourceOutput, LoadIsMet, SlewIsMet}
+use Rattle.cts_elmore.specs.Outputs.{stage_after, IsHandedTo, IsOutput, IsPartFigure, IsSourceOutput, LoadIsMet, SlewIsMet}
 use Rattle.cts_elmore.specs.Subtrees.{IsKnownBelow}
 use Rattle.cts_elmore.proofs.Paths.{delay_at_root, delay_at_part, stage_at_root, stage_at_part}
 use Rattle.cts_elmore.proofs.Below.{greatest_at_pair}
@@ -33,14 +33,6 @@ pub record IsRight (i : Parts) (root : BinaryTree TreeNode) (o : Occurrence Tree
   pub figure : IsNodeFigure i root o f
   pub soon : f.delay + greatest_below i o.here ≤ max_delay
   pub stage_le : f.stage ≤ f.delay
-
--- What is handed down to a node gives it right figures, through its wire.
-pub record IsHandedTo (i : Parts) (root : BinaryTree TreeNode) (o : Occurrence TreeNode) (output : Output) : Type 0 where
-  pub delay_within : output.delay ≤ 2 ^ 119
-  pub stage_within : output.stage ≤ 2 ^ 119
-  pub short : (label o.here).wire ≤ max_length
-  pub right : (g : NodeFigure) (kind : NodeKind) (len : ℕ) (f : NodeFigure) → IsKnownBelow i o.here g
-      → (label o.here).kind ≡ kind → (label o.here).wire ≡ len → IsPartFigure i.params kind len g output f → IsRight i root o f
 
 -- so the figures are in range
 pub residue_le : (i : Parts) (t : BinaryTree TreeNode) → residue i t ≤ greatest_below i t
@@ -96,94 +88,79 @@ module _ (i : Parts) (root : BinaryTree TreeNode) where
       through_is i t len (seen_load_of i.params.library (buffer_of kind) g.below) len_is
       (ap (λ k. seen_load_of i.params.library (buffer_of k) g.below) (sym kind_is) ∙ is.seen)
 
+  -- what is handed down to a node gives it right figures, through its wire
+  pub handed_right : (o : Occurrence TreeNode) (output : Output) → IsHandedTo i root o output → (g : NodeFigure) (kind : NodeKind)
+      (len : ℕ) (f : NodeFigure) → IsKnownBelow i o.here g → (label o.here).kind ≡ kind → (label o.here).wire ≡ len
+      → IsPartFigure i.params kind len g output f → IsRight i root o f
+  handed_right o output handed g kind len f known kind_is len_is part =
+      let through : wire_delay_of i.params.wire.r i.params.wire.c len (seen_load_of i.params.library (buffer_of kind) g.below)
+      ≡ wire_delay i o.here =
+      through_wire o.here g kind len known kind_is len_is in
+      let delay : f.delay ≡ delay_at i root o = part.delay ∙ ap (λ x. output.delay + x) through ∙ handed.delay in
+      record {
+        figure = record {
+          below = part.below ∙ known.below;
+          residue_is = part.residue ∙ known.residue_is;
+          delay = delay;
+          stage = part.stage ∙ ap (λ x. output.stage + x) through ∙ handed.stage;
+          offset = part.offset ∙ known.offset;
+        };
+        soon = omega (arith, delay, handed.soon);
+        stage_le = omega (arith, part.stage, part.delay, handed.stage_le);
+      }
+
   -- the source's output, to the root
   pub root_handed : (resistance load : ℕ) (output : Output) → IsSourceOutput resistance load output → resistance ≡ i.source_r
       → load ≡ source_load i root → ¬ IsRootOver i root → IsHandedTo i root (occurrence [] root) output
   root_handed resistance load output is resistance_is load_is not_over =
       let source : 2 * resistance * load ≡ source_delay i root = ap₂ (λ x y. 2 * x * y) resistance_is load_is in
+      let arrives : source_delay i root + wire_delay i root + greatest_below i root ≤ max_delay =
+      not_above _ max_delay (λ above. not_over (great_leaf_delay above)) in
       record {
-        delay_within = is.delay_within;
-        stage_within = is.stage_within;
+        delay = ap (λ x. x + wire_delay i root) (is.delay ∙ source) ∙ sym (delay_at_root i root);
+        stage = ap (λ x. x + wire_delay i root) (is.stage ∙ source) ∙ sym (stage_at_root i root);
+        stage_le = omega (arith, is.delay, is.stage);
         short = not_above _ max_length (λ above. not_over (long_root above));
-        right = λ g kind len f known kind_is len_is part.
-            let through : wire_delay_of i.params.wire.r i.params.wire.c len (seen_load_of i.params.library (buffer_of kind) g.below)
-            ≡ wire_delay i root =
-            through_wire root g kind len known kind_is len_is in
-            let delay : f.delay ≡ source_delay i root + wire_delay i root =
-            part.delay ∙ ap₂ (λ x y. x + y) (is.delay ∙ source) through in
-            let stage : f.stage ≡ source_delay i root + wire_delay i root =
-            part.stage ∙ ap₂ (λ x y. x + y) (is.stage ∙ source) through in
-            record {
-              figure = record {
-                below = part.below ∙ known.below;
-                residue_is = part.residue ∙ known.residue_is;
-                delay = delay ∙ sym (delay_at_root i root);
-                stage = stage ∙ sym (stage_at_root i root);
-                offset = part.offset ∙ known.offset;
-              };
-              soon = not_above _ max_delay (λ above. not_over (great_leaf_delay (omega (arith, above, delay))));
-              stage_le = omega (arith, stage, delay);
-            };
+        soon = omega (arith, delay_at_root i root, arrives);
       }
 
-  -- a part, at either side
+  -- a pair's output, to its part at either side
   module _ (l r : BinaryTree TreeNode) (n : TreeNode) (above : List (BinaryTree TreeNode)) (here : NodeFigure) (output : Output)
       (right : IsRight i root (occurrence above (fork l r n)) here)
       (out : IsOutput i.params.library (buffer_of n.kind) here output) where
-    part_right : (t : BinaryTree TreeNode) (g : NodeFigure) (kind : NodeKind) (len : ℕ) (f : NodeFigure) → IsKnownBelow i t g
-        → (label t).kind ≡ kind → (label t).wire ≡ len → IsPartFigure i.params kind len g output f
+    part_handed : (t : BinaryTree TreeNode) → (label t).wire ≤ max_length
         → greatest_below i t + wire_delay i t + buffer_delay i (fork l r n) ≤ greatest_below i (fork l r n)
-        → IsRight i root (occurrence (fork l r n ∷ above) t) f
-    part_right t g kind len f is kind_is len_is part deepest =
+        → IsHandedTo i root (occurrence (fork l r n ∷ above) t) output
+    part_handed t short deepest =
         let top : BinaryTree TreeNode = fork l r n in
-        let through : wire_delay_of i.params.wire.r i.params.wire.c len (seen_load_of i.params.library (buffer_of kind) g.below)
-        ≡ wire_delay i t =
-        through_wire t g kind len is kind_is len_is in
         let added : added_delay_of i.params.library (buffer_of n.kind) here.below ≡ buffer_delay i top =
         added_at_pair i l r n here.below right.figure.below in
-        let delay : f.delay ≡ here.delay + buffer_delay i top + wire_delay i t =
-        part.delay ∙ ap₂ (λ x y. x + y) (out.delay ∙ ap (λ x. here.delay + x) added) through in
+        let delay : output.delay ≡ delay_at i root (occurrence above top) + buffer_delay i top =
+        out.delay ∙ ap₂ (λ x y. x + y) right.figure.delay added in
         let after : output.stage ≡ (if is_buffered i top then output_delay i top else stage_at i root (occurrence above top)) =
         out.stage ∙ stage_goes_on i l r n here.below here.stage right.figure.below
         ∙ ap (λ x. if is_buffered i top then output_delay i top else x) right.figure.stage in
         record {
-          figure = record {
-            below = part.below ∙ is.below;
-            residue_is = part.residue ∙ is.residue_is;
-            delay = delay ∙ ap (λ x. x + buffer_delay i top + wire_delay i t) right.figure.delay ∙ sym (delay_at_part i root top t above);
-            stage = part.stage ∙ ap₂ (λ x y. x + y) after through ∙ sym (stage_at_part i root top t above);
-            offset = part.offset ∙ is.offset;
-          };
-          soon = omega (arith, delay, deepest, right.soon);
+          delay = ap (λ x. x + wire_delay i t) delay ∙ sym (delay_at_part i root top t above);
+          stage = ap (λ x. x + wire_delay i t) after ∙ sym (stage_at_part i root top t above);
           stage_le = omega (
             arith,
-            part.stage,
-            part.delay,
             out.stage,
             out.delay,
             stage_after_le i.params.library (buffer_of n.kind) here.below here.stage here.delay right.stage_le,
           );
+          short = short;
+          soon = omega (arith, delay_at_part i root top t above, right.figure.delay, deepest, right.soon);
         }
 
-    -- the pair's output, to both of its parts
-    module _ (delay : output.delay ≤ 2 ^ 119) (stage : output.stage ≤ 2 ^ 119) (not_over : ¬ IsPairOver i (fork l r n)) where
+    module _ (not_over : ¬ IsPairOver i (fork l r n)) where
       pub left_handed : IsHandedTo i root (occurrence (fork l r n ∷ above) l) output
-      left_handed = record {
-        delay_within = delay;
-        stage_within = stage;
-        short = not_above _ max_length (λ long. not_over (long_left long));
-        right = λ g kind len f is kind_is len_is part.
-            part_right l g kind len f is kind_is len_is part (omega (arith, greatest_at_pair i l r n));
-      }
+      left_handed =
+          part_handed l (not_above _ max_length (λ long. not_over (long_left long))) (omega (arith, greatest_at_pair i l r n))
 
       pub right_handed : IsHandedTo i root (occurrence (fork l r n ∷ above) r) output
-      right_handed = record {
-        delay_within = delay;
-        stage_within = stage;
-        short = not_above _ max_length (λ long. not_over (long_right long));
-        right = λ g kind len f is kind_is len_is part.
-            part_right r g kind len f is kind_is len_is part (omega (arith, greatest_at_pair i l r n));
-      }
+      right_handed =
+          part_handed r (not_above _ max_length (λ long. not_over (long_right long))) (omega (arith, greatest_at_pair i l r n))
 
 -- whether a kind is a leaf's
 abbrev pub is_leaf : NodeKind → Bool

@@ -3,6 +3,7 @@ pub mod Paths
 pub mod Below
 pub mod Rising
 pub mod Node
+pub mod FromStart
 pub mod Root
 pub mod Ends
 pub mod Down

@@ -4,7 +4,7 @@ use Rattle.cts_units.specs.Delay.{slew_of}
 use Rattle.cts_units.specs.Limits.{max_length, max_load, max_delay}
 use Rattle.cts_postorder.specs.BinaryTree.{BinaryTree, tip, fork, label, is_tip, subtrees}
 use Rattle.cts_postorder.specs.PostOrder.{trees_of}
-use Rattle.cts_postorder.specs.Occurrence.{occurrences}
+use Rattle.cts_postorder.specs.Occurrence.{Occurrence, occurrences}
 use Rattle.cts_postorder.specs.Pass.{FailsOrAtRoot, IsLeastFailure}
 use Rattle.cts_tree.specs.declared.nodes.TreeNode.{TreeNode}
 use Rattle.cts_tree.specs.Nodes.{tree_children}
@@ -47,13 +47,18 @@ abbrev pub IsFirstOver : Parts → List TreeNode → Option ℕ → Type 0
 IsFirstOver i nodes None = IsWithinLimits i nodes
 IsFirstOver i nodes (Some k) = IsLeastFailure tree_children nodes (IsOver i nodes) k
 
--- neither the source nor a buffer drives more than the load limit
+-- a buffer at the root of a subtree drives no more than the load limit
+abbrev pub MeetsLoadAt : Parts → BinaryTree TreeNode → Type 0
+MeetsLoadAt i t = IsTrue (is_buffered i t) → load_below i t ≤ i.load_limit
+
+-- neither does the source
 pub record MeetsLoadLimit (i : Parts) (root : BinaryTree TreeNode) : Type 0 where
   pub source : source_load i root ≤ i.load_limit
-  pub buffers : All (λ t. IsTrue (is_buffered i t) → load_below i t ≤ i.load_limit) (subtrees root)
+  pub buffers : All (MeetsLoadAt i) (subtrees root)
 
--- no slew is above the slew limit, which is not doubled, at a leaf or at a buffer
+-- at a leaf or at a buffer the slew is not above the slew limit, which is not doubled
+abbrev pub MeetsSlewAt : Parts → BinaryTree TreeNode → Occurrence TreeNode → Type 0
+MeetsSlewAt i root o = IsTrue (is_tip o.here || is_buffered i o.here) → slew_of (stage_at i root o) ≤ 10 * i.slew_limit
+
 abbrev pub MeetsSlewLimit : Parts → BinaryTree TreeNode → Type 0
-MeetsSlewLimit i root =
-    All (λ o. IsTrue (is_tip o.here || is_buffered i o.here) → slew_of (stage_at i root o) ≤ 10 * i.slew_limit)
-    (occurrences [] root)
+MeetsSlewLimit i root = All (MeetsSlewAt i root) (occurrences [] root)

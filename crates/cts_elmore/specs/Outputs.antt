@@ -6,8 +6,9 @@ use Rattle.cts_units.specs.declared.params.Params.{Params}
 use Rattle.cts_units.specs.declared.params.Buffer.{Buffer}
 use Rattle.cts_units.specs.Delay.{wire_delay_of, slew_of}
 use Rattle.cts_units.specs.Choice.{added_delay_of, seen_load_of}
-use Rattle.cts_postorder.specs.BinaryTree.{BinaryTree}
-use Rattle.cts_postorder.specs.Occurrence.{occurrences}
+use Rattle.cts_units.specs.Limits.{max_length, max_delay}
+use Rattle.cts_postorder.specs.BinaryTree.{BinaryTree, label, subtrees}
+use Rattle.cts_postorder.specs.Occurrence.{Occurrence, occurrence, occurrences}
 use Rattle.cts_tree.specs.declared.nodes.TreeNode.{TreeNode}
 use Rattle.cts_tree.specs.Nodes.{buffer_of}
 use Rattle.cts_tree.specs.declared.nodes.NodeKind.{NodeKind}
@@ -15,7 +16,10 @@ use Rattle.cts_tree.specs.declared.nodes.NodeKind.TheVariants.{Leaf, Pair}
 use Rattle.cts_elmore.specs.declared.figures.NodeFigure.{NodeFigure}
 use Rattle.cts_elmore.specs.declared.descent.Output.{Output}
 use Rattle.cts_elmore.specs.declared.descent.Descent.{Descent}
-use Rattle.cts_elmore.specs.Limits.{MeetsLoadLimit, MeetsSlewLimit}
+use Rattle.cts_elmore.specs.declared.descent.Met.{Met}
+use Rattle.cts_elmore.specs.Delays.{wire_delay, delay_at, stage_at}
+use Rattle.cts_elmore.specs.Skew.{greatest_below}
+use Rattle.cts_elmore.specs.Limits.{MeetsLoadAt, MeetsSlewAt, MeetsLoadLimit, MeetsSlewLimit}
 use Rattle.cts_elmore.specs.Figures.{IsNodeFigure, IsFigureInRange}
 use Rattle.cts_instance.specs.declared.parts.Parts.{Parts}
 
@@ -61,7 +65,36 @@ SlewIsMet limit (Leaf id sink) stage = slew_of stage ≤ 10 * limit
 SlewIsMet limit (Pair left right None) stage = Unit {0}
 SlewIsMet limit (Pair left right (Some index)) stage = slew_of stage ≤ 10 * limit
 
--- what a pass downward comes to
+-- What is handed down to a subtree of a whole tree, by the pair above it or by the source: through the wire, it gives the delays
+-- at the subtree's root. The wire is within the limit, and so are the arrivals at the leaves.
+pub record IsHandedTo (i : Parts) (root : BinaryTree TreeNode) (o : Occurrence TreeNode) (output : Output) : Type 0 where
+  pub delay : output.delay + wire_delay i o.here ≡ delay_at i root o
+  pub stage : output.stage + wire_delay i o.here ≡ stage_at i root o
+  pub stage_le : output.stage ≤ output.delay
+  pub short : (label o.here).wire ≤ max_length
+  pub soon : delay_at i root o + greatest_below i o.here ≤ max_delay
+
+-- in some whole tree, below some pairs
+pub record IsHandedDown (i : Parts) (t : BinaryTree TreeNode) (output : Output) : Type 0 where
+  pub root : BinaryTree TreeNode
+  pub up : List (BinaryTree TreeNode)
+  pub handed : IsHandedTo i root (occurrence up t) output
+
+-- what a pass downward comes to over a subtree that stands below the pairs `up` of a whole tree
+pub record IsPartDescent (i : Parts) (root : BinaryTree TreeNode) (up : List (BinaryTree TreeNode)) (t : BinaryTree TreeNode)
+    (figures : List NodeFigure) (met : Met) : Type 0 where
+  pub each_node : AllZip (IsNodeFigure i root) (occurrences up t) figures
+  pub in_range : All IsFigureInRange figures
+  pub load_met : IsTrue met.load_met ↔ All (MeetsLoadAt i) (subtrees t)
+  pub slew_met : IsTrue met.slew_met ↔ All (MeetsSlewAt i root) (occurrences up t)
+
+-- wherever it stands, if it takes this output there
+abbrev pub IsDescentBelow : Parts → Output → BinaryTree TreeNode → List NodeFigure → Met → Type 0
+IsDescentBelow i above t figures met =
+    (root : BinaryTree TreeNode) (up : List (BinaryTree TreeNode)) → IsHandedTo i root (occurrence up t) above
+    → IsPartDescent i root up t figures met
+
+-- and over the whole tree, from the source
 pub record IsDescent (i : Parts) (root : BinaryTree TreeNode) (descent : Descent) : Type 0 where
   pub each_node : AllZip (IsNodeFigure i root) (occurrences [] root) descent.figures.items
   pub in_range : All IsFigureInRange descent.figures.items

@@ -11,7 +11,7 @@ use Rattle.cts_postorder.specs.BinaryTree.{BinaryTree, label, labels, size}
 use Rattle.cts_postorder.specs.PostOrder.{root_of, trees_of}
 use Rattle.cts_postorder.specs.Pass.{IsLeastFailure}
 use Rattle.cts_tree.specs.declared.nodes.TreeNode.{TreeNode}
-use Rattle.cts_tree.specs.Nodes.{buffer_of, tree_children}
+use Rattle.cts_tree.specs.Nodes.{buffer_of, children_from, tree_children}
 use Rattle.cts_instance.specs.declared.parts.Parts.{Parts}
 use Rattle.cts_elmore.specs.declared.figures.NodeFigure.{NodeFigure}
 use Rattle.cts_elmore.specs.declared.pin_list.Pin.{Pin}
@@ -20,6 +20,8 @@ use Rattle.cts_elmore.specs.declared.drive.Drive.{Drive}
 use Rattle.cts_elmore.specs.declared.subtree.Branch.{Branch}
 use Rattle.cts_elmore.specs.declared.subtree.Gathered.{Gathered}
 use Rattle.cts_elmore.specs.declared.subtree.Gathered.TheVariants.{Within, Over}
+use Rattle.cts_elmore.specs.declared.subtree.Risen.{Risen}
+use Rattle.cts_elmore.specs.declared.subtree.Risen.TheVariants as risen
 use Rattle.cts_elmore.specs.Loads.{load_below, load_seen, offset_at, source_load}
 use Rattle.cts_elmore.specs.Delays.{wire_delay, source_delay}
 use Rattle.cts_elmore.specs.Skew.{greatest_below, least_below, greatest_delay_below, least_delay_below, residue, bound}
@@ -123,6 +125,19 @@ IsGathered i nodes (Within root figures) =
     IfSome (root_of tree_children nodes) (λ t. IsSubtree i t root)
     × AllZip (IsKnownBelow i) (trees_of tree_children nodes) figures.items
 IsGathered i nodes (Over node) = IsLeastFailure tree_children nodes (IsPairOver i) node
+
+-- the children of a pair are numbered from `first` on
+abbrev pub HasChildrenFrom : ℕ → TreeNode → Type 0
+HasChildrenFrom first node = IfSome (tree_children node) (λ children. (first ≤ children.0) × (first ≤ children.1))
+
+-- what one over a stretch that begins at `first` answers, and the figures that it writes: the root's values and what is known of
+-- every node of the stretch, or the least number of a pair that is over the limits
+abbrev pub IsRisen : Parts → ℕ → List TreeNode → List NodeFigure → Risen → Type 0
+IsRisen i first nodes figures (risen.Within root) =
+    IfSome (root_of (children_from first) nodes) (λ t. IsSubtree i t root)
+    × AllZip (IsKnownBelow i) (trees_of (children_from first) nodes) figures
+IsRisen i first nodes figures (risen.Over node) =
+    (k : ℕ) × ((node ≡ first + k) × IsLeastFailure (children_from first) nodes (IsPairOver i) k)
 
 -- what a source drives through a root's wire, within the limits
 pub record IsDriveThrough (resistance : ℕ) (wire : Wire) (length : ℕ) (s : Subtree) (drive : Drive) : Type 0 where

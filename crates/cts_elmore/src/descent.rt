@@ -5,9 +5,9 @@ ghost use Rattle.std.specs.List.{AllZip};
 ghost use Rattle.cts_units.specs.Choice.{seen_load_of};
 ghost use Rattle.cts_units.specs.Limits.{IsBuffer, IsParams, max_delay, max_length, max_load};
 ghost use Rattle.cts_postorder.specs.PostOrder.{IsPostOrder, root_of, trees_of};
-ghost use Rattle.cts_tree.specs.Nodes.{buffer_of, tree_children};
+ghost use Rattle.cts_tree.specs.Nodes.{buffer_of, children_from, tree_children};
 ghost use Rattle.cts_elmore.specs.Fits.{FitsInstance, NamesBuffer};
-ghost use Rattle.cts_elmore.specs.Outputs.{IsDescent, IsOutput, IsPartFigure, IsSourceOutput, LoadIsMet, SlewIsMet};
+ghost use Rattle.cts_elmore.specs.Outputs.{IsDescent, IsDescentBelow, IsHandedDown, IsOutput, IsPartFigure, IsSourceOutput, LoadIsMet, SlewIsMet};
 ghost use Rattle.cts_elmore.specs.Subtrees.{IsDrive, IsKnownBelow};
 
 use crate::drive::{Drive, resistance_delay};
@@ -20,9 +20,11 @@ use std::alloc::Global;
 
 /// What the source or a pair hands down: doubled delays in 10^-27 s, below the pair's buffer if it has one.
 #[derive(Clone, Copy)]
-struct Output {
-    delay: u128,
-    stage: u128,
+pub struct Output {
+    /// The delay from the source.
+    pub delay: u128,
+    /// The delay from the buffer or the source that begins the stage.
+    pub stage: u128,
 }
 
 /// The output of a source of this resistance in µΩ that drives a load in zF.
@@ -142,11 +144,17 @@ pub struct Descent {
     pub slew_met: bool,
 }
 
+/// Whether the limits of the instance are met at the nodes of a stretch.
+#[derive(Clone, Copy)]
+pub struct Met {
+    /// Whether every buffer meets the load limit.
+    pub load_met: bool,
+    /// Whether every end of a stage meets the slew limit.
+    pub slew_met: bool,
+}
+
 /// The figures of the nodes of a tree that the source drives so, from what is known of them from below, or
 /// `NoMemory` where an allocation fails.
-///
-/// The nodes are passed from the last to the first, and no other is looked at on the way: what the source
-/// or a pair hands down waits on a stack until the node below is reached.
 pub fn descend(
     alloc: Global,
     instance: &Instance,
@@ -161,11 +169,44 @@ pub fn descend(
     ensures { IfOk result (λ descent.
         IfSome (root_of tree_children nodes.now) (λ root. IsDescent instance.now root descent)) }
 {
+    let output = source_output(instance.source_r(), drive.load);
+    let met = descend_part(alloc, instance, 0, nodes, figures.as_mut_slice(), output)?;
+    let source_met = drive.load <= instance.load_limit();
+    Ok(Descent {
+        figures,
+        load_met: source_met & met.load_met,
+        slew_met: met.slew_met,
+    })
+}
+
+/// What [`descend`] does, for a stretch of a tree's nodes that is a subtree and takes this output from the
+/// pair above it, or from the source.
+///
+/// Its first node has the number `first` in the tree. The figures, of which all but the delays are known
+/// from below, are completed in `figures`; where an allocation fails, which `NoMemory` tells, some of them
+/// may be.
+///
+/// The nodes are passed from the last to the first, and no other is looked at on the way: what is handed
+/// down waits on a stack until the node below is reached.
+pub fn descend_part(
+    alloc: Global,
+    instance: &Instance,
+    first: usize,
+    nodes: &[TreeNode],
+    figures: &mut [NodeFigure],
+    above: Output,
+) -> Result<Met, NoMemory>
+    requires post_order { IsPostOrder (map (children_from first) nodes.now) }
+    requires fits { FitsInstance instance.now nodes.now }
+    requires known { AllZip (IsKnownBelow instance.now) (trees_of (children_from first) nodes.now) figures.old }
+    requires above { IfSome (root_of (children_from first) nodes.now) (λ t. IsHandedDown instance.now t above) }
+    ensures { IfOk result (λ met.
+        IfSome (root_of (children_from first) nodes.now) (λ t. IsDescentBelow instance.now above t figures.new met)) }
+{
     let params = instance.params();
     let mut outputs = Vec::new(alloc);
-    outputs.push(source_output(instance.source_r(), drive.load))?;
-    let mut load_met = drive.load <= instance.load_limit();
-    let mut slew_met = true;
+    outputs.push(above)?;
+    let (mut load_met, mut slew_met) = (true, true);
     for number in (0..nodes.len()).rev() {
         let kind = nodes[number].kind;
         let Some(above) = outputs.pop() else {
@@ -181,9 +222,5 @@ pub fn descend(
             outputs.push(output)?;
         }
     }
-    Ok(Descent {
-        figures,
-        load_met,
-        slew_met,
-    })
+    Ok(Met { load_met, slew_met })
 }

@@ -1,14 +1,14 @@
 //! A pass upward: what is known of each subtree when the pair above it is reached.
 
-ghost use Rattle.std.specs.Prelude.{◌≡◌, ◌+◌, ◌<◌, ◌≤◌, ◌++◌, ◌∷◌, [], map, drop, length, slice_get, IfSome, IfNone, IfOk, MatchOption};
+ghost use Rattle.std.specs.Prelude.{◌≡◌, ◌+◌, ◌<◌, ◌≤◌, ◌++◌, ◌∷◌, [], map, drop, length, slice_get, All, IfSome, IfNone, IfOk, MatchOption};
 ghost use Rattle.std.specs.Slice.Iter.{iter_rest};
 ghost use Rattle.cts_units.specs.Limits.{IsParams, IsWire, max_length};
 ghost use Rattle.cts_postorder.specs.PostOrder.{IsPostOrder, trees_of};
-ghost use Rattle.cts_tree.specs.Nodes.{tree_children};
+ghost use Rattle.cts_tree.specs.Nodes.{children_from, tree_children};
 ghost use Rattle.cts_elmore.specs.Fits.{FitsInstance};
 ghost use Rattle.cts_elmore.specs.Loads.{leaf_pins};
 ghost use Rattle.cts_elmore.specs.Limits.{IsPairOver};
-ghost use Rattle.cts_elmore.specs.Subtrees.{IsBranch, IsBranchInRange, IsLeafOf, IsSubtree, IsSubtreeInRange, IsGathered, PairOrOver};
+ghost use Rattle.cts_elmore.specs.Subtrees.{HasChildrenFrom, IsBranch, IsBranchInRange, IsLeafOf, IsSubtree, IsSubtreeInRange, IsGathered, IsRisen, PairOrOver};
 ghost use Rattle.cts_postorder.specs.Waiting.{AreWaiting, StandsAt};
 
 use crate::figures::NodeFigure;
@@ -133,26 +133,30 @@ fn pair(params: &Params, a: &Branch, b: &Branch, buffer: Option<u16>) -> Option<
     })
 }
 
-/// The subtree at a number, by those that wait for the pair above them, or `None` exactly where it is a
-/// pair that is over the limits. A pair's parts no longer wait. The pins are those of the leaves' sinks that
-/// are left; a leaf takes the next one.
+/// The subtree at a number of a stretch of nodes, whose children are numbered from `first` on, by those
+/// that wait for the pair above them, or `None` exactly where it is a pair that is over the limits. A
+/// pair's parts no longer wait. The pins are those of the leaves' sinks that are left; a leaf takes the
+/// next one.
+#[inline(always)]
 fn subtree_at(
     instance: &Instance,
+    first: usize,
     nodes: &[TreeNode],
     pins: &mut slice::Iter<'_, Pin>,
     number: usize,
     waiting: &mut Vec<Subtree>,
 ) -> Option<Subtree>
-    requires post_order { IsPostOrder (map tree_children nodes.now) }
+    requires post_order { IsPostOrder (map (children_from first) nodes.now) }
+    requires numbered { All (HasChildrenFrom first) nodes.now }
     requires fits { FitsInstance instance.now nodes.now }
     requires pins { iter_rest pins.old ≡ leaf_pins instance.now (drop number nodes.now) }
     requires number { number < length nodes.now }
-    requires before { AreWaiting tree_children nodes.now (IsSubtree instance.now) number waiting.old.items }
-    ensures here { IfSome result (StandsAt tree_children nodes.now (IsSubtree instance.now) number) }
+    requires before { AreWaiting (children_from first) nodes.now (IsSubtree instance.now) number waiting.old.items }
+    ensures here { IfSome result (StandsAt (children_from first) nodes.now (IsSubtree instance.now) number) }
     ensures next { IfSome result (λ s.
-        AreWaiting tree_children nodes.now (IsSubtree instance.now) (number + 1) (waiting.new.items ++ s ∷ [])) }
+        AreWaiting (children_from first) nodes.now (IsSubtree instance.now) (number + 1) (waiting.new.items ++ s ∷ [])) }
     ensures left { IfSome result (λ _. iter_rest pins.new ≡ leaf_pins instance.now (drop (number + 1) nodes.now)) }
-    ensures over { IfNone result (IfSome (slice_get (trees_of tree_children nodes.now) number) (IsPairOver instance.now)) }
+    ensures over { IfNone result (IfSome (slice_get (trees_of (children_from first) nodes.now) number) (IsPairOver instance.now)) }
 {
     let params = instance.params();
     match nodes[number].kind {
@@ -167,11 +171,26 @@ fn subtree_at(
             right,
             buffer,
         } => {
-            let (first, second) = take_pair(waiting);
-            let a = through_wire(params.wire, nodes[left as usize].wire, &first)?;
-            let b = through_wire(params.wire, nodes[right as usize].wire, &second)?;
+            let (left_part, right_part) = take_pair(waiting);
+            let a = through_wire(params.wire, nodes[left as usize - first].wire, &left_part)?;
+            let b = through_wire(params.wire, nodes[right as usize - first].wire, &right_part)?;
             pair(params, &a, &b, buffer)
         }
+    }
+}
+
+/// What is known of a node's figures from its subtree: all but the delays.
+fn known_figure(subtree: &Subtree) -> NodeFigure
+    ensures below { result.below ≡ subtree.now.below }
+    ensures residue_is { result.residue ≡ subtree.now.residue }
+    ensures offset { result.offset ≡ subtree.now.offset }
+{
+    NodeFigure {
+        below: subtree.below,
+        residue: subtree.residue,
+        delay: 0,
+        stage: 0,
+        offset: subtree.offset,
     }
 }
 
@@ -206,22 +225,66 @@ pub fn gather(
     let mut left = pins.iter();
     let mut waiting = Vec::new(alloc);
     for number in 0..nodes.len() {
-        let Some(subtree) = subtree_at(instance, nodes, &mut left, number, &mut waiting) else {
+        let Some(subtree) = subtree_at(instance, 0, nodes, &mut left, number, &mut waiting) else {
             return Ok(Gathered::Over {
                 node: number as u32,
             });
         };
         waiting.push(subtree)?;
-        figures.push(NodeFigure {
-            below: subtree.below,
-            residue: subtree.residue,
-            delay: 0,
-            stage: 0,
-            offset: subtree.offset,
-        })?;
+        figures.push(known_figure(&subtree))?;
     }
     let Some(root) = waiting.pop() else {
         unreachable!()
     };
     Ok(Gathered::Within { root, figures })
+}
+
+/// What a pass upward over a stretch of nodes comes to.
+#[derive(Clone, Copy)]
+pub enum Risen {
+    /// The subtree of its root.
+    Within { root: Subtree },
+    /// The least number of a pair that is over the limits.
+    Over { node: u32 },
+}
+
+/// What [`gather`] does, for a stretch of a tree's nodes that is a subtree, as the left or the right part
+/// of the whole.
+///
+/// Its first node has the number `first` in the tree, and a pair that is over the limits is told by its
+/// number there. The pins are those of its leaves' sinks, in the order of the leaves. The figures are
+/// written over what stands in `figures`; where a pair is over, or an allocation fails, which `NoMemory`
+/// tells, some of them may be.
+pub fn gather_part(
+    alloc: Global,
+    instance: &Instance,
+    first: usize,
+    nodes: &[TreeNode],
+    pins: &[Pin],
+    figures: &mut [NodeFigure],
+) -> Result<Risen, NoMemory>
+    requires post_order { IsPostOrder (map (children_from first) nodes.now) }
+    requires numbered { All (HasChildrenFrom first) nodes.now }
+    requires few { first ≤ 131071 }
+    requires fits { FitsInstance instance.now nodes.now }
+    requires pins { pins.now ≡ leaf_pins instance.now nodes.now }
+    requires room { length figures.old ≡ length nodes.now }
+    ensures { IfOk result (IsRisen instance.now first nodes.now figures.new) }
+{
+    let mut left = pins.iter();
+    let mut waiting = Vec::new(alloc);
+    for number in 0..nodes.len() {
+        let Some(subtree) = subtree_at(instance, first, nodes, &mut left, number, &mut waiting)
+        else {
+            return Ok(Risen::Over {
+                node: (first + number) as u32,
+            });
+        };
+        waiting.push(subtree)?;
+        figures[number] = known_figure(&subtree);
+    }
+    let Some(root) = waiting.pop() else {
+        unreachable!()
+    };
+    Ok(Risen::Within { root })
 }

@@ -1,155 +1,34 @@
-use Rattle.std.proofs.Common.{◌≡◌, false, true, ◌++◌, ◌∷◌, [], ap, subst, ◌∙◌, arith}
-use Rattle.cts_elmore.specs.Outputs.{IsOutput}
-use Rattle.cts_elmore.proofs.HandedDown.{source_small, some_output, kept, short, seen_small, delay_within, stage_within, stage_small, delay_small, below_small, known_next, down_at_leaf, down_at_pair, down_at_start, down_at_end}
+use Rattle.std.proofs.Common.{rules, arith, ◌≡◌, ◌++◌, List, take, drop, length, append-nil, take_all, ap, ◌∙◌, leb}
+use Rattle.std.specs.Prelude.{ℕ, ◌&&◌}
+use Rattle.std.proofs.lemmas.List.{drop_all}
+use Rattle.cts_elmore.specs.declared.figures.NodeFigure.{NodeFigure}
+use Rattle.cts_elmore.proofs.HandedDown.{source_small, source_handed, whole_descent}
 use Rattle.cts_elmore.proofs.descent.descend.Goals as goal
 
-pub source_output-requires-clause-load : goal.source_output-requires-clause-load
-source_output-requires-clause-load c =
-    source_small c.args.instance.now c.params-params.ensures.valid c.args.nodes.now c.requires.post_order c.requires.fits c.args.drive c.requires.drive
+-- what stands in a list once a slice of all of it is given back
+written_back : (len : ℕ) (old new : List NodeFigure) → len ≡ length old → length new ≡ length old
+    → take len (new ++ drop (length new) old) ≡ new
+written_back len old new long same =
+    ap (λ rest. take len (new ++ rest)) (drop_all (length new) old (omega arith)) ∙ ap (take len) (append-nil new)
+    ∙ take_all len new (omega arith)
 
-pub loop-number-init : goal.loop-number-init
-loop-number-init c = (
-  down_at_start c.args.instance.now c.params-params.ensures.valid c.args.nodes.now c.requires.post_order c.requires.fits c.args.figures.items c.requires.known
-      c.args.drive c.requires.drive c.source_r.result c.source_r.ensures.part c.source_output.result c.source_output.ensures
-      c.push.new.self.items (c.in_ok-push.ensures.items ∙ ap (λ outputs. outputs ++ c.source_output.result ∷ []) c.new-outputs.ensures.items)
-      c.load_limit.result c.load_limit.ensures.part,
-  c.requires.known,
-)
+pub source_output-output-requires-clause-load : goal.source_output-output-requires-clause-load
+source_output-output-requires-clause-load c =
+    source_small c.args.instance.now c.args.nodes.now c.requires.post_order c.args.drive c.requires.drive
 
-pub unreachable-requires : goal.unreachable-requires
-unreachable-requires c =
-    let none : false ≡ true =
-    c.in_default.ensures.variant.1
-    (omega (
-      arith,
-      c.loop-number.outputs.ok.0,
-      some_output c.args.instance.now c.params-params.ensures.valid c.args.nodes.now c.requires.post_order c.requires.fits
-          c.loop-number.number c.loop-number-test.true c.loop-number.auto.number c.loop-number.figures.items c.loop-number.outputs.items
-          c.loop-number.load_met c.loop-number.slew_met (c.loop-number.invariant.0) (c.loop-number.invariant.1),
-    )) in
-    cc
-
-pub index-requires : goal.index-requires
-index-requires c =
-    omega (
-      arith,
-      c.loop-number.figures.ok.0,
-      kept c.args.instance.now c.params-params.ensures.valid c.args.nodes.now c.requires.post_order c.requires.fits
-          c.loop-number.number c.loop-number-test.true c.loop-number.auto.number c.loop-number.figures.items c.loop-number.outputs.items
-          c.loop-number.load_met c.loop-number.slew_met (c.loop-number.invariant.0) (c.loop-number.invariant.1),
-    )
-
-pub part_figure-here-requires-clause-length : goal.part_figure-here-requires-clause-length
-part_figure-here-requires-clause-length c =
-    short c.args.instance.now c.params-params.ensures.valid c.args.nodes.now c.requires.post_order c.requires.fits
-    c.loop-number.number c.loop-number-test.true c.loop-number.auto.number c.loop-number.figures.items c.loop-number.outputs.items
-    c.loop-number.load_met c.loop-number.slew_met (c.loop-number.invariant.0) (c.loop-number.invariant.1)
-    c.pop.new.self.items c.in-Some.above c.in-Some.ensures.items c.index-nodes-number-in-loop-number.result
-
-pub part_figure-here-requires-clause-seen : goal.part_figure-here-requires-clause-seen
-part_figure-here-requires-clause-seen c =
-    seen_small c.args.instance.now c.params-params.ensures.valid c.args.nodes.now c.requires.post_order c.requires.fits
-    c.loop-number.number c.loop-number-test.true c.loop-number.auto.number c.loop-number.figures.items c.loop-number.outputs.items
-    c.loop-number.load_met c.loop-number.slew_met (c.loop-number.invariant.0) (c.loop-number.invariant.1)
-    c.pop.new.self.items c.in-Some.above c.in-Some.ensures.items
-    c.params-params.result.now c.params-params.ensures.part c.index-nodes-number.result c.index.result.now c.index.ensures
-
-pub part_figure-here-requires-clause-delay : goal.part_figure-here-requires-clause-delay
-part_figure-here-requires-clause-delay c =
-    delay_within c.args.instance.now c.params-params.ensures.valid c.args.nodes.now c.requires.post_order c.requires.fits
-    c.loop-number.number c.loop-number-test.true c.loop-number.auto.number c.loop-number.figures.items c.loop-number.outputs.items
-    c.loop-number.load_met c.loop-number.slew_met (c.loop-number.invariant.0) (c.loop-number.invariant.1)
-    c.pop.new.self.items c.in-Some.above c.in-Some.ensures.items
-
-pub part_figure-here-requires-clause-stage : goal.part_figure-here-requires-clause-stage
-part_figure-here-requires-clause-stage c =
-    stage_within c.args.instance.now c.params-params.ensures.valid c.args.nodes.now c.requires.post_order c.requires.fits
-    c.loop-number.number c.loop-number-test.true c.loop-number.auto.number c.loop-number.figures.items c.loop-number.outputs.items
-    c.loop-number.load_met c.loop-number.slew_met (c.loop-number.invariant.0) (c.loop-number.invariant.1)
-    c.pop.new.self.items c.in-Some.above c.in-Some.ensures.items
-
-pub index_mut-requires : goal.index_mut-requires
-index_mut-requires c =
-    omega (
-      arith,
-      c.loop-number.figures.ok.0,
-      kept c.args.instance.now c.params-params.ensures.valid c.args.nodes.now c.requires.post_order c.requires.fits
-          c.loop-number.number c.loop-number-test.true c.loop-number.auto.number c.loop-number.figures.items c.loop-number.outputs.items
-          c.loop-number.load_met c.loop-number.slew_met (c.loop-number.invariant.0) (c.loop-number.invariant.1),
-    )
-
-pub is_slew_met-slew_met-requires-clause-stage : goal.is_slew_met-slew_met-requires-clause-stage
-is_slew_met-slew_met-requires-clause-stage c =
-    stage_small c.args.instance.now c.params-params.ensures.valid c.args.nodes.now c.requires.post_order c.requires.fits
-    c.loop-number.number c.loop-number-test.true c.loop-number.auto.number c.loop-number.figures.items c.loop-number.outputs.items
-    c.loop-number.load_met c.loop-number.slew_met (c.loop-number.invariant.0) (c.loop-number.invariant.1)
-    c.pop.new.self.items c.in-Some.above c.in-Some.ensures.items
-    c.params-params.result.now c.params-params.ensures.part _ _ c.index.result.now c.index.ensures c.part_figure-here.result c.part_figure-here.ensures
-
-pub output_of-output-requires-clause-below : goal.output_of-output-requires-clause-below
-output_of-output-requires-clause-below c =
-    below_small c.args.instance.now c.params-params.ensures.valid c.args.nodes.now c.requires.post_order c.requires.fits
-    c.loop-number.number c.loop-number-test.true c.loop-number.auto.number c.loop-number.figures.items c.loop-number.outputs.items
-    c.loop-number.load_met c.loop-number.slew_met (c.loop-number.invariant.0) (c.loop-number.invariant.1)
-    c.pop.new.self.items c.in-Some.above c.in-Some.ensures.items
-    c.params-params.result.now c.params-params.ensures.part _ _ c.index.result.now c.index.ensures c.part_figure-here.result c.part_figure-here.ensures
-    c.in-Pair.left c.in-Pair.right c.in-Pair.buffer c.in-Pair.is
-
-pub output_of-output-requires-clause-delay : goal.output_of-output-requires-clause-delay
-output_of-output-requires-clause-delay c =
-    delay_small c.args.instance.now c.params-params.ensures.valid c.args.nodes.now c.requires.post_order c.requires.fits
-    c.loop-number.number c.loop-number-test.true c.loop-number.auto.number c.loop-number.figures.items c.loop-number.outputs.items
-    c.loop-number.load_met c.loop-number.slew_met (c.loop-number.invariant.0) (c.loop-number.invariant.1)
-    c.pop.new.self.items c.in-Some.above c.in-Some.ensures.items
-    c.params-params.result.now c.params-params.ensures.part _ _ c.index.result.now c.index.ensures c.part_figure-here.result c.part_figure-here.ensures
-
-pub output_of-output-requires-clause-stage : goal.output_of-output-requires-clause-stage
-output_of-output-requires-clause-stage c =
-    stage_small c.args.instance.now c.params-params.ensures.valid c.args.nodes.now c.requires.post_order c.requires.fits
-    c.loop-number.number c.loop-number-test.true c.loop-number.auto.number c.loop-number.figures.items c.loop-number.outputs.items
-    c.loop-number.load_met c.loop-number.slew_met (c.loop-number.invariant.0) (c.loop-number.invariant.1)
-    c.pop.new.self.items c.in-Some.above c.in-Some.ensures.items
-    c.params-params.result.now c.params-params.ensures.part _ _ c.index.result.now c.index.ensures c.part_figure-here.result c.part_figure-here.ensures
-
-pub loop-number-preserved-in-Continue-branch-3 : goal.loop-number-preserved-in-Continue-branch-3
-loop-number-preserved-in-Continue-branch-3 c = (
-  down_at_pair c.args.instance.now c.params-params.ensures.valid c.args.nodes.now c.requires.post_order c.requires.fits
-      c.loop-number.number c.loop-number-test.true c.loop-number.auto.number c.loop-number.figures.items c.loop-number.outputs.items
-      c.loop-number.load_met c.loop-number.slew_met (c.loop-number.invariant.0) (c.loop-number.invariant.1)
-      c.pop.new.self.items c.in-Some.above c.in-Some.ensures.items
-      c.params-params.result.now c.params-params.ensures.part _ _ c.index.result.now c.index.ensures c.part_figure-here.result c.part_figure-here.ensures
-      c.in-Pair.left c.in-Pair.right c.in-Pair.buffer c.in-Pair.is
-      c.output_of-output.result
-      (subst (λ library. IsOutput library c.in-Pair.buffer c.part_figure-here.result c.output_of-output.result) c.items.ensures c.output_of-output.ensures.output)
-      c.output_of-output.ensures.delay c.output_of-output.ensures.stage
-      c.push-in-Pair.new.self.items c.push-in-Pair-2.new.self.items c.in_ok-push-2.ensures.items c.in_ok-push-3.ensures.items
-      c.load_limit-in-loop-number.result c.slew_limit.result c.load_limit-in-loop-number.ensures.part c.slew_limit.ensures.part
-      c.is_load_met-load_met.result c.is_slew_met-slew_met.result c.is_load_met-load_met.ensures c.is_slew_met-slew_met.ensures,
-  known_next c.args.instance.now c.params-params.ensures.valid c.args.nodes.now c.requires.post_order c.requires.fits
-      c.loop-number.number c.loop-number-test.true c.loop-number.auto.number c.loop-number.figures.items c.loop-number.outputs.items
-      c.loop-number.load_met c.loop-number.slew_met (c.loop-number.invariant.0) (c.loop-number.invariant.1)
-      c.pop.new.self.items c.in-Some.above c.in-Some.ensures.items
-      c.params-params.result.now c.params-params.ensures.part _ _ c.index.result.now c.index.ensures c.part_figure-here.result c.part_figure-here.ensures,
-)
-
-pub loop-number-preserved : goal.loop-number-preserved
-loop-number-preserved c = (
-  down_at_leaf c.args.instance.now c.params-params.ensures.valid c.args.nodes.now c.requires.post_order c.requires.fits
-      c.loop-number.number c.loop-number-test.true c.loop-number.auto.number c.loop-number.figures.items c.loop-number.outputs.items
-      c.loop-number.load_met c.loop-number.slew_met (c.loop-number.invariant.0) (c.loop-number.invariant.1)
-      c.pop.new.self.items c.in-Some.above c.in-Some.ensures.items
-      c.params-params.result.now c.params-params.ensures.part _ _ c.index.result.now c.index.ensures c.part_figure-here.result c.part_figure-here.ensures
-      c.in_default-kind.field-0 c.in_default-kind.field-1 c.in_default-kind.is
-      c.load_limit-in-loop-number.result c.slew_limit.result c.load_limit-in-loop-number.ensures.part c.slew_limit.ensures.part
-      c.is_load_met-load_met.result c.is_slew_met-slew_met.result c.is_load_met-load_met.ensures c.is_slew_met-slew_met.ensures,
-  known_next c.args.instance.now c.params-params.ensures.valid c.args.nodes.now c.requires.post_order c.requires.fits
-      c.loop-number.number c.loop-number-test.true c.loop-number.auto.number c.loop-number.figures.items c.loop-number.outputs.items
-      c.loop-number.load_met c.loop-number.slew_met (c.loop-number.invariant.0) (c.loop-number.invariant.1)
-      c.pop.new.self.items c.in-Some.above c.in-Some.ensures.items
-      c.params-params.result.now c.params-params.ensures.part _ _ c.index.result.now c.index.ensures c.part_figure-here.result c.part_figure-here.ensures,
-)
+pub descend_part-requires-clause-above : goal.descend_part-requires-clause-above
+descend_part-requires-clause-above c =
+    source_handed c.args.instance.now c.args.nodes.now c.requires.post_order c.args.drive c.requires.drive
+    c.source_r.result c.source_r.ensures.part c.source_output-output.result c.source_output-output.ensures
 
 pub returns : goal.returns
 returns c =
-    down_at_end c.args.instance.now c.params-params.ensures.valid c.args.nodes.now c.requires.post_order c.requires.fits
-    c.loop-number.number (omega arith) _ c.loop-number.outputs.items (c.loop-number.invariant.0)
+    let load : (leb c.args.drive.load c.load_limit.result && c.in_ok-met.met.load_met)
+    ≡ (leb c.args.drive.load c.args.instance.now.load_limit && c.in_ok-met.met.load_met) =
+    ap (λ limit. leb c.args.drive.load limit && c.in_ok-met.met.load_met) c.load_limit.ensures.part in
+    let written : take c.args.figures.len (c.descend_part.new.figures ++ drop (length c.descend_part.new.figures) c.args.figures.items)
+    ≡ c.descend_part.new.figures =
+    written_back c.args.figures.len c.args.figures.items c.descend_part.new.figures (search rules) (search rules) in
+    whole_descent c.args.instance.now c.args.nodes.now c.requires.post_order c.args.drive c.requires.drive
+    c.source_r.result c.source_r.ensures.part c.source_output-output.result c.source_output-output.ensures
+    _ c.in_ok-met.met c.in_ok-met.ensures _ (search written) (search load) (search rules)
