@@ -45,7 +45,7 @@ use Rattle.cts_postorder.proofs.Waiting.{all_zip-set}
 use Rattle.cts_elmore.proofs.Down.{IsRight, handed_right, root_handed, left_handed, right_handed, figure_in_range, is_leaf, load_told, slew_told}
 
 -- one more answer, for one more item at the front
-both : {P Q : Type 0} (b c : Bool) → (IsTrue b ↔ P) → (IsTrue c ↔ Q) → IsTrue (b && c) ↔ (Q × P)
+pub both : {P Q : Type 0} (b c : Bool) → (IsTrue b ↔ P) → (IsTrue c ↔ Q) → IsTrue (b && c) ↔ (Q × P)
 both true c p q = ((λ t. (q.0 t, p.0 refl)), (λ all. q.1 (all.0)))
 both false c p q = ((λ t. let never : IsTrue false = t in cc), (λ all. p.1 (all.1)))
 
@@ -59,7 +59,7 @@ more P xs k d h = (
       (All-head P (get_or xs k d) (drop (k + 1) xs) split, All-tail P (get_or xs k d) (drop (k + 1) xs) split)),
 )
 
-through : {P Q : Type 0} {b : Bool} → (IsTrue b ↔ P) → (P ↔ Q) → IsTrue b ↔ Q
+pub through : {P Q : Type 0} {b : Bool} → (IsTrue b ↔ P) → (P ↔ Q) → IsTrue b ↔ Q
 through p q = ((λ t. q.0 (p.0 t)), (λ all. p.1 (q.1 all)))
 
 -- a fact of what a function gives

@@ -8,6 +8,8 @@ pub mod Root
 pub mod Ends
 pub mod Down
 pub mod HandedDown
+pub mod RootDown
+pub mod Join
 pub mod Limited
 pub mod LeafPins
 pub mod TreeFigures

@@ -1,5 +1,5 @@
 -- What a node hands down, and whether it meets the limits of an instance.
-use Rattle.std.specs.Prelude.{◌≡◌, ℕ, ◌+◌, ◌*◌, ◌^◌, ◌≤◌, ◌↔◌, List, [], slice_get, All, Option, Some, None, IsTrue}
+use Rattle.std.specs.Prelude.{◌≡◌, ℕ, ◌+◌, ◌*◌, ◌^◌, ◌≤◌, ◌↔◌, List, [], ◌∷◌, slice_get, All, Option, Some, None, IsTrue}
 use Rattle.std.specs.List.{AllZip}
 use Rattle.std.specs.Option.{option_map_or}
 use Rattle.cts_units.specs.declared.params.Params.{Params}
@@ -7,7 +7,7 @@ use Rattle.cts_units.specs.declared.params.Buffer.{Buffer}
 use Rattle.cts_units.specs.Delay.{wire_delay_of, slew_of}
 use Rattle.cts_units.specs.Choice.{added_delay_of, seen_load_of}
 use Rattle.cts_units.specs.Limits.{max_length, max_delay}
-use Rattle.cts_postorder.specs.BinaryTree.{BinaryTree, label, subtrees}
+use Rattle.cts_postorder.specs.BinaryTree.{BinaryTree, tip, fork, label, subtrees}
 use Rattle.cts_postorder.specs.Occurrence.{Occurrence, occurrence, occurrences}
 use Rattle.cts_tree.specs.declared.nodes.TreeNode.{TreeNode}
 use Rattle.cts_tree.specs.Nodes.{buffer_of}
@@ -17,6 +17,8 @@ use Rattle.cts_elmore.specs.declared.figures.NodeFigure.{NodeFigure}
 use Rattle.cts_elmore.specs.declared.descent.Output.{Output}
 use Rattle.cts_elmore.specs.declared.descent.Descent.{Descent}
 use Rattle.cts_elmore.specs.declared.descent.Met.{Met}
+use Rattle.cts_elmore.specs.declared.descent.RootDescent.{RootDescent}
+use Rattle.cts_elmore.specs.Loads.{source_load}
 use Rattle.cts_elmore.specs.Delays.{wire_delay, delay_at, stage_at}
 use Rattle.cts_elmore.specs.Skew.{greatest_below}
 use Rattle.cts_elmore.specs.Limits.{MeetsLoadAt, MeetsSlewAt, MeetsLoadLimit, MeetsSlewLimit}
@@ -93,6 +95,21 @@ abbrev pub IsDescentBelow : Parts → Output → BinaryTree TreeNode → List No
 IsDescentBelow i above t figures met =
     (root : BinaryTree TreeNode) (up : List (BinaryTree TreeNode)) → IsHandedTo i root (occurrence up t) above
     → IsPartDescent i root up t figures met
+
+-- both parts of a whole tree's root take this output
+abbrev pub IsHandedToParts : Parts → BinaryTree TreeNode → Output → Type 0
+IsHandedToParts i (tip n) output = Unit {0}
+IsHandedToParts i (fork l r n) output =
+    IsHandedTo i (fork l r n) (occurrence (fork l r n ∷ []) l) output
+    × IsHandedTo i (fork l r n) (occurrence (fork l r n ∷ []) r) output
+
+-- what a pass downward comes to at the root, from the source
+pub record IsRootDescent (i : Parts) (root : BinaryTree TreeNode) (descent : RootDescent) : Type 0 where
+  pub figure : IsNodeFigure i root (occurrence [] root) descent.figure
+  pub in_range : IsFigureInRange descent.figure
+  pub load_met : IsTrue descent.met.load_met ↔ ((source_load i root ≤ i.load_limit) × MeetsLoadAt i root)
+  pub slew_met : IsTrue descent.met.slew_met ↔ MeetsSlewAt i root (occurrence [] root)
+  pub to_parts : IsHandedToParts i root descent.output
 
 -- and over the whole tree, from the source
 pub record IsDescent (i : Parts) (root : BinaryTree TreeNode) (descent : Descent) : Type 0 where

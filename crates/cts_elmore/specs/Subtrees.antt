@@ -7,7 +7,7 @@ use Rattle.cts_units.specs.declared.params.Buffer.{Buffer}
 use Rattle.cts_units.specs.Delay.{wire_delay_of}
 use Rattle.cts_units.specs.Choice.{added_delay_of, seen_load_of}
 use Rattle.cts_units.specs.Limits.{max_length, max_load, max_delay}
-use Rattle.cts_postorder.specs.BinaryTree.{BinaryTree, label, labels, size}
+use Rattle.cts_postorder.specs.BinaryTree.{BinaryTree, fork, label, labels, size}
 use Rattle.cts_postorder.specs.PostOrder.{root_of, trees_of}
 use Rattle.cts_postorder.specs.Pass.{IsLeastFailure}
 use Rattle.cts_tree.specs.declared.nodes.TreeNode.{TreeNode}
@@ -108,6 +108,12 @@ PairOrOver library buffer a b result =
     MatchOption result
     ((max_load < a.load + b.load) ⊎ (max_delay < max a.greatest b.greatest + added_delay_of library buffer (a.load + b.load)))
     (IsPair library buffer a b)
+
+-- a pair of any two parts that have these values, by their wires and the pair's buffer, or that it is over the limits
+abbrev pub IsJoinOf : Parts → Option ℕ → ℕ → ℕ → Subtree → Subtree → Option Subtree → Type 0
+IsJoinOf i buffer left right a b result =
+    (l r : BinaryTree TreeNode) (n : TreeNode) → buffer_of n.kind ≡ buffer → (label l).wire ≡ left → (label r).wire ≡ right
+    → IsSubtree i l a → IsSubtree i r b → MatchOption result (IsPairOver i (fork l r n)) (IsSubtree i (fork l r n))
 
 -- What a pass upward says of a node's figures: all but the delays from the source. What is seen of the subtree is told by
 -- the node's kind and the load.

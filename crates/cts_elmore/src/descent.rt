@@ -7,7 +7,7 @@ ghost use Rattle.cts_units.specs.Limits.{IsBuffer, IsParams, max_delay, max_leng
 ghost use Rattle.cts_postorder.specs.PostOrder.{IsPostOrder, root_of, trees_of};
 ghost use Rattle.cts_tree.specs.Nodes.{buffer_of, children_from, tree_children};
 ghost use Rattle.cts_elmore.specs.Fits.{FitsInstance, NamesBuffer};
-ghost use Rattle.cts_elmore.specs.Outputs.{IsDescent, IsDescentBelow, IsHandedDown, IsOutput, IsPartFigure, IsSourceOutput, LoadIsMet, SlewIsMet};
+ghost use Rattle.cts_elmore.specs.Outputs.{IsDescent, IsDescentBelow, IsHandedDown, IsOutput, IsPartFigure, IsRootDescent, IsSourceOutput, LoadIsMet, SlewIsMet};
 ghost use Rattle.cts_elmore.specs.Subtrees.{IsDrive, IsKnownBelow};
 
 use crate::drive::{Drive, resistance_delay};
@@ -177,6 +177,58 @@ pub fn descend(
         load_met: source_met & met.load_met,
         slew_met: met.slew_met,
     })
+}
+
+/// What a pass downward comes to at the root of a tree.
+#[derive(Clone, Copy)]
+pub struct RootDescent {
+    /// The root's figures.
+    pub figure: NodeFigure,
+    /// What it hands down to both of its parts.
+    pub output: Output,
+    /// Whether the limits of the instance are met at the root, and that of loads by the source.
+    pub met: Met,
+}
+
+/// The first step of a pass downward: from the source, which drives the root of a tree so, to what the root hands
+/// down to its parts. All of the root's figures but the delays are known from below.
+pub fn descend_root(
+    instance: &Instance,
+    nodes: &[TreeNode],
+    known: &NodeFigure,
+    drive: Drive,
+) -> RootDescent
+    requires post_order { IsPostOrder (map tree_children nodes.now) }
+    requires fits { FitsInstance instance.now nodes.now }
+    requires known { IfSome (root_of tree_children nodes.now) (λ root. IsKnownBelow instance.now root known.now) }
+    requires drive { IfSome (root_of tree_children nodes.now) (λ root. IsDrive instance.now root drive) }
+    ensures { IfSome (root_of tree_children nodes.now) (λ root. IsRootDescent instance.now root result) }
+{
+    let params = instance.params();
+    let last = nodes.len() - 1;
+    let kind = nodes[last].kind;
+    let above = source_output(instance.source_r(), drive.load);
+    let figure = part_figure(params, kind, nodes[last].wire, known, &above);
+    let limit = instance.load_limit();
+    let root_met = is_load_met(limit, kind, figure.below);
+    RootDescent {
+        figure,
+        output: output_of(params.library.items(), own_buffer(kind), &figure),
+        met: Met {
+            load_met: (drive.load <= limit) & root_met,
+            slew_met: is_slew_met(instance.slew_limit(), kind, figure.stage),
+        },
+    }
+}
+
+/// The index of a node's buffer in the library, if it has one.
+fn own_buffer(kind: NodeKind) -> Option<u16>
+    ensures { result ≡ buffer_of kind }
+{
+    match kind {
+        NodeKind::Leaf { .. } => None,
+        NodeKind::Pair { buffer, .. } => buffer,
+    }
 }
 
 /// What [`descend`] does, for a stretch of a tree's nodes that is a subtree and takes this output from the

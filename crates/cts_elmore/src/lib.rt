@@ -8,6 +8,11 @@
 //! the sums over a node's path from the source, `Skew` residues, skew and bound over the leaves, and
 //! `Limits` what is over the limits of a tree and what meets those of an instance.
 //!
+//! A layer that measures the two parts of a tree beside each other takes the passes apart: upward [`gather_part`] over
+//! each part, [`join_parts`] and [`known_figure`] at the root, [`drive_root`]; downward [`descend_root`],
+//! [`descend_part`] over each part; and [`figures_from`]. Their values stand in `specs/Subtrees.antt` and
+//! `specs/Outputs.antt`.
+//!
 //! All of these are told of a tree and of the path of each node. The laws of [`laws`] say what a pair
 //! adds to its parts and hands down to them, that the skew is at most the bound, that the figures of a tree
 //! within the limits are in range, and that a sound tree (`specs/Sound.antt`) stands in the die.
@@ -25,6 +30,9 @@ mod measurement;
 mod pin_list;
 mod subtree;
 
+pub use descent::{Descent, Met, Output, RootDescent, descend_part, descend_root};
+pub use drive::{Drive, drive_root};
 pub use figures::{Figures, NodeFigure, NodeFigures};
-pub use measurement::{Measured, measure, measure_with, try_measure, within};
+pub use measurement::{Measured, figures_from, measure, measure_with, try_measure, within};
 pub use pin_list::{Pin, pins};
+pub use subtree::{Branch, Risen, Subtree, gather_part, join_parts, known_figure};

@@ -9,9 +9,10 @@ ghost use Rattle.cts_elmore.specs.Fits.{FitsInstance};
 ghost use Rattle.cts_elmore.specs.Limits.{IsFirstOver, IsWithinLimits};
 ghost use Rattle.cts_elmore.specs.Loads.{leaf_pins};
 ghost use Rattle.cts_elmore.specs.Measurement.{IsMeasured};
+ghost use Rattle.cts_elmore.specs.Outputs.{IsDescent};
 ghost use Rattle.cts_elmore.specs.Subtrees.{DriveOrOver, IsKnownBelow, IsSubtree};
 
-use crate::descent::descend;
+use crate::descent::{Descent, descend};
 use crate::drive::{Drive, drive_root};
 use crate::figures::{Figures, NodeFigure, NodeFigures};
 use crate::pin_list::{Pin, pins};
@@ -147,7 +148,27 @@ fn driven(
     ensures in_range { IfOk result AreFiguresInRange }
 {
     let descent = descend(alloc, instance, nodes, known, drive)?;
-    Ok(Figures {
+    Ok(figures_from(instance, nodes, root, drive, descent))
+}
+
+/// The figures of a tree whose root the source drives so, from what a pass downward comes to.
+pub fn figures_from(
+    instance: &Instance,
+    nodes: &[TreeNode],
+    root: &Subtree,
+    drive: Drive,
+    descent: Descent,
+) -> Figures
+    requires post_order { IsPostOrder (map tree_children nodes.now) }
+    requires fits { FitsInstance instance.now nodes.now }
+    requires root { IfSome (root_of tree_children nodes.now) (λ t. IsSubtree instance.now t root.now) }
+    requires drive { IfSome (root_of tree_children nodes.now) (λ t. DriveOrOver instance.now t (Some drive)) }
+    requires descent { IfSome (root_of tree_children nodes.now) (λ t. IsDescent instance.now t descent) }
+    ensures figures { AreFigures instance.now nodes.now result }
+    ensures one_each { length result.nodes ≡ length nodes.now }
+    ensures in_range { AreFiguresInRange result }
+{
+    Figures {
         nodes: NodeFigures::of(descent.figures),
         source_load: drive.load,
         wire_total: root.wires + nodes[nodes.len() - 1].wire,
@@ -159,5 +180,5 @@ fn driven(
         bound: root.bound,
         load_met: descent.load_met,
         slew_met: descent.slew_met,
-    })
+    }
 }

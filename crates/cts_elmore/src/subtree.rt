@@ -8,7 +8,7 @@ ghost use Rattle.cts_tree.specs.Nodes.{children_from, tree_children};
 ghost use Rattle.cts_elmore.specs.Fits.{FitsInstance};
 ghost use Rattle.cts_elmore.specs.Loads.{leaf_pins};
 ghost use Rattle.cts_elmore.specs.Limits.{IsPairOver};
-ghost use Rattle.cts_elmore.specs.Subtrees.{HasChildrenFrom, IsBranch, IsBranchInRange, IsLeafOf, IsSubtree, IsSubtreeInRange, IsGathered, IsRisen, PairOrOver};
+ghost use Rattle.cts_elmore.specs.Subtrees.{HasChildrenFrom, IsBranch, IsBranchInRange, IsLeafOf, IsSubtree, IsSubtreeInRange, IsGathered, IsJoinOf, IsRisen, PairOrOver};
 ghost use Rattle.cts_postorder.specs.Waiting.{AreWaiting, StandsAt};
 
 use crate::figures::NodeFigure;
@@ -133,6 +133,27 @@ fn pair(params: &Params, a: &Branch, b: &Branch, buffer: Option<u16>) -> Option<
     })
 }
 
+/// The subtree of a pair, with the buffer of this index if it has one, from its two parts, whose wires are `left` and
+/// `right` nm long, or `None` exactly where the pair is over the limits.
+pub fn join_parts(
+    instance: &Instance,
+    buffer: Option<u16>,
+    left: u64,
+    right: u64,
+    a: &Subtree,
+    b: &Subtree,
+) -> Option<Subtree>
+    requires buffer { IfSome buffer (λ index. index < length instance.now.params.library) }
+    requires a { IsSubtreeInRange a.now }
+    requires b { IsSubtreeInRange b.now }
+    ensures { IsJoinOf instance.now buffer left right a.now b.now result }
+{
+    let params = instance.params();
+    let a = through_wire(params.wire, left, a)?;
+    let b = through_wire(params.wire, right, b)?;
+    pair(params, &a, &b, buffer)
+}
+
 /// The subtree at a number of a stretch of nodes, whose children are numbered from `first` on, by those
 /// that wait for the pair above them, or `None` exactly where it is a pair that is over the limits. A
 /// pair's parts no longer wait. The pins are those of the leaves' sinks that are left; a leaf takes the
@@ -180,7 +201,7 @@ fn subtree_at(
 }
 
 /// What is known of a node's figures from its subtree: all but the delays.
-fn known_figure(subtree: &Subtree) -> NodeFigure
+pub fn known_figure(subtree: &Subtree) -> NodeFigure
     ensures below { result.below ≡ subtree.now.below }
     ensures residue_is { result.residue ≡ subtree.now.residue }
     ensures offset { result.offset ≡ subtree.now.offset }

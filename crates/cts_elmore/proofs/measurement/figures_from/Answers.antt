@@ -1,6 +1,6 @@
 use Rattle.std.proofs.Common.{length, ap, ◌∙◌, refl, arith}
 use Rattle.cts_elmore.proofs.TreeFigures.{some_node, wires_small, greatest_small, least_small, delays_small, figures_are, figures_in_range, one_each}
-use Rattle.cts_elmore.proofs.measurement.driven.Goals as goal
+use Rattle.cts_elmore.proofs.measurement.figures_from.Goals as goal
 
 pub overflow_sub-result : goal.overflow_sub-result
 overflow_sub-result c = omega (arith, some_node c.args.instance.now c.args.nodes.now c.requires.post_order)
@@ -69,18 +69,18 @@ overflow_sub-result-2 c =
 pub returns-clause-figures : goal.returns-clause-figures
 returns-clause-figures c =
     figures_are c.args.instance.now c.args.nodes.now c.requires.post_order c.args.root.now c.requires.root c.args.drive c.requires.drive
-    c.index-nodes-nodes.result c.args.nodes.now refl c.in_ok-descent.descent c.in_ok-descent.ensures c.of.result c.of.ensures
+    c.index-nodes-nodes.result c.args.nodes.now refl c.args.descent c.requires.descent c.of.result c.of.ensures
 
 pub returns-clause-one_each : goal.returns-clause-one_each
 returns-clause-one_each c =
     ap length c.of.ensures
     ∙ one_each c.args.instance.now c.args.nodes.now c.requires.post_order c.args.root.now c.requires.root c.args.drive c.requires.drive
-    c.index-nodes-nodes.result c.in_ok-descent.descent c.in_ok-descent.ensures
+    c.index-nodes-nodes.result c.args.descent c.requires.descent
 
 pub returns-clause-in_range : goal.returns-clause-in_range
 returns-clause-in_range c =
     figures_in_range c.args.instance.now c.args.nodes.now c.requires.post_order c.args.root.now c.requires.root c.args.drive c.requires.drive
-    c.index-nodes-nodes.result c.requires.fits c.in_ok-descent.descent c.in_ok-descent.ensures c.of.result c.of.ensures
+    c.index-nodes-nodes.result c.requires.fits c.args.descent c.requires.descent c.of.result c.of.ensures
 
-pub bounds-nodes-nodes-in_ok-descent : goal.bounds-nodes-nodes-in_ok-descent
-bounds-nodes-nodes-in_ok-descent c = omega (arith, some_node c.args.instance.now c.args.nodes.now c.requires.post_order)
+pub bounds-nodes-nodes-2 : goal.bounds-nodes-nodes-2
+bounds-nodes-nodes-2 c = omega (arith, some_node c.args.instance.now c.args.nodes.now c.requires.post_order)
