@@ -1,13 +1,13 @@
 -- The pass downward over the root of a tree, and over its two parts.
-use Rattle.std.proofs.Common.{◌≡◌, ℕ, ◌+◌, ◌-◌, ◌<◌, ◌≤◌, ◌↔◌, Bool, ◌&&◌, List, [], ◌∷◌, ◌++◌, map, set, take, drop, length, get_or, Option, Some, None, IsTrue, refl, sym, ap, ap₂, subst, ◌∙◌, arith, append-nil, length-append, take_all}
+use Rattle.std.proofs.Common.{◌≡◌, ℕ, ◌+◌, ◌-◌, ◌≤◌, ◌↔◌, Bool, ◌&&◌, List, [], ◌∷◌, ◌++◌, set, take, drop, length, get_or, Option, Some, None, IsTrue, refl, sym, ap, subst, ◌∙◌, arith, append-nil, length-append, take_all}
 use Rattle.std.specs.Prelude.{IfSome}
 use Rattle.std.specs.List.{All, AllZip}
 use Rattle.std.proofs.lemmas.List.{drop_all}
 use Rattle.std.proofs.lemmas.List.Elements.{All-append, All-cons, All-nil}
 use Rattle.std.proofs.lemmas.Slice.Zip.{AllZip-long}
-use Rattle.cts_postorder.specs.BinaryTree.{BinaryTree, tip, fork, size, subtrees}
+use Rattle.cts_postorder.specs.BinaryTree.{BinaryTree, fork, subtrees}
 use Rattle.cts_postorder.specs.Occurrence.{Occurrence, occurrence, occurrences}
-use Rattle.cts_postorder.specs.PostOrder.{IsPostOrder, root_of, trees_of}
+use Rattle.cts_postorder.specs.PostOrder.{root_of, trees_of}
 use Rattle.cts_postorder.proofs.Growth.{length-trees_of}
 use Rattle.cts_postorder.proofs.Sizes.{length-subtrees}
 use Rattle.cts_postorder.proofs.Stretches.{IsSpelled}
@@ -204,16 +204,20 @@ module _ (i : Parts) (nodes : List TreeNode) (middle : ℕ) (c : Cut nodes middl
                       (All-cons (MeetsLoadAt i) top [] (each.1.1) (All-nil (MeetsLoadAt i)));
                 }),
             (λ limit. subst IsTrue (sym load)
-                (loads.1 (all_front (MeetsLoadAt i) ts (top ∷ []) limit.buffers,
-                (limit.source, all_back (MeetsLoadAt i) ts (top ∷ []) limit.buffers 0 top (omega arith))))),
+                (loads.1 (
+                  all_front (MeetsLoadAt i) ts (top ∷ []) limit.buffers,
+                  (limit.source, all_back (MeetsLoadAt i) ts (top ∷ []) limit.buffers 0 top (omega arith)),
+                ))),
           );
           slew_met = (
             (λ yes.
                 let each = slews.0 (subst IsTrue slew yes) in
                 All-append (MeetsSlewAt i top) os (occurrence [] top ∷ []) (each.0) (each.1)),
             (λ all. subst IsTrue (sym slew)
-                (slews.1 (all_front (MeetsSlewAt i top) os (occurrence [] top ∷ []) all,
-                all_back (MeetsSlewAt i top) os (occurrence [] top ∷ []) all))),
+                (slews.1 (
+                  all_front (MeetsSlewAt i top) os (occurrence [] top ∷ []) all,
+                  all_back (MeetsSlewAt i top) os (occurrence [] top ∷ []) all,
+                ))),
           );
         }))
 

@@ -1,22 +1,21 @@
 -- A tree cut at its root: the nodes, the trees and the pins of its two parts.
-use Rattle.std.proofs.Common.{set, ◌≡◌, ℕ, ◌+◌, ◌-◌, ◌/◌, ◌<◌, ◌≤◌, List, [], ◌∷◌, ◌++◌, map, take, drop, length, get_or, slice_get, Option, Some, None, IsSomeAnd, refl, sym, ap, ap₂, subst, ◌∙◌, arith, append_assoc, append-nil, length-append, take_at}
+use Rattle.std.proofs.Common.{set, ◌≡◌, ℕ, ◌+◌, ◌-◌, ◌/◌, ◌<◌, ◌≤◌, List, [], ◌∷◌, ◌++◌, map, take, drop, length, get_or, slice_get, Option, Some, None, IsSomeAnd, refl, sym, ap, subst, ◌∙◌, arith, append_assoc, append-nil, length-append, take_at}
 use Rattle.std.specs.Prelude.{IfSome}
 use Rattle.std.specs.List.{All, cons_option}
 use Rattle.std.specs.Option.{option_map, option_and_then}
 use Rattle.std.proofs.lemmas.List.{drop_at, get_or_append_left}
 use Rattle.std.proofs.lemmas.List.Elements.{All-tail, filter_map-append}
 use Rattle.cts_units.specs.declared.params.Sink.{Sink}
-use Rattle.cts_postorder.specs.BinaryTree.{BinaryTree, tip, fork, label, labels, size, subtrees, root_number, IsNumbered}
-use Rattle.cts_postorder.specs.Occurrence.{occurrences}
+use Rattle.cts_postorder.specs.BinaryTree.{BinaryTree, tip, fork, labels, size, subtrees, IsNumbered}
 use Rattle.cts_postorder.specs.PostOrder.{IsPostOrder, root_of, trees_of}
 use Rattle.cts_postorder.proofs.Lists.{Whole, whole_of}
 use Rattle.cts_postorder.proofs.Sizes.{size_pos, length-labels}
-use Rattle.cts_postorder.proofs.Stretches.{IsSpelled, spelled, stretch_spelled, names_from, IsJoined, joined_at}
+use Rattle.cts_postorder.proofs.Stretches.{IsSpelled, stretch_spelled, names_from, IsJoined, joined_at}
 use Rattle.cts_tree.specs.declared.nodes.NodeKind.{NodeKind}
 use Rattle.cts_tree.specs.declared.nodes.NodeKind.TheVariants.{Leaf, Pair}
 use Rattle.cts_tree.specs.declared.nodes.TreeNode.{TreeNode}
 use Rattle.cts_tree.specs.Nodes.{children_of, children_from, leaf_sink, tree_children}
-use Rattle.cts_tree.proofs.Stretches.{whole_from_start, counts_from}
+use Rattle.cts_tree.proofs.Stretches.{counts_from}
 use Rattle.cts_instance.specs.declared.parts.Parts.{Parts}
 use Rattle.cts_elmore.specs.declared.pin_list.Pin.{Pin}
 use Rattle.cts_elmore.specs.Fits.{FitsInstance, NamesSink, NamesBuffer}
@@ -94,7 +93,7 @@ one_pin i node (Leaf id sink) is none named = by_sink (slice_get i.sinks sink) r
     by_sink (Some s) found h = (
       pin_of s,
       ap (λ (kind : NodeKind). option_map pin_of (option_and_then (slice_get i.sinks) (leaf_sink kind))) is
-      ∙ ap (λ (o : Option Sink). option_map pin_of o) found,
+          ∙ ap (λ (o : Option Sink). option_map pin_of o) found,
     )
 one_pin i node (Pair left right buffer) is none named = cc
 

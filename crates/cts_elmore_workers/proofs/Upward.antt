@@ -1,5 +1,5 @@
 -- The pass upward over the two parts of a tree, and the step at its root.
-use Rattle.std.proofs.Common.{set, ◌≡◌, ℕ, ◌+◌, ◌-◌, ◌/◌, ◌<◌, ◌≤◌, inl, List, [], ◌∷◌, ◌++◌, map, take, drop, length, get_or, slice_get, Option, Some, None, refl, sym, ap, subst, ◌∙◌, arith, append_assoc, length-append, length-take, length-drop}
+use Rattle.std.proofs.Common.{set, ◌≡◌, ℕ, ◌+◌, ◌-◌, ◌/◌, ◌<◌, inl, List, [], ◌∷◌, ◌++◌, map, take, drop, length, get_or, slice_get, Option, Some, None, refl, sym, ap, subst, ◌∙◌, arith, append_assoc}
 use Rattle.std.specs.Prelude.{IfSome, MatchOption}
 use Rattle.std.specs.List.{All, AllZip}
 use Rattle.std.proofs.lemmas.List.{get_or_append_left, get_or-append_right}
@@ -18,7 +18,6 @@ use Rattle.cts_tree.specs.declared.nodes.NodeKind.TheVariants.{Leaf, Pair}
 use Rattle.cts_tree.specs.declared.nodes.TreeNode.{TreeNode}
 use Rattle.cts_tree.specs.Nodes.{buffer_of, children_from, tree_children}
 use Rattle.cts_instance.specs.declared.parts.Parts.{Parts}
-use Rattle.cts_elmore.specs.declared.drive.Drive.{Drive}
 use Rattle.cts_elmore.specs.declared.figures.NodeFigure.{NodeFigure}
 use Rattle.cts_elmore.specs.declared.pin_list.Pin.{Pin}
 use Rattle.cts_elmore.specs.declared.subtree.Risen.{Risen}
@@ -29,8 +28,8 @@ use Rattle.cts_elmore.specs.Limits.{IsPairOver, IsOver, IsWithinLimits}
 use Rattle.cts_elmore.specs.Loads.{leaf_pins}
 use Rattle.cts_elmore.specs.Subtrees.{DriveOrOver, HasChildrenFrom, IsJoinOf, IsKnownBelow, IsRisen, IsSubtree, IsSomeSubtree}
 use Rattle.cts_elmore.proofs.Limited.{root_within}
-use Rattle.cts_elmore_workers.specs.Halves.{IsMiddle, AreKnownParts, AreNodesOfParts, AreSubtrees}
-use Rattle.cts_elmore_workers.proofs.Halves.{Cut, cut_at, told, tell, sizes, all_front, all_back, set_one, left_fits, right_fits, left_pins, right_pins, enough, left_names, right_names}
+use Rattle.cts_elmore_workers.specs.Halves.{AreKnownParts, AreNodesOfParts, AreSubtrees}
+use Rattle.cts_elmore_workers.proofs.Halves.{Cut, told, tell, sizes, all_front, all_back, set_one, left_fits, right_fits, left_pins, right_pins, left_names, right_names}
 
 -- a stretch without a pair that is over the limits is not told to be over them
 never_over : (i : Parts) (first : ℕ) (ns : List TreeNode) (t : BinaryTree TreeNode) → IsSpelled (children_from first) ns t
@@ -237,9 +236,10 @@ module _ (i : Parts) (nodes : List TreeNode) (middle : ℕ) (c : Cut nodes middl
       module _ (a b : Subtree) (a_is : p ≡ Within a) (b_is : q ≡ Within b) where
         pub risen_values : IfSome (root_of tree_children nodes) (AreSubtrees i a b)
         risen_values =
-            tell nodes middle c (AreSubtrees i a b)
-            ((found_within i 0 front c.left front_spelled ahead p p_is a a_is).0,
-            (found_within i middle back c.right back_spelled behind q q_is b b_is).0)
+            tell nodes middle c (AreSubtrees i a b) (
+              (found_within i 0 front c.left front_spelled ahead p p_is a a_is).0,
+              (found_within i middle back c.right back_spelled behind q q_is b b_is).0,
+            )
 
         pub risen_known : IfSome (root_of tree_children nodes) (AreKnownParts i (ahead ++ behind))
         risen_known =

@@ -13,7 +13,10 @@ ghost use Rattle.cts_elmore_workers.specs.Halves.{AreKnownParts, AreSubtrees, Is
 
 use crate::parts::nodes_of_parts;
 use cts_beside::beside_mut;
-use cts_elmore::{Drive, NodeFigure, Pin, Risen, Subtree, drive_root, gather_part, join_parts, known_figure, own_buffer};
+use cts_elmore::{
+    Drive, NodeFigure, Pin, Risen, Subtree, drive_root, gather_part, join_parts, known_figure,
+    own_buffer,
+};
 use cts_instance::Instance;
 use cts_num::NoMemory;
 use cts_tree::TreeNode;

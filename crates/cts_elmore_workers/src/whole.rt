@@ -99,8 +99,24 @@ fn measure_parts<R: Threads>(
     ensures one_each { IfOk result (λ figures. length figures.nodes ≡ length nodes.now) }
     ensures in_range { IfOk result AreFiguresInRange }
 {
-    let (root, drive) = rise(rt, alloc, instance, nodes, middle, pins, room.as_mut_slice())?;
-    let met = descend(rt, alloc, instance, nodes, middle, room.as_mut_slice(), drive)?;
+    let (root, drive) = rise(
+        rt,
+        alloc,
+        instance,
+        nodes,
+        middle,
+        pins,
+        room.as_mut_slice(),
+    )?;
+    let met = descend(
+        rt,
+        alloc,
+        instance,
+        nodes,
+        middle,
+        room.as_mut_slice(),
+        drive,
+    )?;
     let descent = Descent {
         figures: room,
         load_met: met.load_met,

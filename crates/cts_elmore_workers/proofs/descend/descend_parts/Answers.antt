@@ -32,6 +32,6 @@ pub descend_beside-requires-clause-back_above : goal.descend_beside-requires-cla
 descend_beside-requires-clause-back_above g c = back_above c.args.instance.now c.args.nodes.now c.args.middle (cut_at c.args.nodes.now c.requires.post_order c.args.middle c.requires.middle) c.nodes_of_parts.result.0.now c.nodes_of_parts.result.1.now c.nodes_of_parts.ensures c.args.above c.requires.above
 
 pub returns : goal.returns
-returns g c = 
+returns g c =
     parts_descend c.args.instance.now c.args.nodes.now c.args.middle (cut_at c.args.nodes.now c.requires.post_order c.args.middle c.requires.middle) c.nodes_of_parts.result.0.now c.nodes_of_parts.result.1.now c.nodes_of_parts.ensures c.args.above c.requires.above c.descend_beside.new.front_figures c.descend_beside.new.back_figures
     c.in_ok-left.left c.in_ok-left.right c.in_ok-left.ensures.front c.in_ok-left.ensures.back _ refl refl

@@ -1,5 +1,3 @@
-use Rattle.std.proofs.Common.{subst}
-use Rattle.std.specs.Prelude.{IfSome}
 use Rattle.cts_elmore_workers.proofs.Upward.{driven}
 use Rattle.cts_elmore_workers.proofs.rise.drive_within.Goals as goal
 

@@ -1,4 +1,4 @@
-use Rattle.std.proofs.Common.{◌≡◌, ◌+◌, length, ◌∙◌, arith}
+use Rattle.std.proofs.Common.{◌∙◌, arith}
 use Rattle.cts_elmore_workers.proofs.Halves.{cut_at, sizes, enough}
 use Rattle.cts_elmore_workers.proofs.Upward.{front_order, back_order, back_names, front_long, back_long, front_fits, back_fits, front_pins, back_pins, front_within, back_within, risen_values, risen_known}
 use Rattle.cts_elmore_workers.proofs.rise.rise_parts.Goals as goal

@@ -1,4 +1,4 @@
-use Rattle.std.proofs.Common.{◌≡◌, ◌+◌, ◌-◌, length, refl, ◌∙◌, ap, sym, arith}
+use Rattle.std.proofs.Common.{arith}
 use Rattle.cts_elmore_workers.proofs.Halves.{cut_at, sizes}
 use Rattle.cts_elmore_workers.proofs.Upward.{buffer_within, left_is_some, right_is_some, root_is, root_not_over}
 use Rattle.cts_elmore_workers.proofs.rise.rise_root.Goals as goal

@@ -1,4 +1,4 @@
-use Rattle.std.proofs.Common.{rules, ◌≡◌, ◌++◌, take, drop, length, refl}
+use Rattle.std.proofs.Common.{rules, ◌++◌, take, drop, length, refl}
 use Rattle.cts_elmore_workers.proofs.Downward.{written_back, descent_is}
 use Rattle.cts_elmore_workers.proofs.whole.measure_parts.Goals as goal
 
