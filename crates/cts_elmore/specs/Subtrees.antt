@@ -109,6 +109,12 @@ PairOrOver library buffer a b result =
     ((max_load < a.load + b.load) ⊎ (max_delay < max a.greatest b.greatest + added_delay_of library buffer (a.load + b.load)))
     (IsPair library buffer a b)
 
+-- some tree with no more nodes than one of 65,536 leaves has these values
+pub record IsSomeSubtree (i : Parts) (s : Subtree) : Type 0 where
+  pub tree : BinaryTree TreeNode
+  pub few : size tree ≤ 131071
+  pub is : IsSubtree i tree s
+
 -- a pair of any two parts that have these values, by their wires and the pair's buffer, or that it is over the limits
 abbrev pub IsJoinOf : Parts → Option ℕ → ℕ → ℕ → Subtree → Subtree → Option Subtree → Type 0
 IsJoinOf i buffer left right a b result =

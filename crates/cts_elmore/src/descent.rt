@@ -222,7 +222,7 @@ pub fn descend_root(
 }
 
 /// The index of a node's buffer in the library, if it has one.
-fn own_buffer(kind: NodeKind) -> Option<u16>
+pub fn own_buffer(kind: NodeKind) -> Option<u16>
     ensures { result ≡ buffer_of kind }
 {
     match kind {

@@ -30,7 +30,7 @@ mod measurement;
 mod pin_list;
 mod subtree;
 
-pub use descent::{Descent, Met, Output, RootDescent, descend_part, descend_root};
+pub use descent::{Descent, Met, Output, RootDescent, descend_part, descend_root, own_buffer};
 pub use drive::{Drive, drive_root};
 pub use figures::{Figures, NodeFigure, NodeFigures};
 pub use measurement::{Measured, figures_from, measure, measure_with, try_measure, within};

@@ -8,7 +8,7 @@ ghost use Rattle.cts_tree.specs.Nodes.{children_from, tree_children};
 ghost use Rattle.cts_elmore.specs.Fits.{FitsInstance};
 ghost use Rattle.cts_elmore.specs.Loads.{leaf_pins};
 ghost use Rattle.cts_elmore.specs.Limits.{IsPairOver};
-ghost use Rattle.cts_elmore.specs.Subtrees.{HasChildrenFrom, IsBranch, IsBranchInRange, IsLeafOf, IsSubtree, IsSubtreeInRange, IsGathered, IsJoinOf, IsRisen, PairOrOver};
+ghost use Rattle.cts_elmore.specs.Subtrees.{HasChildrenFrom, IsBranch, IsBranchInRange, IsLeafOf, IsSubtree, IsSubtreeInRange, IsGathered, IsJoinOf, IsSomeSubtree, IsRisen, PairOrOver};
 ghost use Rattle.cts_postorder.specs.Waiting.{AreWaiting, StandsAt};
 
 use crate::figures::NodeFigure;
@@ -144,8 +144,8 @@ pub fn join_parts(
     b: &Subtree,
 ) -> Option<Subtree>
     requires buffer { IfSome buffer (λ index. index < length instance.now.params.library) }
-    requires a { IsSubtreeInRange a.now }
-    requires b { IsSubtreeInRange b.now }
+    requires a { IsSomeSubtree instance.now a.now }
+    requires b { IsSomeSubtree instance.now b.now }
     ensures { IsJoinOf instance.now buffer left right a.now b.now result }
 {
     let params = instance.params();
