@@ -4,7 +4,9 @@ ghost use Rattle.std.specs.Prelude.{◌≡◌, ◌≤◌, [], length, map, IfErr
 ghost use Rattle.cts_topo.specs.Shape.{IsShapeOver};
 ghost use Rattle.cts_topo.specs.Topology.{shape_of};
 ghost use Rattle.cts_up.specs.Plan.{IsPlan};
-ghost use Rattle.cts_up.specs.Sites.{site_of};
+ghost use Rattle.cts_up.specs.Sites.{AreSites, site_of};
+ghost use Rattle.cts_embed.specs.Ends.{EmbedEnds};
+ghost use Rattle.cts_embed.specs.PlacedTree.{IsPlacedTree};
 ghost use Rattle.cts_embed.specs.Fitting.{Fits};
 ghost use Rattle.cts_embed_workers.specs.Stretches.{AreIds};
 ghost use Rattle.cts_plain.specs.Ends.{EndsWithPlan};
@@ -20,13 +22,15 @@ ghost use Rattle.cts_work.specs.Plans.{nodes_of};
 
 use crate::valid::instance_is_valid;
 use cts_beside::beside;
-use cts_elmore::Figures;
-use cts_embed::embed_sites;
+use cts_elmore::{Figures, NodeFigure};
+use cts_elmore_workers::figures_room;
+use cts_embed::{EmbedEnd, embed_sites};
 use cts_embed_workers::{embed_by, ids_for, room_for};
 use cts_instance::Instance;
 use cts_memo::{Memo, MemoPass, Secret, Table};
 use cts_num::NoMemory;
-use cts_plain::{NoTree, settle};
+use cts_plain::NoTree;
+use cts_settle_workers::settle_by;
 use cts_topo::Shape;
 use cts_topo_workers::topology_by;
 use cts_tree::{Placed, Tree, TreeNode};
@@ -149,7 +153,7 @@ fn place_alone(
 }
 
 /// The same by so many workers, of whom one brings the plan into the table of the memo meanwhile: of two, the other one is
-/// the caller.
+/// the caller. Where they are more, room for the figures of the nodes comes with it, which a thread of its own makes.
 fn place_plan<R: Threads + Sync>(
     rt: &R,
     alloc: Global,
@@ -157,22 +161,34 @@ fn place_plan<R: Threads + Sync>(
     shape: &Shape,
     plan: &Plan,
     workers: u32,
-) -> Result<Placed, NoTree>
+) -> Result<(Placed, Vec<NodeFigure>), NoTree>
     requires shape { IsShapeOver (length instance.now.sinks) shape.now }
     requires plan { IsPlan instance.now.params instance.now.sinks shape.now (nodes_of plan.now) }
-    ensures fits { IfOk result (Fits instance.now) }
-    ensures placed { IfOk result (IsPlacedBy instance.now shape.now) }
+    ensures fits { IfOk result (λ made. Fits instance.now made.0) }
+    ensures placed { IfOk result (λ made. IsPlacedBy instance.now shape.now made.0) }
     ensures ends { IfErr result (EndsWithPlan instance.now shape.now) }
 {
     if workers < 3 {
-        return place_alone(alloc, instance, shape, plan);
+        let placed = place_alone(alloc, instance, shape, plan)?;
+        return Ok((placed, Vec::new(alloc)));
     }
     let Ground { room, ids, sites } = list_sites(rt, alloc, instance, shape, plan)?;
     let (sites, ids) = (sites.as_slice(), ids.as_slice());
-    Ok(embed_by(rt, alloc, workers, instance, shape, sites, ids, room)?)
+    let count = shape.nodes().len();
+    let make_room = move || figures_room(alloc, count);
+    let place = move || -> Result<Placed, EmbedEnd>
+        requires { IsShapeOver (length instance.now.sinks) shape.now
+            × AreSites instance.now.params instance.now.sinks shape.now sites.now
+            × AreIds instance.now.sinks shape.now ids.now × (length room.items ≡ length shape.now) }
+        ensures fits { IfOk result (Fits instance.entry.now) }
+        ensures placed { IfOk result (IsPlacedTree instance.entry.now shape.entry.now) }
+        ensures ends { IfErr result (EmbedEnds instance.entry.now shape.entry.now) }
+    { embed_by(rt, alloc, workers, instance, shape, sites, ids, room) };
+    let (figures, placed) = beside(rt, make_room, place);
+    Ok((placed?, figures?))
 }
 
-/// What the plan of an instance comes to, whose nodes so many workers place.
+/// What the plan of an instance comes to, whose nodes so many workers place and balance.
 pub(crate) fn finish_plan<R: Threads + Sync>(
     rt: &R,
     alloc: Global,
@@ -187,8 +203,10 @@ pub(crate) fn finish_plan<R: Threads + Sync>(
     ensures { IsSynthesised instance.now result }
 {
     instance_is_valid(instance);
+    // Of two workers one fills the table meanwhile.
+    let hands = if workers < 3 { 1 } else { workers };
     match place_plan(rt, alloc, instance, shape, plan, workers) {
-        Ok(placed) => settle(alloc, instance, placed),
+        Ok((placed, room)) => settle_by(rt, alloc, hands, instance, placed, room),
         Err(end) => Err(end),
     }
 }

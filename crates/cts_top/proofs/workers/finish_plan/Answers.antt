@@ -3,17 +3,17 @@ use Rattle.cts_plain.proofs.Settled.{settled_result}
 use Rattle.cts_top.proofs.Synthesising.{finished}
 use Rattle.cts_top.proofs.workers.finish_plan.Goals as goal
 
-pub settle-requires-clause-of_shape : goal.settle-requires-clause-of_shape
-settle-requires-clause-of_shape g c = (c.args.shape.now, c.requires.shape, c.in-Ok.ensures.placed)
+pub settle_by-requires-clause-of_shape : goal.settle_by-requires-clause-of_shape
+settle_by-requires-clause-of_shape g c = (c.args.shape.now, c.requires.shape, c.in-Ok.ensures.placed)
 
 pub returns-in-Ok : goal.returns-in-Ok
 returns-in-Ok g c =
     let i = c.args.instance.now in
     let shape = c.args.shape.now in
     let by = c.in-Ok.ensures.placed in
-    finished i c.instance_is_valid.ensures shape c.requires.definition c.settle.result (c.settle.ensures.tree shape by)
-    c.settle.ensures.figures c.settle.ensures.sound c.settle.ensures.one_each c.settle.ensures.in_range c.settle.ensures.in_die
-    (settled_result i shape c.settle.result (c.settle.ensures.ends shape by))
+    finished i c.instance_is_valid.ensures shape c.requires.definition c.settle_by.result (c.settle_by.ensures.tree shape by)
+    c.settle_by.ensures.figures c.settle_by.ensures.sound c.settle_by.ensures.one_each c.settle_by.ensures.in_range c.settle_by.ensures.in_die
+    (settled_result i shape c.settle_by.result (c.settle_by.ensures.ends shape by))
 
 pub returns-in-Err : goal.returns-in-Err
 returns-in-Err g c =

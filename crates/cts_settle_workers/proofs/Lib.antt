@@ -1,0 +1,4 @@
+pub mod Wires
+pub mod Halves
+pub mod Cut
+pub mod Joined
