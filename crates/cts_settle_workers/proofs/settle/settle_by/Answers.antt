@@ -15,12 +15,12 @@ pins-requires g c =
     (sym c.nodes.ensures.nodes) (sinks_within c.args.instance.now c.args.placed c.requires.fits)
 
 pub measure_in-requires-clause-pins : goal.measure_in-requires-clause-pins
-measure_in-requires-clause-pins g c =
+measure_in-requires-clause-pins g c κs within =
     c.as_slice-2.ensures.value ∙ c.in_ok-pins.ensures ∙ ap (leaf_pins c.args.instance.now) c.nodes.ensures.nodes
     ∙ leaf_pins_kept c.args.instance.now c.args.placed c.nodes.ensures.post_order c.in_ok-tree.tree c.in_ok-tree.ensures.tree
 
 pub measure_in-requires-clause-fits : goal.measure_in-requires-clause-fits
-measure_in-requires-clause-fits g c =
+measure_in-requires-clause-fits g c κs within =
     let shape = c.requires.of_shape.0 in
     let by = c.requires.of_shape.2 in
     let tree : IsTreeOf c.args.instance.now shape c.in_ok-tree.tree = record {
@@ -33,7 +33,7 @@ measure_in-requires-clause-fits g c =
     (trees_sound c.args.instance.now shape c.in_ok-tree.tree c.die-die.ensures.valid c.requires.of_shape.1 tree).2
 
 pub measure_in-requires-clause-within : goal.measure_in-requires-clause-within
-measure_in-requires-clause-within g c =
+measure_in-requires-clause-within g c κs within =
     let shape = c.requires.of_shape.0 in
     let by = c.requires.of_shape.2 in
     let tree : IsTreeOf c.args.instance.now shape c.in_ok-tree.tree = record {
