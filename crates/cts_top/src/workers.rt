@@ -227,7 +227,12 @@ pub(crate) fn make_shape<R: Threads + Sync>(
         ensures { IfOk result (IsNewMemo instance.entry.now) }
     {
         let sinks = instance.sinks();
-        Memo::start_with_room(alloc, instance.params(), Secret::of_sinks(sinks), 2 * sinks.len())
+        Memo::start_with_room(
+            alloc,
+            instance.params(),
+            Secret::of_sinks(sinks),
+            2 * sinks.len(),
+        )
     };
     let divide = move || -> Result<Shape, NoMemory>
         ensures definition { IfOk result (λ shape. shape ≡ shape_of instance.entry.now.sinks) }

@@ -4,7 +4,7 @@ use Rattle.cts_top.proofs.Synthesising.{finished}
 use Rattle.cts_top.proofs.workers.finish_plan.Goals as goal
 
 pub settle_by-requires-clause-of_shape : goal.settle_by-requires-clause-of_shape
-settle_by-requires-clause-of_shape g c = (c.args.shape.now, c.requires.shape, c.in-Ok.ensures.placed)
+settle_by-requires-clause-of_shape g c κs within = (c.args.shape.now, c.requires.shape, c.in-Ok.ensures.placed)
 
 pub returns-in-Ok : goal.returns-in-Ok
 returns-in-Ok g c =
