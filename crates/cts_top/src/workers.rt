@@ -153,7 +153,7 @@ fn place_alone(
 }
 
 /// The same by so many workers, of whom one brings the plan into the table of the memo meanwhile: of two, the other one is
-/// the caller. Where they are more, room for the figures of the nodes comes with it, which a thread of its own makes.
+/// the caller. Where they are more, the caller makes room for the figures of the nodes, and the others place.
 fn place_plan<R: Threads + Sync>(
     rt: &R,
     alloc: Global,
@@ -175,6 +175,7 @@ fn place_plan<R: Threads + Sync>(
     let Ground { room, ids, sites } = list_sites(rt, alloc, instance, shape, plan)?;
     let (sites, ids) = (sites.as_slice(), ids.as_slice());
     let count = shape.nodes().len();
+    let placers = workers - 2;
     let make_room = move || figures_room(alloc, count);
     let place = move || -> Result<Placed, EmbedEnd>
         requires { IsShapeOver (length instance.now.sinks) shape.now
@@ -183,8 +184,8 @@ fn place_plan<R: Threads + Sync>(
         ensures fits { IfOk result (Fits instance.entry.now) }
         ensures placed { IfOk result (IsPlacedTree instance.entry.now shape.entry.now) }
         ensures ends { IfErr result (EmbedEnds instance.entry.now shape.entry.now) }
-    { embed_by(rt, alloc, workers, instance, shape, sites, ids, room) };
-    let (figures, placed) = beside(rt, make_room, place);
+    { embed_by(rt, alloc, placers, instance, shape, sites, ids, room) };
+    let (placed, figures) = beside(rt, place, make_room);
     Ok((placed?, figures?))
 }
 
