@@ -1,18 +1,11 @@
 -- What the memo of a run holds, and when a run keeps it.
-use Rattle.std.specs.Prelude.{◌≡◌, ◌⊎◌, ◌≤◌, ℕ, List, [], length, Option, IfSome, IsSome, Result, Ok, Err}
+use Rattle.std.specs.Prelude.{◌≡◌, ◌⊎◌, ◌≤◌, ℕ, List, length, Option, IfSome, IsSome, Result, Ok, Err}
 use Rattle.cts_instance.specs.declared.parts.Parts.{Parts}
 use Rattle.cts_topo.specs.declared.shape.ShapeNode.{ShapeNode}
 use Rattle.cts_topo.specs.Topology.{shape_of}
 use Rattle.cts_tree.specs.declared.nodes.TreeNode.{TreeNode}
 use Rattle.cts_elmore.specs.declared.figures.Figures.{Figures}
-use Rattle.cts_turn.specs.declared.turn.Pass.{Pass}
-use Rattle.cts_turn.specs.Passes.{seen_by, share_of}
-use Rattle.cts_memo.specs.declared.entry.MemoEntry.{MemoEntry}
-use Rattle.cts_memo.specs.declared.entry.MemoCall.{MemoCall}
-use Rattle.cts_memo.specs.declared.entry.MemoReply.{MemoReply}
-use Rattle.cts_memo.specs.declared.memo.Memo.{Memo}
 use Rattle.cts_memo.specs.declared.table.Table.{Table}
-use Rattle.cts_memo.specs.Passes.{IsPassOf, params_of}
 use Rattle.cts_memo.specs.Numbers.{AreKnown}
 use Rattle.cts_memo.specs.Sound.{IsSound, max_entries}
 use Rattle.cts_memo.specs.Tables.{base_of, room_of, told_by}
@@ -43,13 +36,6 @@ pub record IsMemoOf (i : Parts) (table : Table) : Type 0 where
   pub sound : IsSound i.params (told_by table)
   pub known : (tree : List TreeNode) → IsSynthesis i (made tree)
       → (length (told_by table) ≡ max_entries) ⊎ AreKnown (told_by table) i.sinks (shape_of i.sinks)
-
--- a memo for the entries of an instance, which has none yet, and the pass with the whole share of it
-pub record IsNewMemo (i : Parts) (started : Memo × Pass Table MemoEntry MemoCall MemoReply) : Type 0 where
-  pub params : params_of (started.0) ≡ i.params
-  pub own : IsPassOf (started.0) (started.1)
-  pub none : seen_by (started.1) ≡ []
-  pub whole : share_of (started.1) ≡ 65536
 
 -- a table for the entries of an instance, with room for all nodes of a shape, and room for their numbers
 pub record IsReadyFor (i : Parts) (shape : List ShapeNode) (ready : Table × Numbers) : Type 0 where

@@ -9,7 +9,7 @@ ghost use Rattle.cts_memo.specs.Sound.{IsSound};
 ghost use Rattle.cts_memo.specs.Tables.{base_of, room_of, told_by as entries_told};
 ghost use Rattle.cts_work.specs.Filling.{HasRoom};
 ghost use Rattle.cts_work.specs.Plans.{nodes_of};
-ghost use Rattle.cts_top.specs.Memos.{IsFilled, IsKeptFor, IsMemoOf, IsNewMemo, IsReadyFor, TellsOfTree};
+ghost use Rattle.cts_top.specs.Memos.{IsFilled, IsKeptFor, IsMemoOf, IsReadyFor, TellsOfTree};
 ghost use Rattle.cts_top.specs.Outcome.{status_of};
 ghost use Rattle.cts_top.specs.Text.{TellsSynthesis, told_by};
 ghost use Rattle.cts_top.specs.Written.{Answers};
@@ -21,7 +21,8 @@ use crate::workers::{closed, fill, finish_plan, make_room, make_shape};
 use cts_beside::beside_mut;
 use cts_instance::Instance;
 use cts_io::ByteSink;
-use cts_memo::{Memo, MemoPass, Table};
+use cts_memo::{Memo, Secret, Table};
+use cts_num::NoMemory;
 use cts_plain::NoTree;
 use cts_topo::Shape;
 use cts_up::UpEnd;
@@ -166,7 +167,7 @@ fn answer_unplanned<K: ByteSink>(
     }
 }
 
-/// Writes the text for the synthesis of an instance over its shape, by a memo without entries.
+/// Writes the text for the synthesis of an instance over its shape.
 fn answer_over<R: Threads + Sync, K: ByteSink, G: Gate>(
     rt: &R,
     alloc: Global,
@@ -175,19 +176,21 @@ fn answer_over<R: Threads + Sync, K: ByteSink, G: Gate>(
     telling: Telling,
     instance: &Instance,
     shape: &Shape,
-    memo: Memo,
-    pass: MemoPass,
+    secret: Secret,
     workers: u32,
 ) -> Ended
     requires definition { shape.now ≡ shape_of instance.now.sinks }
     requires shape { IsShapeOver (length instance.now.sinks) shape.now }
-    requires new { IsNewMemo instance.now (memo, pass) }
     requires some { 1 ≤ workers }
     requires few { workers ≤ 64 }
     ensures answers { Answers (TellsSynthesis (told_by telling) instance.now) K.held K.faults sink.old sink.new result.0 }
     ensures kept { IsSome result.1 ↔ TellsOfTree (status_of result.0) }
     ensures memo { IfSome result.1 (IsMemoOf instance.now) }
 {
+    let nodes = shape.nodes().len();
+    let Ok((memo, pass)) = Memo::start_with_room(alloc, instance.params(), secret, nodes) else {
+        return (Err(Stop::NoMemory), None);
+    };
     let planned = plan_all(rt, alloc, &memo, gate, instance.sinks(), shape, workers);
     let table = closed(memo, pass);
     match planned {
@@ -215,10 +218,11 @@ pub fn answer_by_workers<R: Threads + Sync, K: ByteSink, G: Gate>(
     ensures kept { IsSome result.1 ↔ TellsOfTree (status_of result.0) }
     ensures memo { IfSome result.1 (IsMemoOf instance.now) }
 {
-    match make_shape(rt, alloc, instance, workers) {
-        (Ok(shape), Ok((memo, pass))) => answer_over(
-            rt, alloc, gate, sink, telling, instance, &shape, memo, pass, workers,
+    let (shape, secret) = make_shape(rt, alloc, instance.sinks(), workers);
+    match shape {
+        Ok(shape) => answer_over(
+            rt, alloc, gate, sink, telling, instance, &shape, secret, workers,
         ),
-        (_, _) => (Err(Stop::NoMemory), None),
+        Err(NoMemory) => (Err(Stop::NoMemory), None),
     }
 }

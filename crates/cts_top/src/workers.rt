@@ -2,6 +2,7 @@
 
 ghost use Rattle.std.specs.Prelude.{◌≡◌, ◌≤◌, [], length, map, IfErr, IfOk, MatchOption};
 ghost use Rattle.cts_topo.specs.Shape.{IsShapeOver};
+ghost use Rattle.cts_topo.specs.Sinks.{AreSinks};
 ghost use Rattle.cts_topo.specs.Topology.{shape_of};
 ghost use Rattle.cts_up.specs.Plan.{IsPlan};
 ghost use Rattle.cts_up.specs.Sites.{AreSites, site_of};
@@ -15,7 +16,7 @@ ghost use Rattle.cts_turn.specs.Passes.{seen_by, share_of};
 ghost use Rattle.cts_memo.specs.Passes.{IsPassOf, params_of};
 ghost use Rattle.cts_memo.specs.Sound.{IsSound, max_entries};
 ghost use Rattle.cts_memo.specs.Tables.{base_of, room_of, told_by};
-ghost use Rattle.cts_top.specs.Memos.{IsFilled, IsNewMemo, IsReadyFor};
+ghost use Rattle.cts_top.specs.Memos.{IsFilled, IsReadyFor};
 ghost use Rattle.cts_top.specs.Synthesised.{IsSynthesised};
 ghost use Rattle.cts_work.specs.Filling.{HasRoom};
 ghost use Rattle.cts_work.specs.Plans.{nodes_of};
@@ -34,6 +35,7 @@ use cts_settle_workers::settle_by;
 use cts_topo::Shape;
 use cts_topo_workers::topology_by;
 use cts_tree::{Placed, Tree, TreeNode};
+use cts_units::Sink;
 use cts_up::Site;
 use cts_work::{Gate, Numbers, Plan, fill_table};
 use std::alloc::Global;
@@ -101,6 +103,28 @@ struct Ground {
     sites: Vec<Site>,
 }
 
+/// The ids of the sinks of a tree's leaves, which a thread of its own lists, and the sites of its plan.
+fn list_both<R: Threads>(
+    rt: &R,
+    alloc: Global,
+    instance: &Instance,
+    shape: &Shape,
+    plan: &Plan,
+) -> (Result<Vec<u32>, NoMemory>, Result<Vec<Site>, NoMemory>)
+    requires shape { IsShapeOver (length instance.now.sinks) shape.now }
+    ensures ids { IfOk result.0 (λ ids. AreIds instance.now.sinks shape.now ids.items) }
+    ensures sites { IfOk result.1 (λ sites. sites.items ≡ map site_of (nodes_of plan.now)) }
+{
+    let ids = move || -> Result<Vec<u32>, NoMemory>
+        requires { IsShapeOver (length instance.now.sinks) shape.now }
+        ensures { IfOk result (λ ids. AreIds instance.entry.now.sinks shape.entry.now ids.items) }
+    { ids_for(alloc, instance, shape) };
+    let list = move || -> Result<Vec<Site>, NoMemory>
+        ensures { IfOk result (λ sites. sites.items ≡ map site_of (nodes_of plan.entry.now)) }
+    { plan.sites(alloc) };
+    join(rt, ids, list)
+}
+
 /// Room for the nodes of a tree, the ids of their sinks and the sites of its plan, which three threads make.
 fn list_sites<R: Threads>(
     rt: &R,
@@ -118,18 +142,11 @@ fn list_sites<R: Threads>(
     let room = move || -> Result<Vec<TreeNode>, NoMemory>
         ensures { IfOk result (λ room. length room.items ≡ count) }
     { room_for(alloc, count) };
-    let ids = move || -> Result<Vec<u32>, NoMemory>
-        requires { IsShapeOver (length instance.now.sinks) shape.now }
-        ensures { IfOk result (λ ids. AreIds instance.entry.now.sinks shape.entry.now ids.items) }
-    { ids_for(alloc, instance, shape) };
-    let list = move || -> Result<Vec<Site>, NoMemory>
-        ensures { IfOk result (λ sites. sites.items ≡ map site_of (nodes_of plan.entry.now)) }
-    { plan.sites(alloc) };
     let both = move || -> (Result<Vec<u32>, NoMemory>, Result<Vec<Site>, NoMemory>)
         requires { IsShapeOver (length instance.now.sinks) shape.now }
         ensures { IfOk result.0 (λ ids. AreIds instance.entry.now.sinks shape.entry.now ids.items)
             × IfOk result.1 (λ sites. sites.items ≡ map site_of (nodes_of plan.entry.now)) }
-    { join(rt, ids, list) };
+    { list_both(rt, alloc, instance, shape, plan) };
     let (room, (ids, sites)) = beside(rt, room, both);
     let (room, ids, sites) = (room?, ids?, sites?);
     Ok(Ground { room, ids, sites })
@@ -212,33 +229,23 @@ pub(crate) fn finish_plan<R: Threads + Sync>(
     }
 }
 
-/// The shape over the sinks of an instance, by so many workers, and a memo without entries, which a thread of its own starts
-/// meanwhile, with room for all nodes of the shape.
+/// The shape over sinks, by so many workers, and the secret of the memo, which a thread of its own makes meanwhile.
 pub(crate) fn make_shape<R: Threads + Sync>(
     rt: &R,
     alloc: Global,
-    instance: &Instance,
+    sinks: &[Sink],
     workers: u32,
-) -> (Result<Shape, NoMemory>, Result<(Memo, MemoPass), NoMemory>)
-    ensures definition { IfOk result.0 (λ shape. shape ≡ shape_of instance.now.sinks) }
-    ensures shape { IfOk result.0 (IsShapeOver (length instance.now.sinks)) }
-    ensures memo { IfOk result.1 (IsNewMemo instance.now) }
+) -> (Result<Shape, NoMemory>, Secret)
+    requires { AreSinks sinks.now }
+    ensures definition { IfOk result.0 (λ shape. shape ≡ shape_of sinks.now) }
+    ensures shape { IfOk result.0 (IsShapeOver (length sinks.now)) }
 {
-    let start = move || -> Result<(Memo, MemoPass), NoMemory>
-        ensures { IfOk result (IsNewMemo instance.entry.now) }
-    {
-        let sinks = instance.sinks();
-        Memo::start_with_room(
-            alloc,
-            instance.params(),
-            Secret::of_sinks(sinks),
-            2 * sinks.len(),
-        )
-    };
+    let mix = move || Secret::of_sinks(sinks);
     let divide = move || -> Result<Shape, NoMemory>
-        ensures definition { IfOk result (λ shape. shape ≡ shape_of instance.entry.now.sinks) }
-        ensures shape { IfOk result (IsShapeOver (length instance.entry.now.sinks)) }
-    { topology_by(rt, alloc, instance.sinks(), workers) };
-    let (memo, shape) = beside(rt, start, divide);
-    (shape, memo)
+        requires { AreSinks sinks.now }
+        ensures definition { IfOk result (λ shape. shape ≡ shape_of sinks.entry.now) }
+        ensures shape { IfOk result (IsShapeOver (length sinks.entry.now)) }
+    { topology_by(rt, alloc, sinks, workers) };
+    let (secret, shape) = beside(rt, mix, divide);
+    (shape, secret)
 }
