@@ -118,21 +118,10 @@ pub(crate) fn verdict<R: AllocGlobal + Threads + Wait + Sync + Print>(
     print_end(rt, verdict.status, verdict.output.bytes())
 }
 
-/// Compares the reports and the summaries of two made instances, and judges the report of the smaller one.
+/// Compares the report and the summary of a made instance of 64 sinks, and judges its report.
 pub(crate) fn check<R: AllocGlobal + Threads + Wait + Sync + Print>(rt: &R) -> io::Result<()> {
     let made = answer(rt, "make 14 64", b"")?;
-    check_made(rt, made.output.bytes())?;
-    let many = answer(rt, "make 14 5000", b"")?;
-    check_many(rt, many.output.bytes())
-}
-
-/// Compares the reports and the summaries of 5,000 sinks, whose tree has nodes enough for several threads at each pass.
-fn check_many<R: AllocGlobal + Threads + Wait + Sync + Print>(
-    rt: &R,
-    many: &[u8],
-) -> io::Result<()> {
-    compare(rt, "synth 1", &["synth 2", "synth 4"], many)?;
-    compare(rt, "job 14 5000 1", &["job 14 5000 4"], b"")
+    check_made(rt, made.output.bytes())
 }
 
 fn check_made<R: AllocGlobal + Threads + Wait + Sync + Print>(
