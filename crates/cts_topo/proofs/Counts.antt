@@ -1,6 +1,6 @@
 -- How many leaves and nodes a shape over so many sinks has.
 use Rattle.std.proofs.Common.{◌≡◌, ℕ, zero, suc, ◌+◌, ◌-◌, ◌*◌, ◌<◌, ◌≤◌, ◌==◌, cond, nat_lt, List, [], ◌∷◌, ◌++◌, take, drop, length, get_or, count_by, refl, sym, ap, subst, ◌∙◌, arith, length-append, length-drop, take-append-drop}
-use Rattle.std.specs.List.{AllByRecursion}
+use Rattle.std.specs.List.{All, AllByRecursion}
 use Rattle.std.proofs.lemmas.List.{take_more}
 use Rattle.std.proofs.lemmas.List.Elements.{filter_map-append, recursion_from_All}
 use Rattle.std.proofs.lemmas.Bool.Decides.{nat_tests}
@@ -123,7 +123,11 @@ named_in P (Pair l r ∷ nodes) zero e s all h is = cc
 named_in P (Leaf t ∷ nodes) (suc k) e s all h is = named_in P nodes k e s (all.1) (omega arith) is
 named_in P (Pair l r ∷ nodes) (suc k) e s all h is = named_in P nodes k e s all (omega arith) is
 
+pub named_within : (count : ℕ) (nodes : List ShapeNode) → All (λ sink. sink < count) (leaf_sinks nodes) → (k : ℕ) (e : ShapeNode)
+    (s : ℕ) → k < length nodes → get_or nodes k e ≡ Leaf s → s < count
+named_within count nodes within k e s h is =
+    named_in (λ x. x < count) nodes k e s (recursion_from_All (λ x. x < count) (leaf_sinks nodes) within) h is
+
 pub leaf_within : (count : ℕ) (nodes : List ShapeNode) → IsShapeOver count nodes → (k : ℕ) (e : ShapeNode) (s : ℕ)
     → k < length nodes → get_or nodes k e ≡ Leaf s → s < count
-leaf_within count nodes over k e s h is =
-    named_in (λ x. x < count) nodes k e s (recursion_from_All (λ x. x < count) (leaf_sinks nodes) over.within) h is
+leaf_within count nodes over k e s h is = named_within count nodes over.within k e s h is

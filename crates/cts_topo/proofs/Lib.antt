@@ -11,5 +11,6 @@ pub mod PinsFrom
 pub mod Divided
 pub mod Whole
 pub mod Counts
+pub mod Stretches
 mod Example
 pub mod RoughOrder

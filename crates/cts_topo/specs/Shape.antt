@@ -1,5 +1,5 @@
 -- What the nodes of a shape name.
-use Rattle.std.specs.Prelude.{◌≡◌, ℕ, ◌<◌, ◌==◌, List, map, filter_map, All, count_by, Option, Some, None}
+use Rattle.std.specs.Prelude.{◌≡◌, ℕ, ◌-◌, ◌<◌, ◌≤◌, ◌==◌, List, map, filter_map, All, IfSome, count_by, Option, Some, None}
 use Rattle.cts_postorder.specs.PostOrder.{IsPostOrder}
 use Rattle.cts_topo.specs.declared.shape.ShapeNode.{ShapeNode}
 use Rattle.cts_topo.specs.declared.shape.ShapeNode.TheVariants.{Leaf, Pair}
@@ -8,6 +8,15 @@ use Rattle.cts_topo.specs.declared.shape.ShapeNode.TheVariants.{Leaf, Pair}
 abbrev pub children : ShapeNode → Option (ℕ × ℕ)
 children (Leaf sink) = None
 children (Pair left right) = Some (left, right)
+
+-- the same, counted from the number `first` on
+abbrev pub children_from : ℕ → ShapeNode → Option (ℕ × ℕ)
+children_from first (Leaf sink) = None
+children_from first (Pair left right) = Some (left - first, right - first)
+
+-- the children of a pair are numbered from `first` on
+abbrev pub NamesFrom : ℕ → ShapeNode → Type 0
+NamesFrom first node = IfSome (children node) (λ (c : ℕ × ℕ). (first ≤ c.0) × (first ≤ c.1))
 
 -- the sink of a leaf, by its place in the list of sinks, and nothing at a pair
 abbrev pub leaf_sink : ShapeNode → Option ℕ
@@ -23,3 +32,10 @@ pub record IsShapeOver (count : ℕ) (nodes : List ShapeNode) : Type 0 where
   pub post_order : IsPostOrder (map children nodes)
   pub within : All (λ sink. sink < count) (leaf_sinks nodes)
   pub once : (sink : ℕ) → sink < count → count_by (λ named. named == sink) (leaf_sinks nodes) ≡ 1
+
+-- A stretch of a shape over so many sinks: the nodes of one of its subtrees, of which the first one has the number `first` in
+-- the shape.
+pub record IsStretchOver (count first : ℕ) (nodes : List ShapeNode) : Type 0 where
+  pub post_order : IsPostOrder (map (children_from first) nodes)
+  pub numbered : All (NamesFrom first) nodes
+  pub within : All (λ sink. sink < count) (leaf_sinks nodes)

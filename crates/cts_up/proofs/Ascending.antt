@@ -1,5 +1,5 @@
 -- One step of an ascent: what is known of the node at the next number, by the sides that wait.
-use Rattle.std.proofs.Common.{◌≡◌, ℕ, ◌+◌, ◌<◌, ◌≤◌, List, [], ◌∷◌, ◌++◌, take, length, get_or, slice_get, Option, Some, None, MatchOption, Result, Ok, Err, IfOk, IfErr, refl, sym, ap, subst, ◌∙◌, arith, append_assoc, take_all}
+use Rattle.std.proofs.Common.{◌≡◌, ℕ, ◌+◌, ◌-◌, ◌<◌, ◌≤◌, List, [], ◌∷◌, ◌++◌, take, length, get_or, slice_get, Option, Some, None, MatchOption, Result, Ok, Err, IfOk, IfErr, refl, sym, ap, subst, ◌∙◌, arith, append_assoc, take_all}
 use Rattle.std.proofs.lemmas.List.{take_more}
 use Rattle.std.specs.Prelude.{IfSome}
 use Rattle.std.specs.List.{AllZip}
@@ -9,6 +9,7 @@ use Rattle.cts_units.specs.declared.params.Params.{Params}
 use Rattle.cts_units.specs.Limits.{IsParams}
 use Rattle.cts_postorder.specs.BinaryTree.{BinaryTree, tip, fork}
 use Rattle.cts_postorder.specs.PostOrder.{trees_of}
+use Rattle.cts_postorder.specs.Pass.{IsLeastFailure}
 use Rattle.cts_postorder.specs.Waiting.{StandsAt, AreWaiting}
 use Rattle.cts_postorder.proofs.Growth.{length-trees_of}
 use Rattle.cts_postorder.proofs.Lists.{IsPair, is_pair}
@@ -16,42 +17,55 @@ use Rattle.cts_postorder.proofs.Upward.{leaf_here, up_more, least_failure}
 use Rattle.cts_postorder.proofs.Waiting.{AtPair, waiting_at_leaf, waiting_at_pair, two_wait}
 use Rattle.cts_topo.specs.declared.shape.ShapeNode.{ShapeNode}
 use Rattle.cts_topo.specs.declared.shape.ShapeNode.TheVariants.{Leaf, Pair}
-use Rattle.cts_topo.specs.Shape.{children, leaf_sinks, IsShapeOver}
+use Rattle.cts_topo.specs.Shape.{children_from, leaf_sinks, IsStretchOver}
 use Rattle.cts_merge.specs.declared.side.Side.{Side}
 use Rattle.cts_merge.specs.declared.side.Finished.{Finished}
 use Rattle.cts_merge.specs.declared.side.Beyond.{Beyond}
 use Rattle.cts_merge.specs.Side.{IsMergeable}
 use Rattle.cts_merge.specs.Merge.{IsLeaf, IsMerged, IsBeyond}
 use Rattle.cts_up.specs.Sinks.{IsSinkInRange, AreSinksInRange}
-use Rattle.cts_up.specs.Plan.{IsFinished, IsBeyondPair, IsLeastBeyond}
+use Rattle.cts_up.specs.Plan.{IsFinished, IsBeyondPair}
 use Rattle.cts_up.specs.Ascending.{IsAscent, IsSide}
-use Rattle.cts_up.proofs.LeafOrder.{leaf_listed, named_long, found_is}
+use Rattle.cts_up.proofs.LeafOrder.{leaf_listed, found_is}
 use Rattle.cts_up.proofs.Leaves.{sink_has}
 use Rattle.cts_up.proofs.Sides.{sides_merge}
-use Rattle.cts_up.proofs.Unique.{finished_not_beyond}
 
-if_found : {A : Type 0} (P Q : A → Type 0) (o : Option A) → ((x : A) → P x → Q x) → IfSome o P → IfSome o Q
+pub if_found : {A : Type 0} (P Q : A → Type 0) (o : Option A) → ((x : A) → P x → Q x) → IfSome o P → IfSome o Q
 if_found P Q None to is = tt
 if_found P Q (Some x) to is = to x is
 
--- The parameters, the sinks, the nodes of a shape over them, and the node of number k.
-module _ (params : Params) (sinks : List Sink) (nodes : List ShapeNode) (k : ℕ) (h : k < length nodes) where
+-- what holds of a result for each number that a stretch may begin at
+pub each_ok : (At : ℕ → Type 0) (P : ℕ → Finished → Type 0) (result : Result Finished Beyond)
+    → ((first : ℕ) → At first → IfOk result (P first)) → IfOk result (λ f. (first : ℕ) → At first → P first f)
+each_ok At P (Ok f) all = all
+each_ok At P (Err x) all = tt
+
+pub each_err : (At P : ℕ → Type 0) (result : Result Finished Beyond) → ((first : ℕ) → At first → IfErr result (λ _. P first))
+    → IfErr result (λ _. (first : ℕ) → At first → P first)
+each_err At P (Ok f) all = tt
+each_err At P (Err x) all = all
+
+-- The parameters, the sinks, the nodes of a stretch over them, and the node of number k.
+module _ (params : Params) (sinks : List Sink) (first : ℕ) (nodes : List ShapeNode) (k : ℕ) (h : k < length nodes) where
+  abbrev kids : ShapeNode → Option (ℕ × ℕ)
+  kids = children_from first
+
   abbrev trees : List (BinaryTree ShapeNode)
-  trees = trees_of children nodes
+  trees = trees_of kids nodes
 
   abbrev pub Here : Finished → Type 0
-  Here f = StandsAt children nodes (IsFinished params sinks) k f
+  Here f = StandsAt kids nodes (IsFinished params sinks) k f
 
   abbrev pub BeyondHere : Type 0
-  BeyondHere = IfSome (slice_get (trees_of children nodes) k) (IsBeyondPair params sinks)
+  BeyondHere = IfSome (slice_get (trees_of kids nodes) k) (IsBeyondPair params sinks)
 
   found : (number : ℕ) (t : BinaryTree ShapeNode) → number < length nodes → ((d : BinaryTree ShapeNode) → get_or trees number d ≡ t)
       → slice_get trees number ≡ Some t
-  found number t within is = slice_get-get_or trees number t (omega (arith, length-trees_of children nodes)) ∙ ap Some (is t)
+  found number t within is = slice_get-get_or trees number t (omega (arith, length-trees_of kids nodes)) ∙ ap Some (is t)
 
-  side_here : (f : Finished) → Here f → StandsAt children nodes (IsSide params sinks) k f.side
+  side_here : (f : Finished) → Here f → StandsAt kids nodes (IsSide params sinks) k f.side
   side_here f is =
-      if_found (λ t. IsFinished params sinks t f) (λ t. IsSide params sinks t f.side) (slice_get (trees_of children nodes) k)
+      if_found (λ t. IsFinished params sinks t f) (λ t. IsSide params sinks t f.side) (slice_get (trees_of kids nodes) k)
       (λ t finished. (f, finished, refl)) is
 
   -- a leaf is finished by what its sink gives
@@ -64,58 +78,59 @@ module _ (params : Params) (sinks : List Sink) (nodes : List ShapeNode) (k : ℕ
       let finished : IsFinished params sinks (tip (get_or nodes k e)) f =
       subst (λ m. IsFinished params sinks (tip m) f) (sym here) of_sink in
       subst (λ o. IfSome o (λ t. IsFinished params sinks t f))
-      (sym (found k (tip (get_or nodes k e)) h (λ d. leaf_here children (IsFinished params sinks) nodes k e d h (ap children here))))
+      (sym (found k (tip (get_or nodes k e)) h (λ d. leaf_here kids (IsFinished params sinks) nodes k e d h (ap kids here))))
       finished
 
-  -- what stands here is one more value of the plan
-  module _ (plan : List Finished) (before : AllZip (IsFinished params sinks) (take k (trees_of children nodes)) plan) where
+  -- what stands here is one more value
+  module _ {V : Type 0} (R : BinaryTree ShapeNode → V → Type 0) (values : List V) (before : AllZip R (take k trees) values) where
     some_tree : BinaryTree ShapeNode
     some_tree = tip (Leaf 0)
 
     tree_here : slice_get trees k ≡ Some (get_or trees k some_tree)
-    tree_here = slice_get-get_or trees k some_tree (omega (arith, h, length-trees_of children nodes))
+    tree_here = slice_get-get_or trees k some_tree (omega (arith, h, length-trees_of kids nodes))
 
-    pub plan_more : (f : Finished) → Here f → AllZip (IsFinished params sinks) (take (k + 1) (trees_of children nodes)) (plan ++ f ∷ [])
-    plan_more f is =
-        up_more children (IsFinished params sinks) nodes k (get_or trees k some_tree) some_tree plan f h refl before
-        (subst (λ o. IfSome o (λ t. IsFinished params sinks t f)) tree_here is)
+    pub one_more : (v : V) → StandsAt kids nodes R k v → AllZip R (take (k + 1) trees) (values ++ v ∷ [])
+    one_more v is =
+        up_more kids R nodes k (get_or trees k some_tree) some_tree values v h refl before
+        (subst (λ o. IfSome o (λ t. R t v)) tree_here is)
 
-    pub beyond_least : BeyondHere → IsLeastBeyond params sinks nodes k
-    beyond_least over =
-        least_failure children (IsFinished params sinks) (IsBeyondPair params sinks) (λ t f. finished_not_beyond params sinks t f)
-        nodes plan k (get_or trees k some_tree) before tree_here (subst (λ o. IfSome o (IsBeyondPair params sinks)) tree_here over)
+    pub beyond_least : ((t : BinaryTree ShapeNode) (v : V) → R t v → ¬ IsBeyondPair params sinks t) → BeyondHere
+        → IsLeastFailure kids nodes (IsBeyondPair params sinks) k
+    beyond_least sound over =
+        least_failure kids R (IsBeyondPair params sinks) sound nodes values k (get_or trees k some_tree) before tree_here
+        (subst (λ o. IfSome o (IsBeyondPair params sinks)) tree_here over)
 
   -- the sides that wait
-  module _ (ok : IsShapeOver (length sinks) nodes) (waiting : List Side) (before : AreWaiting children nodes (IsSide params sinks) k waiting)
+  module _ (ok : IsStretchOver (length sinks) first nodes) (waiting : List Side) (before : AreWaiting kids nodes (IsSide params sinks) k waiting)
       (e : ShapeNode) where
     pub leaf_waits : (s : ℕ) → get_or nodes k e ≡ Leaf s → (f : Finished) → Here f
-        → AreWaiting children nodes (IsSide params sinks) (k + 1) (waiting ++ f.side ∷ [])
+        → AreWaiting kids nodes (IsSide params sinks) (k + 1) (waiting ++ f.side ∷ [])
     leaf_waits s here f is =
-        waiting_at_leaf children nodes (IsSide params sinks) k e h waiting before (ap children here) f.side (side_here f is)
+        waiting_at_leaf kids nodes (IsSide params sinks) k e h waiting before (ap kids here) f.side (side_here f is)
 
     module _ (left right : ℕ) (here : get_or nodes k e ≡ Pair left right) where
-      pair : IsPair children nodes k (left, right) (get_or nodes k e)
-      pair = is_pair children nodes ok.post_order k e (left, right) h (ap children here)
+      pair : IsPair kids nodes k (left - first, right - first) (get_or nodes k e)
+      pair = is_pair kids nodes ok.post_order k e (left - first, right - first) h (ap kids here)
 
       pair_found : slice_get trees k ≡ Some (fork pair.left pair.right (get_or nodes k e))
       pair_found = found k (fork pair.left pair.right (get_or nodes k e)) h pair.tree
 
       pub two_ready : 2 ≤ length waiting
-      two_ready = two_wait children nodes (IsSide params sinks) k e h waiting before (left, right) (ap children here)
+      two_ready = two_wait kids nodes (IsSide params sinks) k e h waiting before (left - first, right - first) (ap kids here)
 
       -- the sides of the two parts
       module _ (rest : List Side) (a b : Side) (taken : waiting ≡ rest ++ a ∷ b ∷ []) where
-        values : AtPair children nodes (IsSide params sinks) k (left, right) rest a b
-        values = waiting_at_pair children nodes (IsSide params sinks) k e h waiting before (left, right) (ap children here) rest a b taken
+        values : AtPair kids nodes (IsSide params sinks) k (left - first, right - first) rest a b
+        values = waiting_at_pair kids nodes (IsSide params sinks) k e h waiting before (left - first, right - first) (ap kids here) rest a b taken
 
         left_is : IsSide params sinks pair.left a
         left_is =
-            subst (λ o. IfSome o (λ t. IsSide params sinks t a)) (found left pair.left (omega (arith, h, pair.left_below)) pair.left_tree)
+            subst (λ o. IfSome o (λ t. IsSide params sinks t a)) (found (left - first) pair.left (omega (arith, h, pair.left_below)) pair.left_tree)
             values.left_value
 
         right_is : IsSide params sinks pair.right b
         right_is =
-            subst (λ o. IfSome o (λ t. IsSide params sinks t b)) (found right pair.right (omega (arith, h, pair.right_below)) pair.right_tree)
+            subst (λ o. IfSome o (λ t. IsSide params sinks t b)) (found (right - first) pair.right (omega (arith, h, pair.right_below)) pair.right_tree)
             values.right_value
 
         pub left_ready : IsParams params → AreSinksInRange sinks → IsMergeable a
@@ -138,7 +153,7 @@ module _ (params : Params) (sinks : List Sink) (nodes : List ShapeNode) (k : ℕ
         pair_stands (Err x) merged = tt
 
         pub pair_waits : (result : Result Finished Beyond) → IfOk result Here
-            → IfOk result (λ f. AreWaiting children nodes (IsSide params sinks) (k + 1) (rest ++ f.side ∷ []))
+            → IfOk result (λ f. AreWaiting kids nodes (IsSide params sinks) (k + 1) (rest ++ f.side ∷ []))
         pair_waits (Ok f) is = values.next f.side (side_here f is)
         pair_waits (Err x) is = tt
 
@@ -150,19 +165,16 @@ module _ (params : Params) (sinks : List Sink) (nodes : List ShapeNode) (k : ℕ
             (left_is.0, right_is.0, left_is.1, right_is.1, of_sides (IsBeyond params) over)
 
 -- The sink of a leaf that an ascent stands before.
-module _ (params : Params) (sinks : List Sink) (nodes : List ShapeNode) (k : ℕ) (h : k < length nodes)
-    (ok : IsShapeOver (length sinks) nodes) (named : List Sink) (leaves : ℕ) (waiting : List Side)
-    (before : IsAscent params sinks nodes k named leaves waiting)
+module _ (params : Params) (sinks : List Sink) (first : ℕ) (nodes : List ShapeNode) (k : ℕ) (h : k < length nodes)
+    (named : List Sink) (leaves : ℕ) (waiting : List Side)
+    (before : IsAscent params sinks first nodes k named leaves waiting)
     (s : ℕ) (e : ShapeNode) (here : get_or nodes k e ≡ Leaf s) where
   pub sink_listed : leaves < length named
-  sink_listed = leaf_listed sinks nodes ok named before.each_named k h e s here leaves before.counted
-
-  pub leaf_counted : AreSinksInRange sinks → leaves + 1 ≤ 65536
-  leaf_counted are = omega (arith, sink_listed, named_long sinks nodes ok named before.each_named, are.few)
+  sink_listed = leaf_listed sinks nodes before.stretch.within named before.each_named k h e s here leaves before.counted
 
   module _ (sink : Sink) (read : sink ≡ get_or named leaves sink) where
     pub sink_named : slice_get sinks s ≡ Some sink
-    sink_named = found_is sinks nodes ok named before.each_named k h e s here leaves before.counted sink leaves refl ∙ ap Some (sym read)
+    sink_named = found_is sinks nodes before.stretch.within named before.each_named k h e s here leaves before.counted sink leaves refl ∙ ap Some (sym read)
 
     pub sink_ready : AreSinksInRange sinks → IsSinkInRange sink
     sink_ready are = sink_has IsSinkInRange sinks (Leaf s) sink are.each sink_named
@@ -179,15 +191,16 @@ latest_two waiting rest a b long first second =
     ∙ append_assoc (take rest waiting) (a ∷ []) (b ∷ [])
 
 -- an ascent that has passed a pair
-pub pair_passed : (params : Params) (sinks : List Sink) (nodes : List ShapeNode) (k : ℕ) (named : List Sink) (leaves : ℕ)
-    (waiting rest left : List Side) → IsAscent params sinks nodes k named leaves waiting
+pub pair_passed : (params : Params) (sinks : List Sink) (first : ℕ) (nodes : List ShapeNode) (k : ℕ) (named : List Sink) (leaves : ℕ)
+    (waiting rest left : List Side) → IsAscent params sinks first nodes k named leaves waiting
     → leaves ≡ length (leaf_sinks (take (k + 1) nodes)) → left ≡ rest → (result : Result Finished Beyond)
-    → IfOk result (λ f. AreWaiting children nodes (IsSide params sinks) (k + 1) (rest ++ f.side ∷ []))
-    → IfOk result (λ f. IsAscent params sinks nodes (k + 1) named leaves (left ++ f.side ∷ []))
-pair_passed params sinks nodes k named leaves waiting rest left before counted same (Err x) waits = tt
-pair_passed params sinks nodes k named leaves waiting rest left before counted same (Ok f) waits =
+    → IfOk result (λ f. AreWaiting (children_from first) nodes (IsSide params sinks) (k + 1) (rest ++ f.side ∷ []))
+    → IfOk result (λ f. IsAscent params sinks first nodes (k + 1) named leaves (left ++ f.side ∷ []))
+pair_passed params sinks first nodes k named leaves waiting rest left before counted same (Err x) waits = tt
+pair_passed params sinks first nodes k named leaves waiting rest left before counted same (Ok f) waits =
     record {
+      stretch = before.stretch;
       each_named = before.each_named;
       counted = counted;
-      each_waits = subst (λ (sides : List Side). AreWaiting children nodes (IsSide params sinks) (k + 1) (sides ++ f.side ∷ [])) (sym same) waits;
+      each_waits = subst (λ (sides : List Side). AreWaiting (children_from first) nodes (IsSide params sinks) (k + 1) (sides ++ f.side ∷ [])) (sym same) waits;
     }

@@ -1,11 +1,12 @@
-//! The ascent over the nodes of a shape, which keeps of them only what the pairs above them need.
+//! The ascent over the nodes of a shape, or of a stretch of one, which keeps of them only what the pairs above
+//! them need.
 
-ghost use Rattle.std.specs.Prelude.{◌≡◌, ◌+◌, ◌<◌, ◌++◌, ◌∷◌, [], take, length, map, slice_get, Some, IfSome, IfOk, IfErr};
+ghost use Rattle.std.specs.Prelude.{◌≡◌, ℕ, ◌+◌, ◌<◌, ◌++◌, ◌∷◌, [], take, length, map, slice_get, All, Some, IfSome, IfOk, IfErr};
 ghost use Rattle.cts_units.specs.declared.params.Params.{Params};
 ghost use Rattle.cts_units.specs.Limits.{IsParams};
 ghost use Rattle.cts_postorder.specs.PostOrder.{trees_of};
 ghost use Rattle.cts_postorder.specs.Waiting.{StandsAt};
-ghost use Rattle.cts_topo.specs.Shape.{IsShapeOver, children, leaf_sinks};
+ghost use Rattle.cts_topo.specs.Shape.{IsStretchOver, children_from, leaf_sinks};
 ghost use Rattle.cts_up.specs.Ascending.{IsAscent};
 ghost use Rattle.cts_up.specs.Plan.{IsBeyondPair, IsFinished};
 ghost use Rattle.cts_up.specs.Sinks.{AreSinksInRange};
@@ -24,10 +25,11 @@ fn sinks_of_leaves(
     sinks: &[Sink],
     nodes: &[ShapeNode],
 ) -> Result<Vec<Sink>, NoMemory>
-    requires shape { IsShapeOver (length sinks.now) nodes.now }
+    requires within { All (λ sink. sink < length sinks.now) (leaf_sinks nodes.now) }
     ensures { IfOk result (λ named. map Some named.items ≡ map (slice_get sinks.now) (leaf_sinks nodes.now)) }
 {
-    let mut named = Vec::with_capacity(alloc, sinks.len())?;
+    // There is one leaf more than pairs.
+    let mut named = Vec::with_capacity(alloc, nodes.len() / 2 + 1)?;
     for node in nodes {
         match *node {
             ShapeNode::Leaf { sink } => named.push(sinks[sink as usize])?,
@@ -55,9 +57,9 @@ impl Ascent {
         sinks: &[Sink],
         nodes: &[ShapeNode],
     ) -> Result<Ascent, NoMemory>
-        requires shape { IsShapeOver (length sinks.now) nodes.now }
-        ensures { IfOk result (λ ascent. (params : Params) →
-            IsAscent params sinks.now nodes.now 0 ascent.named.items ascent.leaves ascent.waiting.items) }
+        requires within { All (λ sink. sink < length sinks.now) (leaf_sinks nodes.now) }
+        ensures { IfOk result (λ ascent. (params : Params) (first : ℕ) → IsStretchOver (length sinks.now) first nodes.now
+            → IsAscent params sinks.now first nodes.now 0 ascent.named.items ascent.leaves ascent.waiting.items) }
     {
         Ok(Ascent {
             named: sinks_of_leaves(alloc, sinks, nodes)?,
@@ -66,7 +68,8 @@ impl Ascent {
         })
     }
 
-    /// What the node of this number is made of. Its parts no longer wait, and its own side is to.
+    /// What the node of this number in the stretch is made of. Its parts no longer wait, and its own side is
+    /// to. It is the same whatever number the stretch's first node has in the shape.
     pub(crate) fn finish<L: Ledger>(
         &mut self,
         params: &Params,
@@ -77,14 +80,18 @@ impl Ascent {
     ) -> Result<Finished, Beyond>
         requires params { IsParams params.now }
         requires sinks { AreSinksInRange sinks.now }
-        requires shape { IsShapeOver (length sinks.now) nodes.now }
         requires number { number < length nodes.now }
-        requires before { IsAscent params.now sinks.now nodes.now number
+        requires before { (first : ℕ) × IsAscent params.now sinks.now first nodes.now number
             self.old.named.items self.old.leaves self.old.waiting.items }
-        ensures here { IfOk result (StandsAt children nodes.now (IsFinished params.now sinks.now) number) }
-        ensures beyond { IfErr result (λ _.
-            IfSome (slice_get (trees_of children nodes.now) number) (IsBeyondPair params.now sinks.now)) }
-        ensures after { IfOk result (λ f. IsAscent params.now sinks.now nodes.now (number + 1)
+        ensures here { IfOk result (λ f. (first : ℕ) → IsAscent params.now sinks.now first nodes.now number
+            self.old.named.items self.old.leaves self.old.waiting.items
+            → StandsAt (children_from first) nodes.now (IsFinished params.now sinks.now) number f) }
+        ensures beyond { IfErr result (λ _. (first : ℕ) → IsAscent params.now sinks.now first nodes.now number
+            self.old.named.items self.old.leaves self.old.waiting.items
+            → IfSome (slice_get (trees_of (children_from first) nodes.now) number) (IsBeyondPair params.now sinks.now)) }
+        ensures after { IfOk result (λ f. (first : ℕ) → IsAscent params.now sinks.now first nodes.now number
+            self.old.named.items self.old.leaves self.old.waiting.items
+            → IsAscent params.now sinks.now first nodes.now (number + 1)
             self.new.named.items self.new.leaves (self.new.waiting.items ++ f.side ∷ [])) }
         ensures merges { steps.new + length (leaf_sinks (take (number + 1) nodes.now))
             ≡ steps.old + length (leaf_sinks (take number nodes.now)) + 1 }

@@ -2,16 +2,17 @@
 
 ghost use Rattle.std.specs.Prelude.{◌≡◌, ◌+◌, ◌≤◌, length, IfOk, IfErr, OnOk};
 ghost use Rattle.cts_units.specs.Limits.{IsParams};
-ghost use Rattle.cts_topo.specs.Shape.{IsShapeOver};
+ghost use Rattle.cts_topo.specs.Shape.{IsShapeOver, IsStretchOver};
 ghost use Rattle.cts_up.specs.Ends.{CountsPairs, Ends};
 ghost use Rattle.cts_up.specs.Sinks.{AreSinksInRange};
 ghost use Rattle.cts_up.specs.Sites.{AreSites, site_of as spec_site_of};
+ghost use Rattle.cts_up.specs.Stretches.{AreSitesFrom, EndsFrom, IsSideFrom};
 
 use crate::ascent::Ascent;
 use crate::end::UpEnd;
 use cts_geom::Region;
-use cts_merge::{Finished, Steps};
-use cts_topo::Shape;
+use cts_merge::{Finished, Side, Steps};
+use cts_topo::{Shape, ShapeNode};
 use cts_units::{Params, Sink};
 use std::alloc::Global;
 use std::sync::ledger::Ledger;
@@ -70,4 +71,45 @@ pub fn sites<L: Ledger>(
         sites.push(site_of(&finished))?;
     }
     Ok(sites)
+}
+
+/// The sites of a stretch of a shape's nodes, of which the first one has the number `first` in the shape,
+/// written over what stands in `out`, and the side of its root.
+///
+/// They are made as [`sites`] makes those of a whole shape. Answers `Beyond` with the least number of a node
+/// that is over the limits of wires, loads or delays while its two children are finished, as it is numbered in
+/// the shape, and `NoMemory` where an allocation fails; then some of the sites may be written. Each pair that
+/// is tried counts one merge.
+pub fn sites_part<L: Ledger>(
+    alloc: Global,
+    params: &Params,
+    sinks: &[Sink],
+    first: u32,
+    nodes: &[ShapeNode],
+    out: &mut [Site],
+    steps: &mut Steps<L>,
+) -> Result<Side, UpEnd>
+    requires params { IsParams params.now }
+    requires sinks { AreSinksInRange sinks.now }
+    requires stretch { IsStretchOver (length sinks.now) first nodes.now }
+    requires few { first + length nodes.now ≤ 131071 }
+    requires room { length out.old ≡ length nodes.now }
+    ensures sites { IfOk result (λ _. AreSitesFrom params.now sinks.now first nodes.now out.new) }
+    ensures side { IfOk result (IsSideFrom params.now sinks.now first nodes.now) }
+    ensures ends { IfErr result (EndsFrom params.now sinks.now first nodes.now) }
+{
+    let mut ascent = Ascent::begin(alloc, sinks, nodes)?;
+    for place in 0..nodes.len() {
+        let Ok(finished) = ascent.finish(params, sinks, nodes, place, steps) else {
+            return Err(UpEnd::Beyond {
+                node: first + place as u32,
+            });
+        };
+        ascent.waiting.push(finished.side)?;
+        out[place] = site_of(&finished);
+    }
+    let Some(root) = ascent.waiting.pop() else {
+        unreachable!()
+    };
+    Ok(root)
 }

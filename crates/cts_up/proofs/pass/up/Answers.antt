@@ -1,11 +1,12 @@
 use Rattle.std.proofs.Common.{◌+◌, [], take, length, refl, sym, subst, arith}
 use Rattle.std.specs.List.{AllZip}
 use Rattle.cts_postorder.specs.PostOrder.{trees_of}
-use Rattle.cts_postorder.proofs.Upward.{up_all}
-use Rattle.cts_topo.specs.Shape.{children, IsShapeOver}
+use Rattle.cts_topo.specs.Shape.{children_from, IsShapeOver}
+use Rattle.cts_topo.proofs.Stretches.{whole_is_stretch}
 use Rattle.cts_up.specs.Plan.{IsFinished, IsLeastBeyond, IsPlan}
 use Rattle.cts_up.specs.Ascending.{IsAscent}
-use Rattle.cts_up.proofs.Ascending.{plan_more, beyond_least}
+use Rattle.cts_up.proofs.Ascending.{one_more}
+use Rattle.cts_up.proofs.Whole.{whole_plan, whole_least_beyond}
 use Rattle.cts_up.proofs.Merges.{some_sink, number_fits, merges_at_most, merges_all}
 use Rattle.cts_up.proofs.pass.up.Goals as goal
 
@@ -16,6 +17,9 @@ returns-in_err-ascent-clause-merges_at_most g c =
 pub returns-in_err-plan-clause-merges_at_most : goal.returns-in_err-plan-clause-merges_at_most
 returns-in_err-plan-clause-merges_at_most g c =
     omega (arith, some_sink c.args.sinks.now c.args.shape.now c.requires.shape)
+
+pub finish-requires-clause-before : goal.finish-requires-clause-before
+finish-requires-clause-before g c = (0, c.loop-number.invariant.ascent)
 
 pub overflow_cast-result : goal.overflow_cast-result
 overflow_cast-result g c =
@@ -29,8 +33,8 @@ overflow_cast-result g c =
 pub returns-in_default-clause-ends : goal.returns-in_default-clause-ends
 returns-in_default-clause-ends g c =
     subst (λ nodes. IsLeastBeyond c.args.params.now c.args.sinks.now nodes c.loop-number.number) c.nodes-nodes.ensures.nodes
-    (beyond_least c.args.params.now c.args.sinks.now c.nodes-nodes.result.now c.loop-number.number c.loop-number-test.true
-    c.loop-number.plan.items c.loop-number.invariant.plan c.in_default.ensures.beyond)
+    (whole_least_beyond c.args.params.now c.args.sinks.now c.nodes-nodes.result.now c.loop-number.number c.loop-number-test.true
+    c.loop-number.plan.items c.loop-number.invariant.plan (c.in_default.ensures.beyond 0 c.loop-number.invariant.ascent))
 
 pub returns-in_default-clause-merges_at_most : goal.returns-in_default-clause-merges_at_most
 returns-in_default-clause-merges_at_most g c =
@@ -56,7 +60,9 @@ returns-in_err-push-2-clause-merges_at_most g c =
 pub loop-number-init : goal.loop-number-init
 loop-number-init g c =
     record {
-      ascent = c.in_ok-ascent.ensures c.args.params.now;
+      ascent = c.in_ok-ascent.ensures c.args.params.now 0
+          (whole_is_stretch (length c.args.sinks.now) c.nodes-nodes.result.now
+          (subst (IsShapeOver (length c.args.sinks.now)) (sym c.nodes-nodes.ensures.nodes) c.requires.shape));
       plan = subst (AllZip (IsFinished c.args.params.now c.args.sinks.now) []) (sym c.in_ok-plan.ensures.items) tt;
       merges = refl;
     }
@@ -65,19 +71,20 @@ pub loop-number-preserved : goal.loop-number-preserved
 loop-number-preserved g c =
     record {
       ascent = subst
-          (IsAscent c.args.params.now c.args.sinks.now c.nodes-nodes.result.now (c.loop-number.number + 1) c.finish.new.self.named.items
-          c.finish.new.self.leaves) (sym c.in_ok-push.ensures.items) c.in-Ok.ensures.after;
-      plan = subst (AllZip (IsFinished c.args.params.now c.args.sinks.now) (take (c.loop-number.number + 1) (trees_of children c.nodes-nodes.result.now)))
+          (IsAscent c.args.params.now c.args.sinks.now 0 c.nodes-nodes.result.now (c.loop-number.number + 1) c.finish.new.self.named.items
+          c.finish.new.self.leaves) (sym c.in_ok-push.ensures.items) (c.in-Ok.ensures.after 0 c.loop-number.invariant.ascent);
+      plan = subst (AllZip (IsFinished c.args.params.now c.args.sinks.now) (take (c.loop-number.number + 1) (trees_of (children_from 0) c.nodes-nodes.result.now)))
           (sym c.in_ok-push-2.ensures.items)
-          (plan_more c.args.params.now c.args.sinks.now c.nodes-nodes.result.now c.loop-number.number c.loop-number-test.true
-          c.loop-number.plan.items c.loop-number.invariant.plan c.in-Ok.finished c.in-Ok.ensures.here);
+          (one_more c.args.params.now c.args.sinks.now 0 c.nodes-nodes.result.now c.loop-number.number c.loop-number-test.true
+          (IsFinished c.args.params.now c.args.sinks.now)
+          c.loop-number.plan.items c.loop-number.invariant.plan c.in-Ok.finished (c.in-Ok.ensures.here 0 c.loop-number.invariant.ascent));
       merges = omega (arith, c.loop-number.invariant.merges, c.finish.ensures.merges);
     }
 
 pub returns-clause-plan : goal.returns-clause-plan
 returns-clause-plan g c =
     subst (λ nodes. IsPlan c.args.params.now c.args.sinks.now nodes c.loop-number.plan.items) c.nodes-nodes.ensures.nodes
-    (up_all children (IsFinished c.args.params.now c.args.sinks.now) c.nodes-nodes.result.now c.loop-number.number
+    (whole_plan c.args.params.now c.args.sinks.now c.nodes-nodes.result.now c.loop-number.number
     c.loop-number.plan.items (omega arith) c.loop-number.invariant.plan)
 
 pub returns-clause-merges : goal.returns-clause-merges

@@ -1,7 +1,7 @@
 use Rattle.std.proofs.Common.{◌≡◌, ◌+◌, List, take, map, length}
 use Rattle.std.specs.List.{AllZip}
 use Rattle.cts_postorder.specs.PostOrder.{trees_of}
-use Rattle.cts_topo.specs.Shape.{children, leaf_sinks}
+use Rattle.cts_topo.specs.Shape.{children_from, leaf_sinks}
 use Rattle.cts_merge.specs.declared.side.Finished.{Finished}
 use Rattle.cts_up.specs.Ascending.{IsAscent}
 use Rattle.cts_up.specs.Plan.{IsFinished}
@@ -11,9 +11,9 @@ use Rattle.cts_up.proofs.site.sites.Given as goal
 abbrev pub invariant-loop-number : goal.invariant-loop-number
 invariant-loop-number g l =
     record {
-      ascent : IsAscent l.params l.sinks l.nodes l.number l.ascent.named.items l.ascent.leaves l.ascent.waiting.items;
+      ascent : IsAscent l.params l.sinks 0 l.nodes l.number l.ascent.named.items l.ascent.leaves l.ascent.waiting.items;
       sites : (plan : List Finished)
-          × AllZip (IsFinished l.params l.sinks) (take l.number (trees_of children l.nodes)) plan
+          × AllZip (IsFinished l.params l.sinks) (take l.number (trees_of (children_from 0) l.nodes)) plan
           × (l.sites.items ≡ map site_of plan);
       merges : l.steps + length (leaf_sinks (take l.number l.nodes)) ≡ l.fn.steps + l.number;
     }
