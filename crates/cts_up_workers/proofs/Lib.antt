@@ -1,0 +1,2 @@
+pub mod AllNodes
+pub mod Halves
