@@ -1,101 +1,48 @@
 -- A tree cut at its root: the nodes, the trees and the pins of its two parts.
-use Rattle.std.proofs.Common.{set, ◌≡◌, ℕ, ◌+◌, ◌-◌, ◌/◌, ◌<◌, ◌≤◌, List, [], ◌∷◌, ◌++◌, map, take, drop, length, get_or, slice_get, Option, Some, None, IsSomeAnd, refl, sym, ap, subst, ◌∙◌, arith, append_assoc, append-nil, length-append, take_at}
+use Rattle.std.proofs.Common.{set, ◌≡◌, ℕ, ◌+◌, ◌-◌, ◌/◌, ◌<◌, ◌≤◌, List, [], ◌∷◌, ◌++◌, map, take, drop, length, get_or, slice_get, Option, Some, None, IsSomeAnd, refl, sym, ap, ap₂, subst, ◌∙◌, arith, append_assoc, append-nil, length-append, take_at}
 use Rattle.std.specs.Prelude.{IfSome}
 use Rattle.std.specs.List.{All, cons_option}
 use Rattle.std.specs.Option.{option_map, option_and_then}
 use Rattle.std.proofs.lemmas.List.{drop_at, get_or_append_left}
-use Rattle.std.proofs.lemmas.List.Elements.{All-tail, filter_map-append}
+use Rattle.std.proofs.lemmas.List.Elements.{All-tail, All-weaker, filter_map-append}
 use Rattle.cts_units.specs.declared.params.Sink.{Sink}
 use Rattle.cts_postorder.specs.BinaryTree.{BinaryTree, tip, fork, labels, size, subtrees, IsNumbered}
 use Rattle.cts_postorder.specs.PostOrder.{IsPostOrder, root_of, trees_of}
 use Rattle.cts_postorder.proofs.Lists.{Whole, whole_of}
 use Rattle.cts_postorder.proofs.Sizes.{size_pos, length-labels}
-use Rattle.cts_postorder.proofs.Stretches.{IsSpelled, stretch_spelled, names_from, IsJoined, joined_at}
+use Rattle.cts_postorder.proofs.Stretches.{IsSpelled, counted_from, spelled, stretch_spelled, names_from, IsJoined, joined_at}
 use Rattle.cts_tree.specs.declared.nodes.NodeKind.{NodeKind}
 use Rattle.cts_tree.specs.declared.nodes.NodeKind.TheVariants.{Leaf, Pair}
 use Rattle.cts_tree.specs.declared.nodes.TreeNode.{TreeNode}
-use Rattle.cts_tree.specs.Nodes.{children_of, children_from, leaf_sink, tree_children}
-use Rattle.cts_tree.proofs.Stretches.{counts_from}
+use Rattle.cts_tree.specs.Nodes.{children_of, children_of_from, children_from, leaf_sink, tree_children}
+use Rattle.cts_tree.proofs.Stretches.{whole_from_start}
 use Rattle.cts_instance.specs.declared.parts.Parts.{Parts}
 use Rattle.cts_elmore.specs.declared.pin_list.Pin.{Pin}
 use Rattle.cts_elmore.specs.Fits.{FitsInstance, NamesSink, NamesBuffer}
 use Rattle.cts_elmore.specs.Loads.{pin_of, leaf_pin, leaf_pins}
 use Rattle.cts_elmore.specs.Subtrees.{HasChildrenFrom}
-use Rattle.cts_elmore_workers.specs.Halves.{LeftHas, IsMiddle, AreNodesOfParts}
+use Rattle.cts_elmore_workers.specs.Halves.{LeftHas, IsMiddle, IsMiddleFrom, AreNodesOfParts}
 
--- The tree of some nodes is a pair of two parts, each spelled by its own nodes.
-pub record Cut (nodes : List TreeNode) (middle : ℕ) : Type 0 where
+-- The tree of some nodes, of which the first has the number `first`, is a pair of two parts, each spelled by its own nodes, and
+-- the right one begins at the number `second`.
+pub record CutAt (kids : TreeNode → Option (ℕ × ℕ)) (first second : ℕ) (nodes : List TreeNode) (middle : ℕ) : Type 0 where
   pub left : BinaryTree TreeNode
   pub right : BinaryTree TreeNode
   pub node : TreeNode
-  pub root_is : root_of tree_children nodes ≡ Some (fork left right node)
-  pub trees_are : trees_of tree_children nodes ≡ subtrees left ++ subtrees right ++ fork left right node ∷ []
+  pub root_is : root_of kids nodes ≡ Some (fork left right node)
+  pub trees_are : trees_of kids nodes ≡ subtrees left ++ subtrees right ++ fork left right node ∷ []
   pub nodes_are : nodes ≡ labels left ++ labels right ++ node ∷ []
   pub left_size : size left ≡ middle
   pub long : length nodes ≡ size left + size right + 1
-  pub named : (c : ℕ × ℕ) × (tree_children node ≡ Some c)
-  pub left_numbered : IsNumbered tree_children 0 left
-  pub right_numbered : IsNumbered tree_children middle right
-  pub left_spelled : IsSpelled (children_from 0) (labels left) left
-  pub right_spelled : IsSpelled (children_from middle) (labels right) right
+  pub named : (c : ℕ × ℕ) × (children_of_from first node.kind ≡ Some c)
+  pub left_numbered : IsNumbered (children_from first) 0 left
+  pub right_names : All (HasChildrenFrom second) (labels right)
+  pub left_spelled : IsSpelled (children_from first) (labels left) left
+  pub right_spelled : IsSpelled (children_from second) (labels right) right
 
-cut_tree : (nodes : List TreeNode) (middle : ℕ) (w : Whole tree_children nodes) (t : BinaryTree TreeNode) → w.tree ≡ t → LeftHas middle t
-    → Cut nodes middle
-unfolding labels size subtrees IsNumbered
-cut_tree nodes middle w (tip n) is has = absurd has
-cut_tree nodes middle w (fork l r n) is has =
-    let numbered : IsNumbered tree_children 0 (fork l r n) = subst (IsNumbered tree_children 0) is w.numbered in
-    let start : 0 + size l ≡ middle = omega (arith, has) in
-    let from_middle : IsNumbered tree_children middle r = subst (λ o. IsNumbered tree_children o r) start (numbered.1) in
-    record {
-      left = l;
-      right = r;
-      node = n;
-      root_is = w.root_is ∙ ap Some is;
-      trees_are = w.trees_are ∙ ap subtrees is;
-      nodes_are = sym w.labels_are ∙ ap labels is;
-      left_size = has;
-      long = sym w.size_is ∙ ap size is;
-      named = (_, numbered.2);
-      left_numbered = numbered.0;
-      right_numbered = from_middle;
-      left_spelled = stretch_spelled tree_children 0 (children_from 0) (counts_from 0) l (numbered.0);
-      right_spelled = stretch_spelled tree_children middle (children_from middle) (counts_from middle) r from_middle;
-    }
-
-pub cut_at : (nodes : List TreeNode) → IsPostOrder (map tree_children nodes) → (middle : ℕ) → IsMiddle nodes middle → Cut nodes middle
-cut_at nodes ok middle is =
-    let w : Whole tree_children nodes = whole_of tree_children nodes ok in
-    cut_tree nodes middle w w.tree refl (subst (λ o. IfSome o (LeftHas middle)) w.root_is is)
-
--- the last node tells where the left part ends
-pub middle_of : (nodes : List TreeNode) → IsPostOrder (map tree_children nodes) → (e : TreeNode) (left right : ℕ) (buffer : Option ℕ)
-    → (get_or nodes (length nodes - 1) e).kind ≡ Pair left right buffer → IsMiddle nodes (left + 1)
-middle_of nodes ok e left right buffer is =
-    let j : IsJoined tree_children nodes (left, right) (get_or nodes (length nodes - 1) e) =
-    joined_at tree_children nodes ok e (left, right) (ap children_of is) in
-    subst (λ o. IfSome o (LeftHas (left + 1))) (sym j.root_is) j.left_size
-
--- what one node has for pins
-no_pin : (i : Parts) (node : TreeNode) (kind : NodeKind) (c : ℕ × ℕ) → node.kind ≡ kind → children_of kind ≡ Some c
-    → leaf_pin i node ≡ None
-no_pin i node (Leaf id sink) c is pair = cc
-no_pin i node (Pair left right buffer) c is pair =
-    ap (λ (kind : NodeKind). option_map pin_of (option_and_then (slice_get i.sinks) (leaf_sink kind))) is
-
-one_pin : (i : Parts) (node : TreeNode) (kind : NodeKind) → node.kind ≡ kind → children_of kind ≡ None → NamesSink i.sinks kind
-    → (pin : Pin) × (leaf_pin i node ≡ Some pin)
-one_pin i node (Leaf id sink) is none named = by_sink (slice_get i.sinks sink) refl named
-  where
-    by_sink : (o : Option Sink) → slice_get i.sinks sink ≡ o → IsSomeAnd o (λ (of : Sink). of.id ≡ id)
-        → (pin : Pin) × (leaf_pin i node ≡ Some pin)
-    by_sink None found h = absurd h
-    by_sink (Some s) found h = (
-      pin_of s,
-      ap (λ (kind : NodeKind). option_map pin_of (option_and_then (slice_get i.sinks) (leaf_sink kind))) is
-          ∙ ap (λ (o : Option Sink). option_map pin_of o) found,
-    )
-one_pin i node (Pair left right buffer) is none named = cc
+-- of the nodes of a whole tree
+abbrev pub Cut : List TreeNode → ℕ → Type 0
+Cut nodes middle = CutAt tree_children 0 middle nodes middle
 
 pub all_front : {X : Type 0} (P : X → Type 0) (xs ys : List X) → All P (xs ++ ys) → All P xs
 all_front P xs ys all k d h =
@@ -105,19 +52,123 @@ pub all_back : {X : Type 0} (P : X → Type 0) (xs ys : List X) → All P (xs ++
 all_back P [] ys all = all
 all_back P (x ∷ xs) ys all = all_back P xs ys (All-tail P x (xs ++ ys) all)
 
+-- children counted from a later number on
+counts_further : (first middle second : ℕ) → first + middle ≡ second → (kind : NodeKind)
+    → children_of_from second kind ≡ counted_from middle (children_of_from first kind)
+counts_further first middle second is (Leaf id sink) = refl
+counts_further first middle second is (Pair a b buffer) =
+    let l : a - second ≡ a - first - middle = omega (arith, is) in
+    let r : b - second ≡ b - first - middle = omega (arith, is) in
+    ap₂ (λ (x y : ℕ). Some (x, y)) l r
+
+names_further : (first middle second : ℕ) → 0 < middle → first + middle ≡ second → (kind : NodeKind)
+    → IfSome (children_of_from first kind) (λ (c : ℕ × ℕ). (middle ≤ c.0) × (middle ≤ c.1))
+    → IfSome (children_of kind) (λ (c : ℕ × ℕ). (second ≤ c.0) × (second ≤ c.1))
+names_further first middle second some is (Leaf id sink) names = tt
+names_further first middle second some is (Pair a b buffer) names =
+    (omega (arith, some, is, names.0), omega (arith, some, is, names.1))
+
+module _ (first second : ℕ) (nodes : List TreeNode) (middle : ℕ) (second_is : first + middle ≡ second) (w : Whole (children_from first) nodes) where
+  cut_tree : (t : BinaryTree TreeNode) → w.tree ≡ t → LeftHas middle t → CutAt (children_from first) first second nodes middle
+  unfolding labels size subtrees IsNumbered
+  cut_tree (tip n) is has = absurd has
+  cut_tree (fork l r n) is has =
+      let kids : TreeNode → Option (ℕ × ℕ) = children_from first in
+      let numbered : IsNumbered kids 0 (fork l r n) = subst (IsNumbered kids 0) is w.numbered in
+      let start : 0 + size l ≡ middle = omega (arith, has) in
+      let some : 0 < middle = omega (arith, has, size_pos l) in
+      let from_middle : IsNumbered kids middle r = subst (λ o. IsNumbered kids o r) start (numbered.1) in
+      record {
+        left = l;
+        right = r;
+        node = n;
+        root_is = w.root_is ∙ ap Some is;
+        trees_are = w.trees_are ∙ ap subtrees is;
+        nodes_are = sym w.labels_are ∙ ap labels is;
+        left_size = has;
+        long = sym w.size_is ∙ ap size is;
+        named = (_, numbered.2);
+        left_numbered = numbered.0;
+        right_names = All-weaker (λ m. IfSome (kids m) (λ (c : ℕ × ℕ). (middle ≤ c.0) × (middle ≤ c.1))) (HasChildrenFrom second)
+            (λ m. names_further first middle second some second_is m.kind) (labels r)
+            (names_from kids r middle middle (omega arith) from_middle);
+        left_spelled = spelled kids l (numbered.0);
+        right_spelled = stretch_spelled kids middle (children_from second)
+            (λ m. counts_further first middle second second_is m.kind) r from_middle;
+      }
+
+pub cut_from : (first second : ℕ) (nodes : List TreeNode) → IsPostOrder (map (children_from first) nodes) → (middle : ℕ)
+    → first + middle ≡ second → IsMiddleFrom first nodes middle
+    → CutAt (children_from first) first second nodes middle
+cut_from first second nodes ok middle second_is is =
+    let w : Whole (children_from first) nodes = whole_of (children_from first) nodes ok in
+    cut_tree first second nodes middle second_is w w.tree refl (subst (λ o. IfSome o (LeftHas middle)) w.root_is is)
+
+-- no node names a child before the number 0
+names_any : (kind : NodeKind) → IfSome (children_of kind) (λ (c : ℕ × ℕ). (0 ≤ c.0) × (0 ≤ c.1))
+names_any (Leaf id sink) = tt
+names_any (Pair a b buffer) = (omega arith, omega arith)
+
+pub all_from_start : (nodes : List TreeNode) → All (HasChildrenFrom 0) nodes
+all_from_start nodes k d h = names_any (get_or nodes k d).kind
+
+pub cut_at : (nodes : List TreeNode) → IsPostOrder (map tree_children nodes) → (middle : ℕ) → IsMiddle nodes middle → Cut nodes middle
+cut_at nodes ok middle is =
+    subst (λ kids. CutAt kids 0 middle nodes middle) whole_from_start
+    (cut_from 0 middle nodes (subst (λ (kids : TreeNode → Option (ℕ × ℕ)). IsPostOrder (map kids nodes)) (sym whole_from_start) ok)
+    middle (omega arith)
+    (subst (λ (kids : TreeNode → Option (ℕ × ℕ)). IfSome (root_of kids nodes) (LeftHas middle)) (sym whole_from_start) is))
+
+-- the last node tells where the left part ends
+pub middle_of : (nodes : List TreeNode) → IsPostOrder (map tree_children nodes) → (e : TreeNode) (left right : ℕ) (buffer : Option ℕ)
+    → (get_or nodes (length nodes - 1) e).kind ≡ Pair left right buffer → IsMiddle nodes (left + 1)
+middle_of nodes ok e left right buffer is =
+    let j : IsJoined tree_children nodes (left, right) (get_or nodes (length nodes - 1) e) =
+    joined_at tree_children nodes ok e (left, right) (ap children_of is) in
+    subst (λ o. IfSome o (LeftHas (left + 1))) (sym j.root_is) j.left_size
+
+-- in a stretch it does so too
+pub middle_from : (first : ℕ) (nodes : List TreeNode) → IsPostOrder (map (children_from first) nodes) → (e : TreeNode) (left right : ℕ)
+    (buffer : Option ℕ) → (get_or nodes (length nodes - 1) e).kind ≡ Pair left right buffer → IsMiddleFrom first nodes (left - first + 1)
+middle_from first nodes ok e left right buffer is =
+    let j : IsJoined (children_from first) nodes (left - first, right - first) (get_or nodes (length nodes - 1) e) =
+    joined_at (children_from first) nodes ok e (left - first, right - first) (ap (children_of_from first) is) in
+    subst (λ o. IfSome o (LeftHas (left - first + 1))) (sym j.root_is) j.left_size
+
+-- what one node has for pins
+no_pin : (i : Parts) (first : ℕ) (node : TreeNode) (kind : NodeKind) (c : ℕ × ℕ) → node.kind ≡ kind
+    → children_of_from first kind ≡ Some c → leaf_pin i node ≡ None
+no_pin i first node (Leaf id sink) c is pair = cc
+no_pin i first node (Pair left right buffer) c is pair =
+    ap (λ (kind : NodeKind). option_map pin_of (option_and_then (slice_get i.sinks) (leaf_sink kind))) is
+
+one_pin : (i : Parts) (first : ℕ) (node : TreeNode) (kind : NodeKind) → node.kind ≡ kind → children_of_from first kind ≡ None → NamesSink i.sinks kind
+    → (pin : Pin) × (leaf_pin i node ≡ Some pin)
+one_pin i first node (Leaf id sink) is none named = by_sink (slice_get i.sinks sink) refl named
+  where
+    by_sink : (o : Option Sink) → slice_get i.sinks sink ≡ o → IsSomeAnd o (λ (of : Sink). of.id ≡ id)
+        → (pin : Pin) × (leaf_pin i node ≡ Some pin)
+    by_sink None found h = absurd h
+    by_sink (Some s) found h = (
+      pin_of s,
+      ap (λ (kind : NodeKind). option_map pin_of (option_and_then (slice_get i.sinks) (leaf_sink kind))) is
+          ∙ ap (λ (o : Option Sink). option_map pin_of o) found,
+    )
+one_pin i first node (Pair left right buffer) is none named = cc
+
 -- a tree has one pin more than pairs
-pins_of_tree : (i : Parts) (t : BinaryTree TreeNode) (offset : ℕ) → IsNumbered tree_children offset t
+pins_of_tree : (i : Parts) (first : ℕ) (t : BinaryTree TreeNode) (offset : ℕ) → IsNumbered (children_from first) offset t
     → All (λ (node : TreeNode). NamesSink i.sinks node.kind) (labels t)
     → length (leaf_pins i (labels t)) + length (leaf_pins i (labels t)) ≡ size t + 1
 unfolding labels size IsNumbered
-pins_of_tree i (tip n) offset numbered names =
-    let pin = one_pin i n n.kind refl numbered (names 0 n (omega arith)) in
+pins_of_tree i first (tip n) offset numbered names =
+    let pin = one_pin i first n n.kind refl numbered (names 0 n (omega arith)) in
     let is : leaf_pins i (n ∷ []) ≡ pin.0 ∷ [] = ap (λ o. cons_option o []) (pin.1) in
     ap (λ (pins : List Pin). length pins + length pins) is
-pins_of_tree i (fork l r n) offset numbered names =
+pins_of_tree i first (fork l r n) offset numbered names =
     let P : TreeNode → Type 0 = λ node. NamesSink i.sinks node.kind in
     let front : All P (labels l ++ labels r) = all_front P (labels l ++ labels r) (n ∷ []) names in
-    let none : leaf_pins i (n ∷ []) ≡ [] = ap (λ o. cons_option o []) (no_pin i n n.kind _ refl (numbered.2)) in
+    let none : leaf_pins i (n ∷ []) ≡ [] = ap (λ o. cons_option o []) (no_pin i first n n.kind _ refl (numbered.2)) in
     let is : leaf_pins i (labels l ++ labels r ++ n ∷ []) ≡ leaf_pins i (labels l) ++ leaf_pins i (labels r) =
     filter_map-append (leaf_pin i) (labels l ++ labels r) (n ∷ []) ∙ ap (λ ps. leaf_pins i (labels l ++ labels r) ++ ps) none
     ∙ append-nil _ ∙ filter_map-append (leaf_pin i) (labels l) (labels r) in
@@ -127,8 +178,8 @@ pins_of_tree i (fork l r n) offset numbered names =
     omega (
       arith,
       count,
-      pins_of_tree i l offset (numbered.0) (all_front P (labels l) (labels r) front),
-      pins_of_tree i r (offset + size l) (numbered.1) (all_back P (labels l) (labels r) front),
+      pins_of_tree i first l offset (numbered.0) (all_front P (labels l) (labels r) front),
+      pins_of_tree i first r (offset + size l) (numbered.1) (all_back P (labels l) (labels r) front),
     )
 
 -- the only item of a list is written over
@@ -138,14 +189,15 @@ set_one (y ∷ []) x long = refl
 set_one (y ∷ z ∷ xs) x long = absurd (omega (arith, long))
 
 -- Some nodes of a tree, cut.
-module _ (nodes : List TreeNode) (middle : ℕ) (c : Cut nodes middle) where
+module _ {kids : TreeNode → Option (ℕ × ℕ)} {first second : ℕ} (nodes : List TreeNode) (middle : ℕ)
+    (c : CutAt kids first second nodes middle) where
   pub root : BinaryTree TreeNode
   root = fork c.left c.right c.node
 
-  pub told : (P : BinaryTree TreeNode → Type 0) → IfSome (root_of tree_children nodes) P → P (fork c.left c.right c.node)
+  pub told : (P : BinaryTree TreeNode → Type 0) → IfSome (root_of kids nodes) P → P (fork c.left c.right c.node)
   told P p = subst (λ o. IfSome o P) c.root_is p
 
-  pub tell : (P : BinaryTree TreeNode → Type 0) → P (fork c.left c.right c.node) → IfSome (root_of tree_children nodes) P
+  pub tell : (P : BinaryTree TreeNode → Type 0) → P (fork c.left c.right c.node) → IfSome (root_of kids nodes) P
   tell P p = subst (λ o. IfSome o P) (sym c.root_is) p
 
   pub sizes : (0 < middle) × (0 < size c.right) × (length nodes ≡ middle + size c.right + 1)
@@ -202,7 +254,7 @@ module _ (nodes : List TreeNode) (middle : ℕ) (c : Cut nodes middle) where
     pins_are : leaf_pins i nodes ≡ leaf_pins i (labels c.left) ++ leaf_pins i (labels c.right)
     pins_are =
         let none : leaf_pins i (c.node ∷ []) ≡ [] =
-        ap (λ o. cons_option o []) (no_pin i c.node c.node.kind (c.named.0) refl (c.named.1)) in
+        ap (λ o. cons_option o []) (no_pin i first c.node c.node.kind (c.named.0) refl (c.named.1)) in
         ap (leaf_pins i) c.nodes_are ∙ filter_map-append (leaf_pin i) (labels c.left ++ labels c.right) (c.node ∷ [])
         ∙ ap (λ ps. leaf_pins i (labels c.left ++ labels c.right) ++ ps) none
         ∙ append-nil _ ∙ filter_map-append (leaf_pin i) (labels c.left) (labels c.right)
@@ -210,7 +262,7 @@ module _ (nodes : List TreeNode) (middle : ℕ) (c : Cut nodes middle) where
     -- so the pins of the left part are the first of them
     pub left_count : length (leaf_pins i (labels c.left)) ≡ middle / 2 + 1
     left_count =
-        omega (arith, pins_of_tree i c.left 0 c.left_numbered (all_left (λ node. NamesSink i.sinks node.kind) fits.sinks), c.left_size)
+        omega (arith, pins_of_tree i first c.left 0 c.left_numbered (all_left (λ node. NamesSink i.sinks node.kind) fits.sinks), c.left_size)
 
     module _ (pins : List Pin) (are : pins ≡ leaf_pins i nodes) where
       pub enough : middle / 2 + 1 ≤ length pins
@@ -229,16 +281,11 @@ module _ (nodes : List TreeNode) (middle : ℕ) (c : Cut nodes middle) where
           ap (drop (middle / 2 + 1)) (are ∙ pins_are)
           ∙ drop_at (leaf_pins i (labels c.left)) (leaf_pins i (labels c.right)) (middle / 2 + 1) left_count
 
-  pub left_names : All (HasChildrenFrom 0) (labels c.left)
-  left_names = names_from tree_children c.left 0 0 (omega arith) c.left_numbered
-
-  pub right_names : All (HasChildrenFrom middle) (labels c.right)
-  right_names = names_from tree_children c.right middle middle (omega arith) c.right_numbered
-
 -- the nodes of the parts, where lists that are cut from the nodes have other names
-pub parts_named : (nodes : List TreeNode) (middle : ℕ) (c : Cut nodes middle) (front rest : List TreeNode) → front ≡ take middle nodes
+pub parts_named : {kids : TreeNode → Option (ℕ × ℕ)} {first second : ℕ} (nodes : List TreeNode) (middle : ℕ)
+    (c : CutAt kids first second nodes middle) (front rest : List TreeNode) → front ≡ take middle nodes
     → rest ≡ drop middle nodes → (back : List TreeNode) (k : ℕ) → k + 1 ≡ length rest → back ≡ take k rest
-    → IfSome (root_of tree_children nodes) (AreNodesOfParts front back)
+    → IfSome (root_of kids nodes) (AreNodesOfParts front back)
 parts_named nodes middle c front rest front_is rest_is back k is back_is =
     tell nodes middle c (AreNodesOfParts front back)
     (front_is ∙ front_are nodes middle c, back_is ∙ ap (take k) rest_is ∙ back_are nodes middle c k (is ∙ ap length rest_is))

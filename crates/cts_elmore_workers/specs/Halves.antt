@@ -3,15 +3,15 @@ use Rattle.std.specs.Prelude.{◌≡◌, ℕ, ◌↔◌, List, [], ◌∷◌, �
 use Rattle.std.specs.List.{AllZip}
 use Rattle.cts_postorder.specs.BinaryTree.{BinaryTree, tip, fork, size, labels, subtrees}
 use Rattle.cts_postorder.specs.Occurrence.{occurrences}
-use Rattle.cts_postorder.specs.PostOrder.{root_of}
+use Rattle.cts_postorder.specs.PostOrder.{root_of, trees_of}
 use Rattle.cts_tree.specs.declared.nodes.TreeNode.{TreeNode}
-use Rattle.cts_tree.specs.Nodes.{tree_children}
+use Rattle.cts_tree.specs.Nodes.{children_from, tree_children}
 use Rattle.cts_instance.specs.declared.parts.Parts.{Parts}
 use Rattle.cts_elmore.specs.declared.figures.NodeFigure.{NodeFigure}
 use Rattle.cts_elmore.specs.declared.subtree.Subtree.{Subtree}
 use Rattle.cts_elmore.specs.declared.descent.Met.{Met}
 use Rattle.cts_elmore.specs.Figures.{IsNodeFigure, IsFigureInRange}
-use Rattle.cts_elmore.specs.Limits.{MeetsLoadAt, MeetsSlewAt, MeetsLoadLimit, MeetsSlewLimit}
+use Rattle.cts_elmore.specs.Limits.{IsPairOver, MeetsLoadAt, MeetsSlewAt, MeetsLoadLimit, MeetsSlewLimit}
 use Rattle.cts_elmore.specs.Subtrees.{IsKnownBelow, IsSubtree}
 
 -- the left part of a tree has so many nodes
@@ -23,15 +23,26 @@ LeftHas middle (fork l r n) = size l ≡ middle
 abbrev pub IsMiddle : List TreeNode → ℕ → Type 0
 IsMiddle nodes middle = IfSome (root_of tree_children nodes) (LeftHas middle)
 
+-- the same of a stretch of nodes that begins at the number `first`
+abbrev pub IsMiddleFrom : ℕ → List TreeNode → ℕ → Type 0
+IsMiddleFrom first nodes middle = IfSome (root_of (children_from first) nodes) (LeftHas middle)
+
+-- no pair of such a stretch is over the limits
+abbrev pub ArePairsWithin : Parts → ℕ → List TreeNode → Type 0
+ArePairsWithin i first nodes = All (λ t. ¬ IsPairOver i t) (trees_of (children_from first) nodes)
+
+-- its root has these values on the way up
+abbrev pub IsSubtreeFrom : Parts → ℕ → List TreeNode → Subtree → Type 0
+IsSubtreeFrom i first nodes s = IfSome (root_of (children_from first) nodes) (λ t. IsSubtree i t s)
+
+-- and this is known from below of its nodes
+abbrev pub AreKnownFrom : Parts → ℕ → List TreeNode → List NodeFigure → Type 0
+AreKnownFrom i first nodes figures = AllZip (IsKnownBelow i) (trees_of (children_from first) nodes) figures
+
 -- the nodes of both parts
 abbrev pub AreNodesOfParts : List TreeNode → List TreeNode → BinaryTree TreeNode → Type 0
 AreNodesOfParts front back (tip n) = ⊥
 AreNodesOfParts front back (fork l r n) = (front ≡ labels l) × (back ≡ labels r)
-
--- the values of both parts on the way up
-abbrev pub AreSubtrees : Parts → Subtree → Subtree → BinaryTree TreeNode → Type 0
-AreSubtrees i a b (tip n) = ⊥
-AreSubtrees i a b (fork l r n) = IsSubtree i l a × IsSubtree i r b
 
 -- what is known from below of the nodes of both parts
 abbrev pub AreKnownParts : Parts → List NodeFigure → BinaryTree TreeNode → Type 0

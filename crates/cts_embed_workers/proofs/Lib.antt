@@ -1,3 +1,4 @@
 pub mod Ids
+pub mod LeafPins
 pub mod Stretches
 pub mod AllNodes

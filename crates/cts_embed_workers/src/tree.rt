@@ -263,7 +263,7 @@ fn place_known(
 }
 
 /// The id of a leaf's sink; 0 at a pair, which has none.
-pub(crate) fn id_of(instance: &Instance, node: ShapeNode) -> u32
+fn id_of(instance: &Instance, node: ShapeNode) -> u32
     requires { (sink : ℕ) → node ≡ Leaf sink → sink < length instance.now.sinks }
     ensures { IsIdOf instance.now.sinks node result }
 {

@@ -1,6 +1,6 @@
 //! The placed tree of a shape.
 
-ghost use Rattle.std.specs.Prelude.{◌≡◌, length, IfOk, IfErr};
+ghost use Rattle.std.specs.Prelude.{◌≡◌, [], length, IfOk, IfErr};
 ghost use Rattle.cts_topo.specs.Shape.{IsShapeOver};
 ghost use Rattle.cts_up.specs.Sites.{AreSites};
 ghost use Rattle.cts_embed.specs.Ends.{EmbedEnds};
@@ -8,7 +8,7 @@ ghost use Rattle.cts_embed.specs.Fitting.{Fits};
 ghost use Rattle.cts_embed.specs.PlacedTree.{IsPlacedTree};
 ghost use Rattle.cts_embed_workers.specs.Stretches.{AreIds};
 
-use crate::tree::{id_of, place_tree};
+use crate::tree::place_tree;
 use cts_embed::{EmbedEnd, ground_of, source_place};
 use cts_geom::Spot;
 use cts_instance::Instance;
@@ -19,12 +19,13 @@ use cts_up::Site;
 use std::alloc::Global;
 use std::thread::Threads;
 
-/// So many nodes that are none of a tree yet: the room in which workers place those of one. Answers `NoMemory` where an
+/// So many nodes that are none of a tree yet: the room in which workers place those of one. They go into a list without
+/// items, which the caller has reserved: one with room for so many takes no memory here. Answers `NoMemory` where an
 /// allocation fails.
-pub fn room_for(alloc: Global, count: usize) -> Result<Vec<TreeNode>, NoMemory>
+pub fn room_for(mut room: Vec<TreeNode>, count: usize) -> Result<Vec<TreeNode>, NoMemory>
+    requires { room.items ≡ [] }
     ensures { IfOk result (λ room. length room.items ≡ count) }
 {
-    let mut room = Vec::with_capacity(alloc, count)?;
     for _ in 0..count {
         room.push(no_node())?;
     }
@@ -44,24 +45,9 @@ fn no_node() -> TreeNode {
     }
 }
 
-/// The ids of the leaves' sinks, each at the number of its leaf; 0 at a pair, which has none. They are looked up before the
-/// nodes are placed, since each look-up goes far in memory, and a node that waits for one takes far longer. Answers
-/// `NoMemory` where an allocation fails.
-pub fn ids_for(alloc: Global, instance: &Instance, shape: &Shape) -> Result<Vec<u32>, NoMemory>
-    requires shape { IsShapeOver (length instance.now.sinks) shape.now }
-    ensures { IfOk result (λ ids. AreIds instance.now.sinks shape.now ids.items) }
-{
-    let nodes = shape.nodes();
-    let mut ids = Vec::with_capacity(alloc, nodes.len())?;
-    for node in nodes {
-        ids.push(id_of(instance, *node))?;
-    }
-    Ok(ids)
-}
-
 /// The placed tree of a shape by the sites of its plan, as `cts_embed::embed_sites` gives it, by at most so many workers
 /// beside each other. The nodes go into the room, which has one place for each. The ids of their sinks are those that
-/// [`ids_for`] lists.
+/// [`leaves_for`](crate::leaves_for) lists.
 ///
 /// Answers `Cut` with the greatest number of a node that no route reaches, and `NoMemory` where an allocation fails; where
 /// both happen, either may be told.

@@ -13,7 +13,7 @@ ghost use Rattle.cts_plain.specs.Ends.{EndsInBalance};
 ghost use Rattle.cts_plain.specs.Synthesis.{IsPlacedBy, IsSynthesisOver, made};
 
 use crate::balance::balance_by;
-use cts_elmore::{Figures, NodeFigure, Pin, measure_with, pins};
+use cts_elmore::{Figures, NodeFigure, Pin, measure_with};
 use cts_elmore_workers::measure_by;
 use cts_instance::Instance;
 use cts_num::NoMemory;
@@ -48,7 +48,7 @@ fn measure_in<R: Threads + Sync>(
 
 /// The tree of a placed tree, with its figures, as `cts_plain::settle` gives it, by so many workers: the wires balanced upward,
 /// and what each node's load, delay and slew then are. The figures stand in the room where that has a place for each node; of
-/// another room no use is made.
+/// another room no use is made. The pins of the leaves are listed already, in the order of the leaves.
 ///
 /// `Beyond` with the least number of a node that is over the limits in the balance, `NoMemory` where an allocation fails.
 pub fn settle_by<R: Threads + Sync>(
@@ -58,9 +58,11 @@ pub fn settle_by<R: Threads + Sync>(
     instance: &Instance,
     placed: Placed,
     room: Vec<NodeFigure>,
+    pins: &[Pin],
 ) -> Result<(Tree, Figures), NoTree>
     requires fits { Fits instance.now placed }
     requires of_shape { (shape : List ShapeNode) × IsShapeOver (length instance.now.sinks) shape × IsPlacedBy instance.now shape placed }
+    requires pins { pins.now ≡ leaf_pins instance.now placed }
     ensures tree { (shape : List ShapeNode) → IsPlacedBy instance.now shape placed
         → IfOk result (λ r. IsSynthesisOver instance.now shape (made r.0)) }
     ensures figures { IfOk result (λ r. AreFigures instance.now r.0 r.1) }
@@ -73,8 +75,7 @@ pub fn settle_by<R: Threads + Sync>(
 {
     // A read call says that the instance is valid, which the limits of the passes rest on.
     let _die = instance.die();
-    let pins = pins(alloc, instance, placed.nodes())?;
-    let tree = balance_by(rt, alloc, workers, instance, placed, pins.as_slice())?;
-    let figures = measure_in(rt, alloc, workers, instance, &tree, pins.as_slice(), room)?;
+    let tree = balance_by(rt, alloc, workers, instance, placed, pins)?;
+    let figures = measure_in(rt, alloc, workers, instance, &tree, pins, room)?;
     Ok((tree, figures))
 }

@@ -1,6 +1,5 @@
 use Rattle.std.proofs.Common.{◌≡◌, ℕ, List, ◌++◌, map, length, sym, ap, subst, ◌∙◌, arith, take, take_at}
 use Rattle.cts_postorder.specs.PostOrder.{IsPostOrder}
-use Rattle.cts_postorder.proofs.Lists.{length_pos}
 use Rattle.cts_tree.specs.declared.nodes.TreeNode.{TreeNode}
 use Rattle.cts_tree.specs.Nodes.{tree_children}
 use Rattle.cts_instance.specs.declared.parts.Parts.{Parts}
@@ -19,11 +18,6 @@ balanced parts placed items lent new rest n given shown long count is =
 post_order : (parts : Parts) (placed tree : List TreeNode) → IsPostOrder (map tree_children placed) → IsBalancedTree parts placed tree
     → IsPostOrder (map tree_children tree)
 post_order parts placed tree ok is = assembled_post_order parts placed ok tree is.nodes
-
-pub halved_at-requires : goal.halved_at-requires
-halved_at-requires g c = record {
-  some = omega (arith, length_pos tree_children c.args.placed c.nodes.ensures.post_order, ap length c.nodes.ensures.nodes);
-}
 
 pub of-requires : goal.of-requires
 of-requires g c =
