@@ -16,8 +16,10 @@ use cts_tree::Tree;
 use std::alloc::Global;
 use std::thread::Threads;
 
-/// How many nodes a stretch has.
-const STRETCH: usize = 4_096;
+/// How many nodes the stretches of one round have together at most, and how many one stretch has at least.
+const ROUND: usize = 32_768;
+
+const FEW: usize = 1_024;
 
 /// How many bytes a page has for each node. A line has some 160; it is longer where a wire has many corners.
 const LINE_ROOM: usize = 256;
@@ -42,7 +44,19 @@ pub fn write_report_by<R: Threads + Sync, K: ByteSink>(
     requires few { workers ≤ 64 }
     ensures { Writes K.held K.faults sink.old sink.new (report_text instance.now.version tree.now figures.now) result }
 {
-    write_in_stretches(rt, alloc, workers, STRETCH, sink, instance, tree, figures)
+    let stretch = stretch_for(tree.nodes().len(), workers);
+    write_in_stretches(rt, alloc, workers, stretch, sink, instance, tree, figures)
+}
+
+/// How many nodes each stretch has, so that each worker has one of the same length in each round, and the rounds, each of
+/// which waits for its last worker, are few.
+fn stretch_for(nodes: usize, workers: u32) -> usize
+    ensures some { 0 < result }
+    ensures short { result ≤ 2 ^ 32 }
+{
+    let rounds = nodes.div_ceil(ROUND).max(1);
+    let round = nodes.div_ceil(rounds);
+    round.div_ceil(workers.max(1) as usize).clamp(FEW, ROUND)
 }
 
 /// The same, with stretches of so many nodes.
