@@ -11,8 +11,8 @@ ghost use Rattle.cts_host.specs.Ends.{EndsAsRun, EndsWithoutWords};
 ghost use Rattle.cts_notes.specs.Status.{code_of};
 
 use cts_io::{ByteSink, ByteSource};
-use cts_top::{Outcome, end_without_memory, run};
-use cts_work::OpenGate;
+use cts_notes::Status;
+use cts_top::{end_without_memory, run_for_text};
 use std::alloc::AllocError;
 use std::env::FillError;
 use std::process::ExitCode;
@@ -51,21 +51,21 @@ fn words(rt: &(impl Env + AllocGlobal)) -> Result<Vec<String>, AllocError> {
 }
 
 /// The program's exit status.
-fn exit_code(outcome: Outcome) -> ExitCode
-    ensures { exit_status result ≡ code_of outcome.status }
+fn exit_code(status: Status) -> ExitCode
+    ensures { exit_status result ≡ code_of status }
 {
-    ExitCode::from(outcome.status.code())
+    ExitCode::from(status.code())
 }
 
 /// Runs the program on the words that the host calls it with, and on its input, its output and its
 /// notes, and gives its exit status.
 ///
-/// It ends as [`run`] does on some words, by the number of the run's status. No clause says which words
+/// It ends as [`run_for_text`] does on some words, by the number of the run's status. No clause says which words
 /// these are, since the host tells nothing of them; they are meant to be all of them, in their order,
 /// without the program's own name. Where no memory is found for them it ends with `NoMemory`, and input
 /// and output are as they were.
 ///
-/// [`run`] may wait for other threads, so no clause says that this call returns.
+/// [`run_for_text`] may wait for other threads, so no clause says that this call returns.
 pub fn answer<
     R: Env + AllocGlobal + Threads + Wait + Sync,
     S: ByteSource,
@@ -83,10 +83,9 @@ pub fn answer<
 {
     match words(rt) {
         Ok(words) => {
-            let gate = OpenGate;
-            let outcome = run(rt, rt.alloc(), &words, source, sink, notes, &gate);
-            exit_code(outcome)
+            let status = run_for_text(rt, rt.alloc(), &words, source, sink, notes);
+            exit_code(status)
         }
-        Err(AllocError) => exit_code(end_without_memory(rt.alloc(), notes)),
+        Err(AllocError) => exit_code(end_without_memory(rt.alloc(), notes).status),
     }
 }

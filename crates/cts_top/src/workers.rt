@@ -1,15 +1,12 @@
 //! The parts of a synthesis by many workers: the shape, the table of the memo, and what a plan comes to.
 
-ghost use Rattle.std.specs.Prelude.{◌≡◌, ◌≤◌, [], length, map, IfErr, IfOk, MatchOption};
+ghost use Rattle.std.specs.Prelude.{◌≡◌, ◌≤◌, [], length, IfErr, IfOk, MatchOption};
 ghost use Rattle.cts_topo.specs.Shape.{IsShapeOver};
 ghost use Rattle.cts_topo.specs.Sinks.{AreSinks};
 ghost use Rattle.cts_topo.specs.Topology.{shape_of};
 ghost use Rattle.cts_up.specs.Plan.{IsPlan};
-ghost use Rattle.cts_up.specs.Sites.{AreSites, site_of};
-ghost use Rattle.cts_embed.specs.Ends.{EmbedEnds};
-ghost use Rattle.cts_embed.specs.PlacedTree.{IsPlacedTree};
 ghost use Rattle.cts_embed.specs.Fitting.{Fits};
-ghost use Rattle.cts_embed_workers.specs.Stretches.{AreIds};
+ghost use Rattle.cts_elmore.specs.Loads.{leaf_pins};
 ghost use Rattle.cts_plain.specs.Ends.{EndsWithPlan};
 ghost use Rattle.cts_plain.specs.Synthesis.{IsPlacedBy};
 ghost use Rattle.cts_turn.specs.Passes.{seen_by, share_of};
@@ -23,10 +20,8 @@ ghost use Rattle.cts_work.specs.Plans.{nodes_of};
 
 use crate::valid::instance_is_valid;
 use cts_beside::beside;
-use cts_elmore::{Figures, NodeFigure};
-use cts_elmore_workers::figures_room;
-use cts_embed::{EmbedEnd, embed_sites};
-use cts_embed_workers::{embed_by, ids_for, room_for};
+use cts_elmore::{Figures, Pin};
+use cts_embed_workers::{Leaves, embed_by, leaves_for, room_for};
 use cts_instance::Instance;
 use cts_memo::{Memo, MemoPass, Secret, Table};
 use cts_num::NoMemory;
@@ -34,12 +29,11 @@ use cts_plain::NoTree;
 use cts_settle_workers::settle_by;
 use cts_topo::Shape;
 use cts_topo_workers::topology_by;
-use cts_tree::{Placed, Tree, TreeNode};
+use cts_tree::{Placed, Tree};
 use cts_units::Sink;
-use cts_up::Site;
 use cts_work::{Gate, Numbers, Plan, fill_table};
 use std::alloc::Global;
-use std::thread::{Threads, join};
+use std::thread::Threads;
 
 /// Room for the plan of a shape in a table that has no entries yet, so that it can be brought there without memory.
 pub(crate) fn make_room(
@@ -95,82 +89,8 @@ pub(crate) fn closed(memo: Memo, pass: MemoPass) -> Table
     }
 }
 
-/// What the nodes of a tree are placed by: room for them, the ids of their sinks, and the sites of the plan.
-#[derive(Drop)]
-struct Ground {
-    room: Vec<TreeNode>,
-    ids: Vec<u32>,
-    sites: Vec<Site>,
-}
-
-/// The ids of the sinks of a tree's leaves, which a thread of its own lists, and the sites of its plan.
-fn list_both<R: Threads>(
-    rt: &R,
-    alloc: Global,
-    instance: &Instance,
-    shape: &Shape,
-    plan: &Plan,
-) -> (Result<Vec<u32>, NoMemory>, Result<Vec<Site>, NoMemory>)
-    requires shape { IsShapeOver (length instance.now.sinks) shape.now }
-    ensures ids { IfOk result.0 (λ ids. AreIds instance.now.sinks shape.now ids.items) }
-    ensures sites { IfOk result.1 (λ sites. sites.items ≡ map site_of (nodes_of plan.now)) }
-{
-    let ids = move || -> Result<Vec<u32>, NoMemory>
-        requires { IsShapeOver (length instance.now.sinks) shape.now }
-        ensures { IfOk result (λ ids. AreIds instance.entry.now.sinks shape.entry.now ids.items) }
-    { ids_for(alloc, instance, shape) };
-    let list = move || -> Result<Vec<Site>, NoMemory>
-        ensures { IfOk result (λ sites. sites.items ≡ map site_of (nodes_of plan.entry.now)) }
-    { plan.sites(alloc) };
-    join(rt, ids, list)
-}
-
-/// Room for the nodes of a tree, the ids of their sinks and the sites of its plan, which three threads make.
-fn list_sites<R: Threads>(
-    rt: &R,
-    alloc: Global,
-    instance: &Instance,
-    shape: &Shape,
-    plan: &Plan,
-) -> Result<Ground, NoMemory>
-    requires shape { IsShapeOver (length instance.now.sinks) shape.now }
-    ensures room { IfOk result (λ made. length made.room.items ≡ length shape.now) }
-    ensures ids { IfOk result (λ made. AreIds instance.now.sinks shape.now made.ids.items) }
-    ensures sites { IfOk result (λ made. made.sites.items ≡ map site_of (nodes_of plan.now)) }
-{
-    let count = shape.nodes().len();
-    let room = move || -> Result<Vec<TreeNode>, NoMemory>
-        ensures { IfOk result (λ room. length room.items ≡ count) }
-    { room_for(alloc, count) };
-    let both = move || -> (Result<Vec<u32>, NoMemory>, Result<Vec<Site>, NoMemory>)
-        requires { IsShapeOver (length instance.now.sinks) shape.now }
-        ensures { IfOk result.0 (λ ids. AreIds instance.entry.now.sinks shape.entry.now ids.items)
-            × IfOk result.1 (λ sites. sites.items ≡ map site_of (nodes_of plan.entry.now)) }
-    { list_both(rt, alloc, instance, shape, plan) };
-    let (room, (ids, sites)) = beside(rt, room, both);
-    let (room, ids, sites) = (room?, ids?, sites?);
-    Ok(Ground { room, ids, sites })
-}
-
-/// The nodes of the shape of an instance in their places, by its plan, which one thread places.
-fn place_alone(
-    alloc: Global,
-    instance: &Instance,
-    shape: &Shape,
-    plan: &Plan,
-) -> Result<Placed, NoTree>
-    requires shape { IsShapeOver (length instance.now.sinks) shape.now }
-    requires plan { IsPlan instance.now.params instance.now.sinks shape.now (nodes_of plan.now) }
-    ensures fits { IfOk result (Fits instance.now) }
-    ensures placed { IfOk result (IsPlacedBy instance.now shape.now) }
-    ensures ends { IfErr result (EndsWithPlan instance.now shape.now) }
-{
-    let sites = plan.sites(alloc)?;
-    Ok(embed_sites(alloc, instance, shape, sites.as_slice())?)
-}
-
-/// The same by so many workers, of whom one brings the plan into the table of the memo meanwhile: of two, the other one is
-/// the caller. Where they are more, the caller makes room for the figures of the nodes, and the others place.
+/// The nodes of the shape of an instance in their places, by its plan, which so many workers place, and the pins of its
+/// leaves.
 fn place_plan<R: Threads + Sync>(
     rt: &R,
     alloc: Global,
@@ -178,32 +98,20 @@ fn place_plan<R: Threads + Sync>(
     shape: &Shape,
     plan: &Plan,
     workers: u32,
-) -> Result<(Placed, Vec<NodeFigure>), NoTree>
+) -> Result<(Placed, Vec<Pin>), NoTree>
     requires shape { IsShapeOver (length instance.now.sinks) shape.now }
     requires plan { IsPlan instance.now.params instance.now.sinks shape.now (nodes_of plan.now) }
     ensures fits { IfOk result (λ made. Fits instance.now made.0) }
     ensures placed { IfOk result (λ made. IsPlacedBy instance.now shape.now made.0) }
+    ensures pins { IfOk result (λ made. made.1.items ≡ leaf_pins instance.now made.0) }
     ensures ends { IfErr result (EndsWithPlan instance.now shape.now) }
 {
-    if workers < 3 {
-        let placed = place_alone(alloc, instance, shape, plan)?;
-        return Ok((placed, Vec::new(alloc)));
-    }
-    let Ground { room, ids, sites } = list_sites(rt, alloc, instance, shape, plan)?;
+    let sites = plan.sites(alloc)?;
+    let Leaves { ids, pins } = leaves_for(alloc, instance, shape)?;
+    let room = room_for(Vec::new(alloc), shape.nodes().len())?;
     let (sites, ids) = (sites.as_slice(), ids.as_slice());
-    let count = shape.nodes().len();
-    let placers = workers - 2;
-    let make_room = move || figures_room(alloc, count);
-    let place = move || -> Result<Placed, EmbedEnd>
-        requires { IsShapeOver (length instance.now.sinks) shape.now
-            × AreSites instance.now.params instance.now.sinks shape.now sites.now
-            × AreIds instance.now.sinks shape.now ids.now × (length room.items ≡ length shape.now) }
-        ensures fits { IfOk result (Fits instance.entry.now) }
-        ensures placed { IfOk result (IsPlacedTree instance.entry.now shape.entry.now) }
-        ensures ends { IfErr result (EmbedEnds instance.entry.now shape.entry.now) }
-    { embed_by(rt, alloc, placers, instance, shape, sites, ids, room) };
-    let (placed, figures) = beside(rt, place, make_room);
-    Ok((placed?, figures?))
+    let placed = embed_by(rt, alloc, workers, instance, shape, sites, ids, room)?;
+    Ok((placed, pins))
 }
 
 /// What the plan of an instance comes to, whose nodes so many workers place and balance.
@@ -221,10 +129,13 @@ pub(crate) fn finish_plan<R: Threads + Sync>(
     ensures { IsSynthesised instance.now result }
 {
     instance_is_valid(instance);
-    // Of two workers one fills the table meanwhile.
-    let hands = if workers < 3 { 1 } else { workers };
-    match place_plan(rt, alloc, instance, shape, plan, workers) {
-        Ok((placed, room)) => settle_by(rt, alloc, hands, instance, placed, room),
+    // One worker fills the table meanwhile.
+    let hands = workers.max(2) - 1;
+    match place_plan(rt, alloc, instance, shape, plan, hands) {
+        Ok((placed, pins)) => {
+            let room = Vec::new(alloc);
+            settle_by(rt, alloc, hands, instance, placed, room, pins.as_slice())
+        }
         Err(end) => Err(end),
     }
 }

@@ -6,9 +6,9 @@ pub returns-in-Ok : goal.returns-in-Ok
 returns-in-Ok g c =
     inl (record {
       words = c.deref.result.now;
-      log = _;
+      log = c.run_for_text-status.ensures.0;
       status = _;
-      runs = c.run-outcome.ensures.runs;
+      runs = c.run_for_text-status.ensures.1;
       code_is = c.exit_code.ensures;
     })
 
