@@ -3,8 +3,8 @@
 use cts_draw::draw;
 use cts_io::{MemSink, MemSource};
 use cts_num::NoMemory;
-use cts_top::{Status, run};
-use cts_work::{Gate, OpenGate};
+use cts_top::{Status, run, run_for_text};
+use cts_work::Gate;
 use std::alloc::Global;
 use std::io::{self, ErrorKind};
 use std::sync::Wait;
@@ -92,24 +92,61 @@ impl Ran {
     }
 }
 
+/// The streams of one run.
+#[derive(Drop)]
+struct Open {
+    input: MemSource,
+    output: MemSink,
+    notes: MemSink,
+}
+
+impl Open {
+    fn over(alloc: Global, text: &[u8], streams: Streams) -> io::Result<Open> {
+        Ok(Open {
+            input: streams.input.source(alloc, text)?,
+            output: streams.output.sink(alloc, streams.room)?,
+            notes: streams.notes.sink(alloc, streams.room)?,
+        })
+    }
+
+    fn ended(self, status: Status) -> Ran {
+        Ran {
+            status,
+            reads: self.input.calls(),
+            output: self.output,
+            notes: self.notes,
+        }
+    }
+}
+
 /// Runs the program on some words, or, where the first of them is `cts-draw`, the program of that name on the others.
-fn end<R: AllocGlobal + Threads + Wait + Sync, G: Gate>(
-    rt: &R,
-    gate: &G,
-    words: &[String],
-    input: &mut MemSource,
-    output: &mut MemSink,
-    notes: &mut MemSink,
-) -> Status {
+fn end<R: AllocGlobal + Threads + Wait + Sync>(rt: &R, words: &[String], to: &mut Open) -> Status {
+    let (input, output, notes) = (&mut to.input, &mut to.output, &mut to.notes);
     match words {
         [program, words @ ..] if program.as_str() == "cts-draw" => {
             draw(rt.alloc(), !words.is_empty(), input, output, notes)
         }
-        _ => run(rt, rt.alloc(), words, input, output, notes, gate).status,
+        _ => run_for_text(rt, rt.alloc(), words, input, output, notes),
     }
 }
 
-/// Runs some words on a text.
+/// The same, with callers of `edit` at a gate.
+fn end_under<R: AllocGlobal + Threads + Wait + Sync, G: Gate>(
+    rt: &R,
+    gate: &G,
+    words: &[String],
+    to: &mut Open,
+) -> Status {
+    match words {
+        [form, ..] if form.as_str() == "edit" => {
+            let (input, output, notes) = (&mut to.input, &mut to.output, &mut to.notes);
+            run(rt, rt.alloc(), words, input, output, notes, gate).status
+        }
+        _ => end(rt, words, to),
+    }
+}
+
+/// Runs some words on a text, callers at a gate.
 pub(crate) fn over<R: AllocGlobal + Threads + Wait + Sync, G: Gate>(
     rt: &R,
     gate: &G,
@@ -117,19 +154,12 @@ pub(crate) fn over<R: AllocGlobal + Threads + Wait + Sync, G: Gate>(
     text: &[u8],
     streams: Streams,
 ) -> io::Result<Ran> {
-    let mut input = streams.input.source(rt.alloc(), text)?;
-    let mut output = streams.output.sink(rt.alloc(), streams.room)?;
-    let mut notes = streams.notes.sink(rt.alloc(), streams.room)?;
-    let status = end(rt, gate, words, &mut input, &mut output, &mut notes);
-    Ok(Ran {
-        status,
-        reads: input.calls(),
-        output,
-        notes,
-    })
+    let mut open = Open::over(rt.alloc(), text, streams)?;
+    let status = end_under(rt, gate, words, &mut open);
+    Ok(open.ended(status))
 }
 
-/// Runs the words of a text under a gate that is open.
+/// Runs the words of a text, as the program does.
 pub(crate) fn run_open<R: AllocGlobal + Threads + Wait + Sync>(
     rt: &R,
     words: &str,
@@ -137,7 +167,9 @@ pub(crate) fn run_open<R: AllocGlobal + Threads + Wait + Sync>(
     streams: Streams,
 ) -> io::Result<Ran> {
     let words = words_of(rt.alloc(), words)?;
-    over(rt, &OpenGate, &words, text, streams)
+    let mut open = Open::over(rt.alloc(), text, streams)?;
+    let status = end(rt, &words, &mut open);
+    Ok(open.ended(status))
 }
 
 /// The words of a text.

@@ -1,7 +1,7 @@
 //! Runs over texts in memory.
 
 use cts_io::{MemSink, MemSource};
-use cts_top::{Outcome, Status, run, run_alone};
+use cts_top::{Outcome, Status, run, run_alone, run_for_text};
 use cts_work::Gate;
 use std::alloc::Global;
 use std::process::Abort;
@@ -82,6 +82,40 @@ pub(crate) fn ran_alone<R: AllocGlobal + Threads + Sync>(
     let (mut output, mut notes) = (sink(rt.alloc())?, sink(rt.alloc())?);
     Ok(Completed {
         outcome: outcome_alone(rt, &words, &mut input, &mut output, &mut notes),
+        output,
+        notes,
+    })
+}
+
+/// What a run for text alone wrote, and how it ended.
+#[derive(Drop)]
+pub(crate) struct Told {
+    pub(crate) status: Status,
+    pub(crate) output: MemSink,
+    pub(crate) notes: MemSink,
+}
+
+fn status_for_text<R: AllocGlobal + Threads + Wait + Sync>(
+    rt: &R,
+    words: &[String],
+    input: &mut MemSource,
+    output: &mut MemSink,
+    notes: &mut MemSink,
+) -> Status {
+    run_for_text(rt, rt.alloc(), words, input, output, notes)
+}
+
+/// A run for text alone, by the words of a line over an input.
+pub(crate) fn told<R: AllocGlobal + Threads + Wait + Sync>(
+    rt: &R,
+    line: &str,
+    input: &[u8],
+) -> Result<Told, Fail> {
+    let words = words(rt.alloc(), line)?;
+    let mut input = source(rt.alloc(), input)?;
+    let (mut output, mut notes) = (sink(rt.alloc())?, sink(rt.alloc())?);
+    Ok(Told {
+        status: status_for_text(rt, &words, &mut input, &mut output, &mut notes),
         output,
         notes,
     })

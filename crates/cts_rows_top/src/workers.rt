@@ -1,7 +1,7 @@
 //! Runs by more than one worker: a gate holds the first two pieces until both have been begun; and a report is long enough
 //! for several workers.
 
-use crate::runs::{ends, ran, text_of};
+use crate::runs::{ends, ran, text_of, told};
 use cts_top::Status;
 use cts_work::{Gate, OpenGate};
 use std::process::Abort;
@@ -78,14 +78,74 @@ fn compare_report<R: AllocGlobal + Abort + Threads + Wait + Sync>(
     let beside = ran(rt, &OpenGate, line, instance)?;
     let notes = beside.notes.bytes().len();
     writes(rt, beside.output.bytes(), notes, alone);
+    compare_text(rt, line, instance, alone)
+}
+
+/// The same for a run for text alone, whose workers share no memo.
+fn compare_text<R: AllocGlobal + Abort + Threads + Wait + Sync>(
+    rt: &R,
+    line: &str,
+    instance: &[u8],
+    alone: &[u8],
+) -> Result<(), Fail> {
+    let beside = told(rt, line, instance)?;
+    assert_eq!(rt; beside.status, Status::Done);
+    let notes = beside.notes.bytes().len();
+    writes(rt, beside.output.bytes(), notes, alone);
     Ok(())
 }
 
-/// 8,399 nodes are two stretches and the front of a third.
+/// The lines of 8,399 nodes are made by as many workers as there are.
 #[test]
 fn stretches_of_a_report_are_written_in_order(rt: HostRuntime) -> Result<(), Fail> {
     let made = text_of(&rt, "make 21 4200", b"")?;
     let alone = text_of(&rt, "synth 1", made.bytes())?;
     compare_report(&rt, "synth 2", made.bytes(), alone.bytes())?;
-    compare_report(&rt, "synth 4", made.bytes(), alone.bytes())
+    compare_report(&rt, "synth 4", made.bytes(), alone.bytes())?;
+    compare_report(&rt, "synth 7", made.bytes(), alone.bytes())
+}
+
+/// The parts of 9,999 nodes are made, placed, balanced and measured beside each other.
+#[test]
+fn summaries_of_workers_are_those_of_one(rt: HostRuntime) -> Result<(), Fail> {
+    let alone = text_of(&rt, "job 14 5000 1", b"")?;
+    compare_report(&rt, "job 14 5000 2", b"", alone.bytes())?;
+    compare_report(&rt, "job 14 5000 3", b"", alone.bytes())?;
+    compare_report(&rt, "job 14 5000 64", b"", alone.bytes())
+}
+
+/// Compares how a run for text alone ends, and its notes, with a run.
+fn compare_end<R: AllocGlobal + Abort + Threads + Wait + Sync>(
+    rt: &R,
+    line: &str,
+    input: &[u8],
+) -> Result<(), Fail> {
+    let run = ran(rt, &OpenGate, line, input)?;
+    let text = told(rt, line, input)?;
+    assert_eq!(rt; text.status, run.outcome.status);
+    assert_eq!(rt; text.output.bytes(), run.output.bytes());
+    assert_eq!(rt; text.notes.bytes(), run.notes.bytes());
+    Ok(())
+}
+
+#[test]
+fn text_alone_ends_as_a_run_does(rt: HostRuntime) -> Result<(), Fail> {
+    let made = text_of(&rt, "make 14 64", b"")?;
+    for line in [
+        "synth 1",
+        "synth 2",
+        "near",
+        "replay",
+        "check",
+        "edit",
+        "trunk 1000 0",
+        "job 3 9 2",
+        "make 3 9",
+        "synth 65",
+        "synth",
+        "",
+    ] {
+        compare_end(&rt, line, made.bytes())?;
+    }
+    compare_end(&rt, "synth 2", b"cts 1\n")
 }
