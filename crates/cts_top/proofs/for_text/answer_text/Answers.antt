@@ -6,8 +6,8 @@ use Rattle.cts_top.proofs.Forms.{asked_within}
 use Rattle.cts_top.proofs.Running.{answers_form, answers_none}
 use Rattle.cts_top.proofs.for_text.answer_text.Goals as goal
 
-pub serve_text-requires : goal.serve_text-requires
-serve_text-requires g c = λ κs ls. asked_within _ c.in-Some.form ((c.form_of.ensures c.in-Some.form).0 c.in-Some.is)
+pub serve_text-requires-clause-within : goal.serve_text-requires-clause-within
+serve_text-requires-clause-within g c = λ κs ls. asked_within _ c.in-Some.form ((c.form_of.ensures c.in-Some.form).0 c.in-Some.is)
 
 pub returns-in-Some : goal.returns-in-Some
 returns-in-Some g c = (
