@@ -106,7 +106,7 @@ fn status_for_text<R: AllocGlobal + Threads + Wait + Sync>(
 }
 
 /// A run for text alone, by the words of a line over an input.
-pub(crate) fn told<R: AllocGlobal + Threads + Wait + Sync>(
+pub(crate) fn ran_for_text<R: AllocGlobal + Threads + Wait + Sync>(
     rt: &R,
     line: &str,
     input: &[u8],

@@ -1,7 +1,7 @@
 //! Runs by more than one worker: a gate holds the first two pieces until both have been begun; and a report is long enough
 //! for several workers.
 
-use crate::runs::{ends, ran, text_of, told};
+use crate::runs::{ends, ran, ran_for_text, text_of};
 use cts_top::Status;
 use cts_work::{Gate, OpenGate};
 use std::process::Abort;
@@ -88,7 +88,7 @@ fn compare_text<R: AllocGlobal + Abort + Threads + Wait + Sync>(
     instance: &[u8],
     alone: &[u8],
 ) -> Result<(), Fail> {
-    let beside = told(rt, line, instance)?;
+    let beside = ran_for_text(rt, line, instance)?;
     assert_eq!(rt; beside.status, Status::Done);
     let notes = beside.notes.bytes().len();
     writes(rt, beside.output.bytes(), notes, alone);
@@ -121,7 +121,7 @@ fn compare_end<R: AllocGlobal + Abort + Threads + Wait + Sync>(
     input: &[u8],
 ) -> Result<(), Fail> {
     let run = ran(rt, &OpenGate, line, input)?;
-    let text = told(rt, line, input)?;
+    let text = ran_for_text(rt, line, input)?;
     assert_eq!(rt; text.status, run.outcome.status);
     assert_eq!(rt; text.output.bytes(), run.output.bytes());
     assert_eq!(rt; text.notes.bytes(), run.notes.bytes());
