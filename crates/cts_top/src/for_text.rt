@@ -145,7 +145,7 @@ fn answer_text<R: Threads + Wait + Sync, S: ByteSource, K: ByteSink>(
 /// same notes, and each status exactly where it says so. It is for a program, which ends with the status.
 ///
 /// Nobody asks what is left of such a run, so the workers of `synth W` and `job SEED N W` share no memo, and none is filled: the
-/// text comes in less time and memory. No gate is called. The callers of `edit` share theirs as in `run`.
+/// text comes in less time and memory. The callers of `edit` share theirs as in `run`, with a gate that holds nobody up.
 pub fn run_for_text<R: Threads + Wait + Sync, S: ByteSource, K: ByteSink, N: ByteSink>(
     rt: &R,
     alloc: Global,

@@ -1,12 +1,13 @@
 //! The program's one call: from words, an input and an output to a status.
 //!
 //! The layer above may use [`run`], which may wait for its workers or callers, [`run_for_text`], which does the same for a
-//! program that wants nothing but the text and the status, [`run_alone`], which returns and serves the forms of one
-//! thread, [`end_without_memory`] where it can't even collect the words, and the statuses. What stands beside them is private: the words (`words`), what each form does
-//! (`serve`, and for text alone `for_text`), the instance of an input (`input`), its synthesis by workers (`by_workers`, `workers`) and by one thread,
-//! and the text for it (`answer`), its trunk with repeaters (`trunk`, `trunk_words`), the edits of callers
-//! (`edit`), the tree over the nearest-pair topology (`near`), the verdict on a report (`verdict`), the room that
-//! their lists share (`room`), that an instance is valid (`valid`), and the notes (`stop`, `notes`).
+//! program that wants nothing but the text and the status, [`run_alone`], which returns and serves the forms of one thread,
+//! [`end_without_memory`] where it can't even collect the words, and the statuses. What stands beside them is private: the
+//! words (`words`), what each form does (`serve`, and for text alone `for_text`), the instance of an input (`input`), its
+//! synthesis by workers (`by_workers`, `workers`) and by one thread, and the text for it (`answer`), its trunk with repeaters
+//! (`trunk`, `trunk_words`), the edits of callers (`edit`), the tree over the nearest-pair topology (`near`), the verdict on a
+//! report (`verdict`), the room that their lists share (`room`), that an instance is valid (`valid`), and the notes (`stop`,
+//! `notes`).
 #![tactic(auto)]
 
 mod answer;
