@@ -8,7 +8,7 @@ use Rattle.cts_units.specs.declared.params.Sink.{Sink}
 use Rattle.cts_units.specs.Limits.{max_length}
 use Rattle.cts_units.specs.Choice.{seen_load_of}
 use Rattle.cts_postorder.specs.BinaryTree.{BinaryTree, tip, fork, label, size}
-use Rattle.cts_postorder.specs.PostOrder.{IsPostOrder, trees_of}
+use Rattle.cts_postorder.specs.PostOrder.{IsPostOrder, NamesFrom, trees_of}
 use Rattle.cts_postorder.specs.Pass.{IsLeastFailure}
 use Rattle.cts_postorder.proofs.Growth.{length-trees_of, label-tree}
 use Rattle.cts_postorder.proofs.Failures.{size-tree}
@@ -16,7 +16,7 @@ use Rattle.cts_postorder.proofs.Lists.{IsPair, is_pair}
 use Rattle.cts_postorder.proofs.Upward.{up_more, leaf_here, least_failure}
 use Rattle.cts_tree.specs.declared.nodes.NodeKind.TheVariants.{Leaf, Pair}
 use Rattle.cts_tree.specs.declared.nodes.TreeNode.{TreeNode}
-use Rattle.cts_tree.specs.Nodes.{children_of_from, children_from, buffer_of}
+use Rattle.cts_tree.specs.Nodes.{children_of_from, tree_children, children_from, buffer_of}
 use Rattle.cts_instance.specs.declared.parts.Parts.{Parts}
 use Rattle.cts_instance.specs.Validity.{IsValid}
 use Rattle.cts_elmore.specs.declared.subtree.Subtree.{Subtree}
@@ -27,7 +27,7 @@ use Rattle.cts_elmore.specs.Limits.{IsOverAtPair, long_left, long_right, IsPairO
 use Rattle.cts_elmore.specs.declared.figures.NodeFigure.{NodeFigure}
 use Rattle.cts_elmore.specs.declared.pin_list.Pin.{Pin}
 use Rattle.cts_postorder.specs.Waiting.{StandsAt, AreWaiting}
-use Rattle.cts_elmore.specs.Subtrees.{HasChildrenFrom, IsLeafOf, IsSubtree, IsSubtreeInRange, IsKnownBelow, IsBranch, PairOrOver}
+use Rattle.cts_elmore.specs.Subtrees.{IsLeafOf, IsSubtree, IsSubtreeInRange, IsKnownBelow, IsBranch, PairOrOver}
 use Rattle.cts_elmore.proofs.LeafPins.{sink_pin, taken_leaf}
 use Rattle.cts_elmore.proofs.Rising.{subtree_in_range, leaf_is, pair_is, pair_over}
 use Rattle.cts_postorder.proofs.Waiting.{AtPair, waiting_at_leaf, waiting_at_pair, two_wait}
@@ -58,7 +58,7 @@ named_within sinks k Q (Some s) found h = slice_get_within sinks k s found
 
 -- An instance, the nodes of a tree that fits it, and the subtrees that wait at number k.
 module _ (i : Parts) (valid : IsValid i) (first : ℕ) (nodes : List TreeNode) (ok : IsPostOrder (map (children_from first) nodes))
-    (numbered : All (HasChildrenFrom first) nodes) (fits : FitsInstance i nodes) (k : ℕ) (h : k < length nodes) (waiting : List Subtree)
+    (numbered : All (NamesFrom tree_children first) nodes) (fits : FitsInstance i nodes) (k : ℕ) (h : k < length nodes) (waiting : List Subtree)
     (before : AreWaiting (children_from first) nodes (IsSubtree i) k waiting) where
   abbrev trees : List (BinaryTree TreeNode)
   trees = trees_of (children_from first) nodes

@@ -138,10 +138,6 @@ IsGathered i nodes (Within root figures) =
     × AllZip (IsKnownBelow i) (trees_of tree_children nodes) figures.items
 IsGathered i nodes (Over node) = IsLeastFailure tree_children nodes (IsPairOver i) node
 
--- the children of a pair are numbered from `first` on
-abbrev pub HasChildrenFrom : ℕ → TreeNode → Type 0
-HasChildrenFrom first node = IfSome (tree_children node) (λ children. (first ≤ children.0) × (first ≤ children.1))
-
 -- what one over a stretch that begins at `first` answers, and the figures that it writes: the root's values and what is known of
 -- every node of the stretch, or the least number of a pair that is over the limits
 abbrev pub IsRisen : Parts → ℕ → List TreeNode → List NodeFigure → Risen → Type 0

@@ -3,12 +3,12 @@
 ghost use Rattle.std.specs.Prelude.{◌≡◌, ◌+◌, ◌<◌, ◌≤◌, ◌++◌, ◌∷◌, [], map, drop, length, slice_get, All, IfSome, IfNone, IfOk, MatchOption};
 ghost use Rattle.std.specs.Slice.Iter.{iter_rest};
 ghost use Rattle.cts_units.specs.Limits.{IsParams, IsWire, max_length};
-ghost use Rattle.cts_postorder.specs.PostOrder.{IsPostOrder, trees_of};
+ghost use Rattle.cts_postorder.specs.PostOrder.{IsPostOrder, NamesFrom, trees_of};
 ghost use Rattle.cts_tree.specs.Nodes.{children_from, tree_children};
 ghost use Rattle.cts_elmore.specs.Fits.{FitsInstance};
 ghost use Rattle.cts_elmore.specs.Loads.{leaf_pins};
 ghost use Rattle.cts_elmore.specs.Limits.{IsPairOver};
-ghost use Rattle.cts_elmore.specs.Subtrees.{HasChildrenFrom, IsBranch, IsBranchInRange, IsLeafOf, IsSubtree, IsSubtreeInRange, IsGathered, IsJoinOf, IsSomeSubtree, IsRisen, PairOrOver};
+ghost use Rattle.cts_elmore.specs.Subtrees.{IsBranch, IsBranchInRange, IsLeafOf, IsSubtree, IsSubtreeInRange, IsGathered, IsJoinOf, IsSomeSubtree, IsRisen, PairOrOver};
 ghost use Rattle.cts_postorder.specs.Waiting.{AreWaiting, StandsAt};
 
 use crate::figures::NodeFigure;
@@ -168,7 +168,7 @@ fn subtree_at(
     waiting: &mut Vec<Subtree>,
 ) -> Option<Subtree>
     requires post_order { IsPostOrder (map (children_from first) nodes.now) }
-    requires numbered { All (HasChildrenFrom first) nodes.now }
+    requires numbered { All (NamesFrom tree_children first) nodes.now }
     requires fits { FitsInstance instance.now nodes.now }
     requires pins { iter_rest pins.old ≡ leaf_pins instance.now (drop number nodes.now) }
     requires number { number < length nodes.now }
@@ -285,7 +285,7 @@ pub fn gather_part(
     figures: &mut [NodeFigure],
 ) -> Result<Risen, NoMemory>
     requires post_order { IsPostOrder (map (children_from first) nodes.now) }
-    requires numbered { All (HasChildrenFrom first) nodes.now }
+    requires numbered { All (NamesFrom tree_children first) nodes.now }
     requires few { first ≤ 131071 }
     requires fits { FitsInstance instance.now nodes.now }
     requires pins { pins.now ≡ leaf_pins instance.now nodes.now }

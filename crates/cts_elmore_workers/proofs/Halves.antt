@@ -7,7 +7,7 @@ use Rattle.std.proofs.lemmas.List.{drop_at, get_or_append_left}
 use Rattle.std.proofs.lemmas.List.Elements.{All-tail, All-weaker, filter_map-append}
 use Rattle.cts_units.specs.declared.params.Sink.{Sink}
 use Rattle.cts_postorder.specs.BinaryTree.{BinaryTree, tip, fork, labels, size, subtrees, IsNumbered}
-use Rattle.cts_postorder.specs.PostOrder.{IsPostOrder, root_of, trees_of}
+use Rattle.cts_postorder.specs.PostOrder.{IsPostOrder, NamesFrom, root_of, trees_of}
 use Rattle.cts_postorder.proofs.Lists.{Whole, whole_of}
 use Rattle.cts_postorder.proofs.Sizes.{size_pos, length-labels}
 use Rattle.cts_postorder.proofs.Stretches.{IsSpelled, counted_from, spelled, stretch_spelled, names_from, IsJoined, joined_at}
@@ -20,7 +20,6 @@ use Rattle.cts_instance.specs.declared.parts.Parts.{Parts}
 use Rattle.cts_elmore.specs.declared.pin_list.Pin.{Pin}
 use Rattle.cts_elmore.specs.Fits.{FitsInstance, NamesSink, NamesBuffer}
 use Rattle.cts_elmore.specs.Loads.{pin_of, leaf_pin, leaf_pins}
-use Rattle.cts_elmore.specs.Subtrees.{HasChildrenFrom}
 use Rattle.cts_elmore_workers.specs.Halves.{LeftHas, IsMiddle, IsMiddleFrom, AreNodesOfParts}
 
 -- The tree of some nodes, of which the first has the number `first`, is a pair of two parts, each spelled by its own nodes, and
@@ -36,7 +35,7 @@ pub record CutAt (kids : TreeNode → Option (ℕ × ℕ)) (first second : ℕ) 
   pub long : length nodes ≡ size left + size right + 1
   pub named : (c : ℕ × ℕ) × (children_of_from first node.kind ≡ Some c)
   pub left_numbered : IsNumbered (children_from first) 0 left
-  pub right_names : All (HasChildrenFrom second) (labels right)
+  pub right_names : All (NamesFrom tree_children second) (labels right)
   pub left_spelled : IsSpelled (children_from first) (labels left) left
   pub right_spelled : IsSpelled (children_from second) (labels right) right
 
@@ -89,7 +88,7 @@ module _ (first second : ℕ) (nodes : List TreeNode) (middle : ℕ) (second_is 
         long = sym w.size_is ∙ ap size is;
         named = (_, numbered.2);
         left_numbered = numbered.0;
-        right_names = All-weaker (λ m. IfSome (kids m) (λ (c : ℕ × ℕ). (middle ≤ c.0) × (middle ≤ c.1))) (HasChildrenFrom second)
+        right_names = All-weaker (NamesFrom kids middle) (NamesFrom tree_children second)
             (λ m. names_further first middle second some second_is m.kind) (labels r)
             (names_from kids r middle middle (omega arith) from_middle);
         left_spelled = spelled kids l (numbered.0);
@@ -103,14 +102,6 @@ pub cut_from : (first second : ℕ) (nodes : List TreeNode) → IsPostOrder (map
 cut_from first second nodes ok middle second_is is =
     let w : Whole (children_from first) nodes = whole_of (children_from first) nodes ok in
     cut_tree first second nodes middle second_is w w.tree refl (subst (λ o. IfSome o (LeftHas middle)) w.root_is is)
-
--- no node names a child before the number 0
-names_any : (kind : NodeKind) → IfSome (children_of kind) (λ (c : ℕ × ℕ). (0 ≤ c.0) × (0 ≤ c.1))
-names_any (Leaf id sink) = tt
-names_any (Pair a b buffer) = (omega arith, omega arith)
-
-pub all_from_start : (nodes : List TreeNode) → All (HasChildrenFrom 0) nodes
-all_from_start nodes k d h = names_any (get_or nodes k d).kind
 
 pub cut_at : (nodes : List TreeNode) → IsPostOrder (map tree_children nodes) → (middle : ℕ) → IsMiddle nodes middle → Cut nodes middle
 cut_at nodes ok middle is =

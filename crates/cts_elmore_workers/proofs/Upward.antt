@@ -6,7 +6,7 @@ use Rattle.std.proofs.lemmas.List.{get_or_append_left, get_or-append_right}
 use Rattle.std.proofs.lemmas.List.Elements.{All-weaker}
 use Rattle.cts_units.specs.Choice.{seen_load_of}
 use Rattle.cts_postorder.specs.BinaryTree.{BinaryTree, tip, fork, label, labels, size, subtrees}
-use Rattle.cts_postorder.specs.PostOrder.{IsPostOrder, root_of, trees_of}
+use Rattle.cts_postorder.specs.PostOrder.{IsPostOrder, NamesFrom, root_of, trees_of}
 use Rattle.cts_postorder.proofs.Lists.{Whole, whole_of}
 use Rattle.cts_postorder.proofs.Places.{get_or-root}
 use Rattle.cts_postorder.proofs.Sizes.{size_pos, length-labels}
@@ -24,7 +24,7 @@ use Rattle.cts_elmore.specs.declared.subtree.Subtree.{Subtree}
 use Rattle.cts_elmore.specs.Fits.{FitsInstance, NamesBuffer}
 use Rattle.cts_elmore.specs.Limits.{IsPairOver, IsOver, IsWithinLimits}
 use Rattle.cts_elmore.specs.Loads.{leaf_pins}
-use Rattle.cts_elmore.specs.Subtrees.{DriveOrOver, HasChildrenFrom, IsJoinOf, IsKnownBelow, IsSubtree, IsSomeSubtree}
+use Rattle.cts_elmore.specs.Subtrees.{DriveOrOver, IsJoinOf, IsKnownBelow, IsSubtree, IsSomeSubtree}
 use Rattle.cts_elmore.proofs.Limited.{root_within}
 use Rattle.cts_elmore_workers.specs.Halves.{AreKnownFrom, AreNodesOfParts, ArePairsWithin, IsSubtreeFrom}
 use Rattle.cts_elmore_workers.proofs.Halves.{CutAt, told, tell, sizes, all_front, all_back, set_one, left_fits, right_fits, left_pins, right_pins}
@@ -166,8 +166,8 @@ module _ {kids : TreeNode → Option (ℕ × ℕ)} {first second : ℕ} (i : Par
     pub back_order : IsPostOrder (map (children_from second) back)
     back_order = back_spelled.post_order
 
-    pub back_names : All (HasChildrenFrom second) back
-    back_names = subst (All (HasChildrenFrom second)) (sym (names_are.1)) c.right_names
+    pub back_names : All (NamesFrom tree_children second) back
+    back_names = subst (All (NamesFrom tree_children second)) (sym (names_are.1)) c.right_names
 
     module _ (fits : FitsInstance i nodes) where
       pub front_fits : FitsInstance i front

@@ -3,13 +3,13 @@
 
 ghost use Rattle.std.specs.Prelude.{◌≡◌, ◌+◌, ◌≤◌, length, map, All, Some, IfOk, IfSome};
 ghost use Rattle.std.specs.List.{AllZip};
-ghost use Rattle.cts_postorder.specs.PostOrder.{IsPostOrder, root_of, trees_of};
+ghost use Rattle.cts_postorder.specs.PostOrder.{IsPostOrder, NamesFrom, root_of, trees_of};
 ghost use Rattle.cts_tree.specs.Nodes.{children_from, tree_children};
 ghost use Rattle.cts_elmore.specs.declared.subtree.Risen.TheVariants.{Over, Within};
 ghost use Rattle.cts_elmore.specs.Fits.{FitsInstance};
 ghost use Rattle.cts_elmore.specs.Limits.{IsWithinLimits};
 ghost use Rattle.cts_elmore.specs.Loads.{leaf_pins};
-ghost use Rattle.cts_elmore.specs.Subtrees.{DriveOrOver, HasChildrenFrom, IsKnownBelow, IsSubtree};
+ghost use Rattle.cts_elmore.specs.Subtrees.{DriveOrOver, IsKnownBelow, IsSubtree};
 ghost use Rattle.cts_elmore_workers.specs.Halves.{AreKnownFrom, ArePairsWithin, IsMiddleFrom, IsSubtreeFrom};
 ghost use denote.Param.Send.{IsSync};
 
@@ -69,7 +69,7 @@ fn rise_part<R: Threads + Sync>(
 ) -> Result<Subtree, NoMemory>
     requires shared { IsSync R.row }
     requires post_order { IsPostOrder (map (children_from first) nodes.now) }
-    requires numbered { All (HasChildrenFrom first) nodes.now }
+    requires numbered { All (NamesFrom tree_children first) nodes.now }
     requires few { first + length nodes.now ≤ 131071 }
     requires fits { FitsInstance instance.now nodes.now }
     requires within { ArePairsWithin instance.now first nodes.now }
@@ -100,7 +100,7 @@ fn rise_alone(
     figures: &mut [NodeFigure],
 ) -> Result<Subtree, NoMemory>
     requires post_order { IsPostOrder (map (children_from first) nodes.now) }
-    requires numbered { All (HasChildrenFrom first) nodes.now }
+    requires numbered { All (NamesFrom tree_children first) nodes.now }
     requires few { first + length nodes.now ≤ 131071 }
     requires fits { FitsInstance instance.now nodes.now }
     requires within { ArePairsWithin instance.now first nodes.now }
@@ -131,7 +131,7 @@ fn rise_parts<R: Threads + Sync>(
 ) -> Result<Subtree, NoMemory>
     requires shared { IsSync R.row }
     requires post_order { IsPostOrder (map (children_from first) nodes.now) }
-    requires numbered { All (HasChildrenFrom first) nodes.now }
+    requires numbered { All (NamesFrom tree_children first) nodes.now }
     requires few { first + length nodes.now ≤ 131071 }
     requires fits { FitsInstance instance.now nodes.now }
     requires within { ArePairsWithin instance.now first nodes.now }
@@ -191,14 +191,14 @@ fn rise_beside<R: Threads + Sync>(
 ) -> Result<(Subtree, Subtree), NoMemory>
     requires shared { IsSync R.row }
     requires front_order { IsPostOrder (map (children_from first) front.now) }
-    requires front_numbered { All (HasChildrenFrom first) front.now }
+    requires front_numbered { All (NamesFrom tree_children first) front.now }
     requires front_few { first + length front.now ≤ 131071 }
     requires front_fits { FitsInstance instance.now front.now }
     requires front_within { ArePairsWithin instance.now first front.now }
     requires front_pins { front_pins.now ≡ leaf_pins instance.now front.now }
     requires front_room { length front_figures.old ≡ length front.now }
     requires back_order { IsPostOrder (map (children_from middle) back.now) }
-    requires back_numbered { All (HasChildrenFrom middle) back.now }
+    requires back_numbered { All (NamesFrom tree_children middle) back.now }
     requires back_few { middle + length back.now ≤ 131071 }
     requires back_fits { FitsInstance instance.now back.now }
     requires back_within { ArePairsWithin instance.now middle back.now }
@@ -211,7 +211,7 @@ fn rise_beside<R: Threads + Sync>(
 {
     let (here, there) = (workers - workers / 2, workers / 2);
     let mut behind = || -> Result<Subtree, NoMemory>
-        requires { IsSync R.row × IsPostOrder (map (children_from middle) back.now) × All (HasChildrenFrom middle) back.now
+        requires { IsSync R.row × IsPostOrder (map (children_from middle) back.now) × All (NamesFrom tree_children middle) back.now
             × (middle + length back.now ≤ 131071) × FitsInstance instance.now back.now
             × ArePairsWithin instance.now middle back.now × (back_pins.now ≡ leaf_pins instance.now back.now)
             × (length back_figures.now ≡ length back.now) }
@@ -230,7 +230,7 @@ fn rise_beside<R: Threads + Sync>(
         )
     };
     let mut ahead = || -> Result<Subtree, NoMemory>
-        requires { IsSync R.row × IsPostOrder (map (children_from first) front.now) × All (HasChildrenFrom first) front.now
+        requires { IsSync R.row × IsPostOrder (map (children_from first) front.now) × All (NamesFrom tree_children first) front.now
             × (first + length front.now ≤ 131071) × FitsInstance instance.now front.now
             × ArePairsWithin instance.now first front.now × (front_pins.now ≡ leaf_pins instance.now front.now)
             × (length front_figures.now ≡ length front.now) }

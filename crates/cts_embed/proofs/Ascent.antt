@@ -6,7 +6,7 @@ use Rattle.std.proofs.lemmas.List.{length-map}
 use Rattle.cts_units.specs.declared.params.Params.{Params}
 use Rattle.cts_units.specs.declared.params.Sink.{Sink}
 use Rattle.cts_postorder.specs.BinaryTree.{BinaryTree}
-use Rattle.cts_postorder.specs.PostOrder.{IsPostOrder, trees_of}
+use Rattle.cts_postorder.specs.PostOrder.{IsPostOrder, NamesFrom, trees_of}
 use Rattle.cts_postorder.specs.Pass.{IsLeastFailure}
 use Rattle.cts_postorder.specs.Waiting.{AreWaiting, StandsAt}
 use Rattle.cts_postorder.proofs.Lists.{Whole, whole_of}
@@ -14,7 +14,7 @@ use Rattle.cts_postorder.proofs.Upward.{up_more, least_failure}
 use Rattle.cts_postorder.proofs.Waiting.{waiting_at_start}
 use Rattle.cts_tree.specs.declared.nodes.NodeKind.TheVariants.{Leaf, Pair}
 use Rattle.cts_tree.specs.declared.nodes.TreeNode.{TreeNode}
-use Rattle.cts_tree.specs.Nodes.{children_from}
+use Rattle.cts_tree.specs.Nodes.{children_from, tree_children, children_of}
 use Rattle.cts_instance.specs.declared.parts.Parts.{Parts}
 use Rattle.cts_instance.specs.Validity.{IsValid}
 use Rattle.cts_elmore.specs.declared.pin_list.Pin.{Pin}
@@ -25,7 +25,7 @@ use Rattle.cts_embed.specs.Balance.{IsBalance, IsBeyondBalance, IsLeafBalance, I
 use Rattle.cts_embed.specs.BalancedTree.{IsBalancedStretch}
 use Rattle.cts_embed.specs.declared.end.BalanceEnd.TheVariants.{Beyond}
 use Rattle.cts_embed.specs.Ends.{StretchEnds}
-use Rattle.cts_embed.specs.Fitting.{Fits, NamesFrom}
+use Rattle.cts_embed.specs.Fitting.{Fits}
 use Rattle.cts_embed.specs.Range.{IsInRange}
 use Rattle.cts_embed.proofs.Assembled.{assembled}
 use Rattle.cts_embed.proofs.HandedDown.{AreWired, wired_at_start, wired_at_leaf, wired_at_pair, wired_all}
@@ -132,9 +132,8 @@ module _ (parts : Parts) (first : ℕ) (nodes : List TreeNode) (ok : IsPostOrder
         pub pins_after_pair : (pins : List Pin) → pins ≡ leaf_pins parts (drop k nodes) → pins ≡ leaf_pins parts (drop (k + 1) nodes)
         pins_after_pair pins are = taken_pair parts nodes k e h pins are l r buffer kind
 
-        pub counted : All (λ node. NamesFrom first node.kind) nodes → (first ≤ l) × (first ≤ r)
-        unfolding NamesFrom
-        counted numbered = subst (NamesFrom first) kind (numbered k e h)
+        pub counted : All (NamesFrom tree_children first) nodes → (first ≤ l) × (first ≤ r)
+        counted numbered = subst (λ (o : Option (ℕ × ℕ)). IfSome o (λ (c : ℕ × ℕ). (first ≤ c.0) × (first ≤ c.1))) (ap children_of kind) (numbered k e h)
 
         left_below : l - first < length nodes
         left_below = steps.left_within first parts.params parts.sinks nodes ok k h waiting ascent.waits l r buffer e kind

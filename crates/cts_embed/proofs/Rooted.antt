@@ -4,7 +4,7 @@ use Rattle.std.specs.Prelude.{IfSome}
 use Rattle.std.specs.List.{All, AllZip}
 use Rattle.std.proofs.lemmas.List.Elements.{All-append, All-cons, All-nil, All-head, All-tail}
 use Rattle.cts_postorder.specs.BinaryTree.{BinaryTree, tip, fork, label, labels, size, root_number, IsNumbered}
-use Rattle.cts_postorder.specs.PostOrder.{IsPostOrder, root_of}
+use Rattle.cts_postorder.specs.PostOrder.{IsPostOrder, NamesFrom, root_of}
 use Rattle.cts_postorder.specs.Occurrence.{Occurrence, occurrence, occurrences, occurrences_of}
 use Rattle.cts_postorder.specs.Pass.{IsLeastFailure}
 use Rattle.cts_postorder.proofs.Lists.{Whole, whole_of, length_pos, length-occurrences_of}
@@ -24,31 +24,16 @@ use Rattle.cts_embed.specs.declared.node.NodeBalance.{NodeBalance}
 use Rattle.cts_embed.specs.Balance.{IsBalance, IsBeyondBalance}
 use Rattle.cts_embed.specs.BalancedTree.{IsWireLength, IsWireBelow, IsBalancedNode, IsBalancedBelow, IsBalancedStretch, IsStretchBalance}
 use Rattle.cts_embed.specs.Ends.{BalanceEnds, StretchEnds}
-use Rattle.cts_embed.specs.Fitting.{NamesFrom}
 use Rattle.cts_embed.proofs.Wired.{with_wire, AreSameButWires, same_long}
 
 -- from number 0 on the stretch is the whole tree
 pub whole_post_order : (nodes : List TreeNode) → IsPostOrder (map tree_children nodes) → IsPostOrder (map (children_from 0) nodes)
 whole_post_order nodes = subst (λ kids. IsPostOrder (map kids nodes)) (sym whole_from_start)
 
-names_from_start : (kind : NodeKind) → NamesFrom 0 kind
-unfolding NamesFrom
-names_from_start (Leaf id sink) = tt
-names_from_start (Pair left right buffer) = (omega arith, omega arith)
-
 -- a tree that is numbered from a number on names no lower one
-names_of : (first : ℕ) (kind : NodeKind) → IfSome (children_of kind) (λ (c : ℕ × ℕ). (first ≤ c.0) × (first ≤ c.1)) → NamesFrom first kind
-unfolding NamesFrom
-names_of first (Leaf id sink) above = tt
-names_of first (Pair left right buffer) above = above
-
 pub names_from_first : (first : ℕ) (t : BinaryTree TreeNode) → IsNumbered tree_children first t
-    → All (λ node. NamesFrom first node.kind) (labels t)
-names_from_first first t numbered k d h =
-    names_of first (get_or (labels t) k d).kind (names_from tree_children t first first (omega arith) numbered k d h)
-
-pub all_from_start : (nodes : List TreeNode) → All (λ node. NamesFrom 0 node.kind) nodes
-all_from_start nodes k d h = names_from_start (get_or nodes k d).kind
+    → All (NamesFrom tree_children first) (labels t)
+names_from_first first t numbered = names_from tree_children t first first (omega arith) numbered
 
 pub whole_balance : (parts : Parts) (nodes : List TreeNode) (b : NodeBalance) → IsStretchBalance parts 0 nodes b
     → IfSome (root_of tree_children nodes) (λ t. IsBalance parts.params parts.sinks t b)

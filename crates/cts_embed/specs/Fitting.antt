@@ -12,11 +12,6 @@ NamesWithin sinks buffers (Leaf id sink) = sink < sinks
 NamesWithin sinks buffers (Pair left right None) = Unit {0}
 NamesWithin sinks buffers (Pair left right (Some index)) = index < buffers
 
--- the children of a pair have the number `first` or later ones
-unfoldable pub NamesFrom : ℕ → NodeKind → Type 0
-NamesFrom first (Leaf id sink) = Unit {0}
-NamesFrom first (Pair left right buffer) = (first ≤ left) × (first ≤ right)
-
 -- no more nodes than a tree over 65,536 sinks has, each of which names what the instance has
 pub record Fits (parts : Parts) (placed : List TreeNode) : Type 0 where
   pub few : length placed ≤ 131071

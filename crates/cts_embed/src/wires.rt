@@ -2,12 +2,12 @@
 
 ghost use Rattle.std.specs.Prelude.{◌≡◌, ◌≤◌, map, IfOk, IfErr};
 ghost use Rattle.std.specs.List.{All};
-ghost use Rattle.cts_postorder.specs.PostOrder.{IsPostOrder};
+ghost use Rattle.cts_postorder.specs.PostOrder.{IsPostOrder, NamesFrom};
 ghost use Rattle.cts_tree.specs.Nodes.{tree_children, children_from};
 ghost use Rattle.cts_elmore.specs.Loads.{leaf_pins};
 ghost use Rattle.cts_embed.specs.BalancedTree.{IsBalancedTree, IsBalancedStretch, IsStretchBalance};
 ghost use Rattle.cts_embed.specs.Ends.{BalanceEnds, StretchEnds};
-ghost use Rattle.cts_embed.specs.Fitting.{Fits, NamesFrom};
+ghost use Rattle.cts_embed.specs.Fitting.{Fits};
 ghost use Rattle.cts_embed.specs.Range.{IsInRange};
 
 use crate::end::BalanceEnd;
@@ -35,7 +35,7 @@ pub fn balance_part(
 ) -> Result<NodeBalance, BalanceEnd>
     requires first { first ≤ 131071 }
     requires post_order { IsPostOrder (map (children_from first) nodes.old) }
-    requires numbered { All (λ node. NamesFrom first node.kind) nodes.old }
+    requires numbered { All (NamesFrom tree_children first) nodes.old }
     requires fits { Fits instance.now nodes.old }
     requires pins { pins.now ≡ leaf_pins instance.now nodes.old }
     ensures balance { IfOk result (IsStretchBalance instance.now first nodes.old) }

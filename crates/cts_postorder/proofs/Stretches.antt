@@ -6,7 +6,7 @@ use Rattle.std.specs.Option.{option_map_or}
 use Rattle.std.proofs.lemmas.List.{drop_at}
 use Rattle.std.proofs.lemmas.List.Elements.{All-append, All-cons, All-nil}
 use Rattle.cts_postorder.specs.BinaryTree.{BinaryTree, tip, fork, size, labels, subtrees, root_number, IsNumbered}
-use Rattle.cts_postorder.specs.PostOrder.{IsPostOrder, trees_of, root_of}
+use Rattle.cts_postorder.specs.PostOrder.{IsPostOrder, NamesFrom, trees_of, root_of}
 use Rattle.cts_postorder.specs.Occurrence.{occurrence, occurrences, occurrences_of}
 use Rattle.cts_postorder.proofs.Lists.{Whole, whole_of, root_of-labels}
 use Rattle.cts_postorder.proofs.Places.{get_or-root}
@@ -36,16 +36,24 @@ spelled kids t numbered = record {
   occurrences_are = ap (λ o. option_map_or (occurrences []) o []) (root_of-labels kids t numbered);
 }
 
+names_any : (children : Option (ℕ × ℕ)) → IfSome children (λ (c : ℕ × ℕ). (0 ≤ c.0) × (0 ≤ c.1))
+names_any None = tt
+names_any (Some children) = (omega arith, omega arith)
+
+-- no node names a number below 0
+pub all_from_start : {N : Type 0} (kids : N → Option (ℕ × ℕ)) (nodes : List N) → All (NamesFrom kids 0) nodes
+all_from_start kids nodes k d h = names_any (kids (get_or nodes k d))
+
 module _ {N : Type 0} (kids : N → Option (ℕ × ℕ)) where
   -- a tree that is numbered from an offset on names no lower number
   pub names_from : (t : BinaryTree N) (first offset : ℕ) → first ≤ offset → IsNumbered kids offset t
-      → All (λ n. IfSome (kids n) (λ (c : ℕ × ℕ). (first ≤ c.0) × (first ≤ c.1))) (labels t)
+      → All (NamesFrom kids first) (labels t)
   unfolding labels IsNumbered
   names_from (tip n) first offset h numbered =
-      let Fine : N → Type 0 = λ m. IfSome (kids m) (λ (c : ℕ × ℕ). (first ≤ c.0) × (first ≤ c.1)) in
+      let Fine : N → Type 0 = NamesFrom kids first in
       All-cons Fine n [] (subst (λ o. IfSome o (λ (c : ℕ × ℕ). (first ≤ c.0) × (first ≤ c.1))) (sym numbered) tt) (All-nil Fine)
   names_from (fork l r n) first offset h numbered =
-      let Fine : N → Type 0 = λ m. IfSome (kids m) (λ (c : ℕ × ℕ). (first ≤ c.0) × (first ≤ c.1)) in
+      let Fine : N → Type 0 = NamesFrom kids first in
       let above : first ≤ offset + size l = omega arith in
       let left : first ≤ root_number offset l = omega (arith, root_number-next offset l, size_pos l) in
       let right : first ≤ root_number (offset + size l) r = omega (arith, root_number-next (offset + size l) r, size_pos r) in

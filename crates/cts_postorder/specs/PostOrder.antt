@@ -1,5 +1,5 @@
 -- Lists of nodes in post-order, and the trees that they spell.
-use Rattle.std.specs.Prelude.{◌≡◌, ℕ, ◌+◌, ◌-◌, List, [], ◌∷◌, ◌++◌, length, slice_index_or, slice_get, Option, Some, None}
+use Rattle.std.specs.Prelude.{◌≡◌, ℕ, ◌+◌, ◌-◌, ◌≤◌, List, [], ◌∷◌, ◌++◌, length, slice_index_or, slice_get, Option, Some, None, IfSome}
 use Rattle.std.specs.Coded.{Coded-set, coded×, coded_ℕ, ×_prop, Unit-prop}
 use Rattle.cts_postorder.specs.BinaryTree.{BinaryTree, tip, fork}
 
@@ -50,3 +50,7 @@ trees_of kids nodes = grow kids [] nodes
 -- the whole tree: the one at the last node
 unfoldable pub root_of : {N : Type 0} → (N → Option (ℕ × ℕ)) → List N → Option (BinaryTree N)
 root_of kids nodes = slice_get (trees_of kids nodes) (length nodes - 1)
+
+-- the children that a node names, if any, have the number `first` or later ones
+abbrev pub NamesFrom : {N : Type 0} → (N → Option (ℕ × ℕ)) → ℕ → N → Type 0
+NamesFrom kids first n = IfSome (kids n) (λ (c : ℕ × ℕ). (first ≤ c.0) × (first ≤ c.1))

@@ -1,23 +1,25 @@
 -- A stretch of a placed tree cut in halves: the nodes of its two parts and its root, and the pins of their leaves.
 use Rattle.std.proofs.Common.{◌≡◌, ℕ, ◌+◌, ◌-◌, ◌/◌, ◌<◌, ◌≤◌, List, [], ◌∷◌, ◌++◌, take, drop, length, get_or, Option, Some, None, refl, sym, ap, subst, ◌∙◌, arith, length-append, append-nil, take_at}
+use Rattle.std.specs.Prelude.{IfSome}
 use Rattle.std.specs.List.{All}
 use Rattle.std.proofs.lemmas.List.{drop_at}
 use Rattle.std.proofs.lemmas.List.Elements.{filter_map-append, All-head}
 use Rattle.std.proofs.lemmas.Option.{get_or_from_slice_get, slice_get_within}
 use Rattle.cts_postorder.specs.BinaryTree.{BinaryTree, tip, fork, labels, size, IsNumbered}
+use Rattle.cts_postorder.specs.PostOrder.{NamesFrom}
 use Rattle.cts_postorder.proofs.Lists.{Whole, whole_of}
 use Rattle.cts_postorder.proofs.Sizes.{length-labels}
 use Rattle.cts_postorder.proofs.Stretches.{IsJoined, joined_at}
 use Rattle.cts_tree.specs.declared.nodes.NodeKind.{NodeKind}
 use Rattle.cts_tree.specs.declared.nodes.NodeKind.TheVariants.{Leaf, Pair}
 use Rattle.cts_tree.specs.declared.nodes.TreeNode.{TreeNode}
-use Rattle.cts_tree.specs.Nodes.{children_of_from, children_from}
+use Rattle.cts_tree.specs.Nodes.{children_of_from, tree_children, children_of, children_from}
 use Rattle.cts_instance.specs.declared.parts.Parts.{Parts}
 use Rattle.cts_elmore.specs.declared.pin_list.Pin.{Pin}
 use Rattle.cts_elmore.specs.Loads.{leaf_pin, leaf_pins}
 use Rattle.cts_elmore.proofs.InDie.{all_front, all_back}
 use Rattle.cts_elmore.proofs.LeafPins.{taken_leaf, taken_pair}
-use Rattle.cts_embed.specs.Fitting.{NamesFrom, NamesWithin}
+use Rattle.cts_embed.specs.Fitting.{NamesWithin}
 use Rattle.cts_embed.proofs.Steps.{leaf_names}
 use Rattle.cts_settle_workers.specs.Halves.{IsPart, IsRootPair}
 
@@ -95,10 +97,12 @@ module _ (parts : Parts) where
       )
 
 -- a pair that names no number before the first
-from_kind : (first left right : ℕ) (buffer : Option ℕ) (kind : NodeKind) → kind ≡ Pair left right buffer → NamesFrom first kind → first ≤ left
-unfolding NamesFrom
-from_kind first left right buffer kind is names =
-    let named : NamesFrom first (Pair left right buffer) = subst (NamesFrom first) is names in named.0
+from_node : (first left right : ℕ) (buffer : Option ℕ) (node : TreeNode) → node.kind ≡ Pair left right buffer
+    → NamesFrom tree_children first node → first ≤ left
+from_node first left right buffer node is names =
+    let named : (first ≤ left) × (first ≤ right) =
+        subst (λ (o : Option (ℕ × ℕ)). IfSome o (λ (c : ℕ × ℕ). (first ≤ c.0) × (first ≤ c.1))) (ap children_of is) names in
+    named.0
 
 module _ (parts : Parts) (first : ℕ) (nodes : List TreeNode) (pins : List Pin) (part : IsPart parts first nodes pins) (left : ℕ)
     (buffer : Option ℕ) (root : IsRootPair nodes left buffer) where
@@ -116,7 +120,7 @@ module _ (parts : Parts) (first : ℕ) (nodes : List TreeNode) (pins : List Pin)
 
   pub from_first : first ≤ left
   from_first =
-      from_kind first left root.right buffer n.kind kind
+      from_node first left root.right buffer n kind
       (part.numbered last root.root (slice_get_within nodes last root.root root.last))
 
   j : IsJoined kids nodes (left - first, root.right - first) n

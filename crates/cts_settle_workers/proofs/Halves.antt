@@ -8,7 +8,7 @@ use Rattle.std.proofs.lemmas.List.Elements.{All-append, All-nil, All-weaker}
 use Rattle.std.proofs.lemmas.Option.{slice_get-get_or, slice_get_within, get_or_from_slice_get}
 use Rattle.std.proofs.Math.Seq.{take-append-add}
 use Rattle.cts_postorder.specs.BinaryTree.{BinaryTree, fork, label, labels, size, subtrees, IsNumbered}
-use Rattle.cts_postorder.specs.PostOrder.{trees_of}
+use Rattle.cts_postorder.specs.PostOrder.{trees_of, NamesFrom}
 use Rattle.cts_postorder.specs.Occurrence.{occurrence, occurrences, occurrences_of}
 use Rattle.cts_postorder.specs.Pass.{IsLeastFailure}
 use Rattle.cts_postorder.proofs.Sizes.{size_pos, length-labels, length-subtrees}
@@ -17,7 +17,7 @@ use Rattle.cts_postorder.proofs.Zips.{all_zip-append}
 use Rattle.cts_tree.specs.declared.nodes.NodeKind.{NodeKind}
 use Rattle.cts_tree.specs.declared.nodes.NodeKind.TheVariants.{Leaf, Pair}
 use Rattle.cts_tree.specs.declared.nodes.TreeNode.{TreeNode}
-use Rattle.cts_tree.specs.Nodes.{children_of_from, children_from, buffer_of}
+use Rattle.cts_tree.specs.Nodes.{children_of_from, tree_children, children_of, children_from, buffer_of}
 use Rattle.cts_instance.specs.declared.parts.Parts.{Parts}
 use Rattle.cts_embed.specs.declared.node.NodeBalance.{NodeBalance}
 use Rattle.cts_embed.specs.declared.end.BalanceEnd.{BalanceEnd}
@@ -25,7 +25,6 @@ use Rattle.cts_embed.specs.declared.end.BalanceEnd.TheVariants.{Beyond, NoMemory
 use Rattle.cts_embed.specs.Balance.{IsBalance, IsBeyondBalance, IsPairBalance, IsPairBeyond}
 use Rattle.cts_embed.specs.BalancedTree.{IsWireLength, IsWireBelow, IsBalancedBelow, IsBalancedStretch, IsStretchBalance}
 use Rattle.cts_embed.specs.Ends.{StretchEnds}
-use Rattle.cts_embed.specs.Fitting.{NamesFrom}
 use Rattle.cts_embed.proofs.Beyond.{none_beyond}
 use Rattle.cts_embed.proofs.Wired.{with_wire}
 use Rattle.cts_settle_workers.specs.Halves.{PartsEnd}
@@ -66,8 +65,8 @@ counts_further : (first more : ℕ) (node : TreeNode) → children_from (first +
 counts_further first more node = counts_of_further first more node.kind
 
 names_of_further : (first more : ℕ) → 1 ≤ more → (kind : NodeKind)
-    → IfSome (children_of_from first kind) (λ (c : ℕ × ℕ). (more ≤ c.0) × (more ≤ c.1)) → NamesFrom (first + more) kind
-unfolding NamesFrom
+    → IfSome (children_of_from first kind) (λ (c : ℕ × ℕ). (more ≤ c.0) × (more ≤ c.1))
+    → IfSome (children_of kind) (λ (c : ℕ × ℕ). (first + more ≤ c.0) × (first + more ≤ c.1))
 names_of_further first more some (Leaf id sink) names = tt
 names_of_further first more some (Pair a b buffer) names = (omega (arith, some, names.0), omega (arith, some, names.1))
 
@@ -102,12 +101,11 @@ module _ (parts : Parts) (first : ℕ) (l r : BinaryTree TreeNode) (n : TreeNode
   pub right_spelled : IsSpelled (children_from (first + middle)) (labels r) r
   right_spelled = stretch_spelled kids middle (children_from (first + middle)) (counts_further first middle) r right_numbered
 
-  pub right_names : All (λ node. NamesFrom (first + middle) node.kind) (labels r)
+  pub right_names : All (NamesFrom tree_children (first + middle)) (labels r)
   right_names =
       let start : middle ≤ middle = omega arith in
       let some : 1 ≤ middle = omega (arith, length-labels l, size_pos l) in
-      All-weaker (λ node. IfSome (kids node) (λ (c : ℕ × ℕ). (middle ≤ c.0) × (middle ≤ c.1)))
-      (λ node. NamesFrom (first + middle) node.kind) (λ node. names_of_further first middle some node.kind) (labels r)
+      All-weaker (NamesFrom kids middle) (NamesFrom tree_children (first + middle)) (λ node. names_of_further first middle some node.kind) (labels r)
       (names_from kids r middle middle start right_numbered)
 
   trees_are : trees_of kids placed ≡ subtrees l ++ subtrees r ++ whole ∷ []

@@ -7,12 +7,12 @@ use Rattle.std.proofs.lemmas.Option.{slice_get-get_or}
 use Rattle.std.proofs.lemmas.Slice.Zip.{AllZip-long}
 use Rattle.cts_units.specs.declared.params.Params.{Params}
 use Rattle.cts_postorder.specs.BinaryTree.{BinaryTree, label, labels, size}
-use Rattle.cts_postorder.specs.PostOrder.{IsPostOrder}
+use Rattle.cts_postorder.specs.PostOrder.{IsPostOrder, NamesFrom}
 use Rattle.cts_postorder.specs.Occurrence.{occurrences}
 use Rattle.cts_postorder.proofs.Sizes.{size_pos, length-labels, length-occurrences}
 use Rattle.cts_tree.specs.declared.nodes.TreeNode.{TreeNode}
 use Rattle.cts_tree.specs.declared.route.Route.{Route}
-use Rattle.cts_tree.specs.Nodes.{children_from, buffer_of}
+use Rattle.cts_tree.specs.Nodes.{children_from, tree_children, buffer_of}
 use Rattle.cts_instance.specs.declared.parts.Parts.{Parts}
 use Rattle.cts_instance.specs.Validity.{IsValid}
 use Rattle.cts_elmore.specs.declared.pin_list.Pin.{Pin}
@@ -24,7 +24,7 @@ use Rattle.cts_embed.specs.declared.end.BalanceEnd.TheVariants.{Beyond}
 use Rattle.cts_embed.specs.Balance.{IsBalance, IsPairBalance, IsPairBeyond}
 use Rattle.cts_embed.specs.BalancedTree.{IsBalancedBelow, IsBalancedStretch, IsStretchBalance}
 use Rattle.cts_embed.specs.Ends.{StretchEnds}
-use Rattle.cts_embed.specs.Fitting.{NamesFrom, NamesWithin}
+use Rattle.cts_embed.specs.Fitting.{NamesWithin}
 use Rattle.cts_embed.proofs.Root.{root_in_range}
 use Rattle.cts_embed.proofs.Steps.{pair_names}
 use Rattle.cts_embed.proofs.Wired.{with_wire}
@@ -54,7 +54,7 @@ module _ (parts : Parts) (first left : ℕ) (buffer : Option ℕ) (nodes front b
   Names node = NamesWithin (length parts.sinks) (length parts.params.library) node.kind
 
   abbrev From : ℕ → TreeNode → Type 0
-  From number node = NamesFrom number node.kind
+  From number = NamesFrom tree_children number
 
   abbrev n : TreeNode
   n = h.n

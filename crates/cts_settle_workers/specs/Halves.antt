@@ -3,10 +3,10 @@ use Rattle.std.specs.Prelude.{◌≡◌, ℕ, ◌+◌, ◌-◌, ◌≤◌, ◌�
 use Rattle.std.specs.List.{All}
 use Rattle.std.specs.Option.{option_map_or}
 use Rattle.cts_units.specs.declared.params.Params.{Params}
-use Rattle.cts_postorder.specs.PostOrder.{IsPostOrder}
+use Rattle.cts_postorder.specs.PostOrder.{IsPostOrder, NamesFrom}
 use Rattle.cts_tree.specs.declared.nodes.NodeKind.TheVariants.{Pair}
 use Rattle.cts_tree.specs.declared.nodes.TreeNode.{TreeNode}
-use Rattle.cts_tree.specs.Nodes.{children_from}
+use Rattle.cts_tree.specs.Nodes.{children_from, tree_children}
 use Rattle.cts_instance.specs.declared.parts.Parts.{Parts}
 use Rattle.cts_elmore.specs.declared.pin_list.Pin.{Pin}
 use Rattle.cts_elmore.specs.Loads.{leaf_pins}
@@ -16,14 +16,14 @@ use Rattle.cts_embed.specs.declared.end.BalanceEnd.TheVariants.{Beyond}
 use Rattle.cts_embed.specs.Balance.{IsPairBalance, IsPairBeyond}
 use Rattle.cts_embed.specs.BalancedTree.{IsBalancedStretch, IsStretchBalance}
 use Rattle.cts_embed.specs.Ends.{StretchEnds}
-use Rattle.cts_embed.specs.Fitting.{Fits, NamesFrom}
+use Rattle.cts_embed.specs.Fitting.{Fits}
 use Rattle.cts_embed.specs.Range.{IsInRange}
 
 -- a part of a placed tree whose first node has this number, and the pins of its leaves
 pub record IsPart (parts : Parts) (first : ℕ) (nodes : List TreeNode) (pins : List Pin) : Type 0 where
   pub few : first + length nodes ≤ 131071
   pub post_order : IsPostOrder (map (children_from first) nodes)
-  pub numbered : All (λ node. NamesFrom first node.kind) nodes
+  pub numbered : All (NamesFrom tree_children first) nodes
   pub fits : Fits parts nodes
   pub pins_are : pins ≡ leaf_pins parts nodes
 

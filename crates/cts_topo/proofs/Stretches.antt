@@ -3,9 +3,10 @@ use Rattle.std.proofs.Common.{◌≡◌, ℕ, ◌-◌, List, map, refl, sym, ap,
 use Rattle.std.specs.Prelude.{Some}
 use Rattle.std.proofs.Math.Path.{fun_ext}
 use Rattle.cts_postorder.specs.PostOrder.{IsPostOrder}
+use Rattle.cts_postorder.proofs.Stretches.{all_from_start}
 use Rattle.cts_topo.specs.declared.shape.ShapeNode.{ShapeNode}
 use Rattle.cts_topo.specs.declared.shape.ShapeNode.TheVariants.{Leaf, Pair}
-use Rattle.cts_topo.specs.Shape.{children, children_from, NamesFrom, IsShapeOver, IsStretchOver}
+use Rattle.cts_topo.specs.Shape.{children, children_from, IsShapeOver, IsStretchOver}
 
 from_start : (node : ShapeNode) → children_from 0 node ≡ children node
 from_start (Leaf sink) = refl
@@ -18,14 +19,10 @@ from_start (Pair left right) =
 pub whole_from_start : children_from 0 ≡ children
 whole_from_start = fun_ext from_start
 
-names_some : (node : ShapeNode) → NamesFrom 0 node
-names_some (Leaf sink) = tt
-names_some (Pair left right) = (omega arith, omega arith)
-
 -- a whole shape is the stretch that begins at number 0
 pub whole_is_stretch : (count : ℕ) (nodes : List ShapeNode) → IsShapeOver count nodes → IsStretchOver count 0 nodes
 whole_is_stretch count nodes over = record {
   post_order = subst (λ kids. IsPostOrder (map kids nodes)) (sym whole_from_start) over.post_order;
-  numbered = λ k d h. names_some _;
+  numbered = all_from_start children nodes;
   within = over.within;
 }

@@ -1,6 +1,6 @@
 -- What the nodes of a shape name.
-use Rattle.std.specs.Prelude.{◌≡◌, ℕ, ◌-◌, ◌<◌, ◌≤◌, ◌==◌, List, map, filter_map, All, IfSome, count_by, Option, Some, None}
-use Rattle.cts_postorder.specs.PostOrder.{IsPostOrder}
+use Rattle.std.specs.Prelude.{◌≡◌, ℕ, ◌-◌, ◌<◌, ◌==◌, List, map, filter_map, All, count_by, Option, Some, None}
+use Rattle.cts_postorder.specs.PostOrder.{IsPostOrder, NamesFrom}
 use Rattle.cts_topo.specs.declared.shape.ShapeNode.{ShapeNode}
 use Rattle.cts_topo.specs.declared.shape.ShapeNode.TheVariants.{Leaf, Pair}
 
@@ -13,10 +13,6 @@ children (Pair left right) = Some (left, right)
 abbrev pub children_from : ℕ → ShapeNode → Option (ℕ × ℕ)
 children_from first (Leaf sink) = None
 children_from first (Pair left right) = Some (left - first, right - first)
-
--- the children of a pair are numbered from `first` on
-abbrev pub NamesFrom : ℕ → ShapeNode → Type 0
-NamesFrom first node = IfSome (children node) (λ (c : ℕ × ℕ). (first ≤ c.0) × (first ≤ c.1))
 
 -- the sink of a leaf, by its place in the list of sinks, and nothing at a pair
 abbrev pub leaf_sink : ShapeNode → Option ℕ
@@ -37,5 +33,5 @@ pub record IsShapeOver (count : ℕ) (nodes : List ShapeNode) : Type 0 where
 -- the shape.
 pub record IsStretchOver (count first : ℕ) (nodes : List ShapeNode) : Type 0 where
   pub post_order : IsPostOrder (map (children_from first) nodes)
-  pub numbered : All (NamesFrom first) nodes
+  pub numbered : All (NamesFrom children first) nodes
   pub within : All (λ sink. sink < count) (leaf_sinks nodes)

@@ -10,7 +10,7 @@ use Rattle.cts_units.specs.declared.params.Sink.{Sink}
 use Rattle.cts_units.specs.declared.params.Params.{Params}
 use Rattle.cts_units.specs.Limits.{IsParams}
 use Rattle.cts_postorder.specs.BinaryTree.{BinaryTree, fork, labels, subtrees}
-use Rattle.cts_postorder.specs.PostOrder.{trees_of, root_of}
+use Rattle.cts_postorder.specs.PostOrder.{trees_of, root_of, NamesFrom}
 use Rattle.cts_postorder.specs.Pass.{IsLeastFailure}
 use Rattle.cts_postorder.proofs.Lists.{Whole, whole_of}
 use Rattle.cts_postorder.proofs.Sizes.{size_pos, length-labels, length-subtrees}
@@ -18,7 +18,7 @@ use Rattle.cts_postorder.proofs.Stretches.{IsJoined, IsSpelled, counted_from, jo
 use Rattle.cts_postorder.proofs.Zips.{all_zip-append}
 use Rattle.cts_topo.specs.declared.shape.ShapeNode.{ShapeNode}
 use Rattle.cts_topo.specs.declared.shape.ShapeNode.TheVariants.{Leaf, Pair}
-use Rattle.cts_topo.specs.Shape.{children_from, leaf_sink, leaf_sinks, IsStretchOver, NamesFrom}
+use Rattle.cts_topo.specs.Shape.{children, children_from, leaf_sink, leaf_sinks, IsStretchOver}
 use Rattle.cts_merge.specs.declared.side.Finished.{Finished}
 use Rattle.cts_merge.specs.declared.side.Side.{Side}
 use Rattle.cts_merge.specs.Merge.{IsBeyond, IsMerged}
@@ -76,7 +76,7 @@ counts_further first left h (Pair a b) =
 
 names_further : (first left : ℕ) → first ≤ left → (node : ShapeNode)
     → IfSome (children_from first node) (λ (c : ℕ × ℕ). (left - first + 1 ≤ c.0) × (left - first + 1 ≤ c.1))
-    → NamesFrom (left + 1) node
+    → NamesFrom children (left + 1) node
 names_further first left h (Leaf sink) names = tt
 names_further first left h (Pair a b) names = (omega (arith, h, names.0), omega (arith, h, names.1))
 
@@ -116,8 +116,8 @@ module _ (count first left : ℕ) (nodes : List ShapeNode) (s : IsStretchOver co
   pub from_first : first ≤ left
   from_first =
       let within : length nodes - 1 < length nodes = slice_get_within nodes (length nodes - 1) (Pair left root.right) root.last in
-      let named : NamesFrom first (Pair left root.right) =
-      subst (NamesFrom first) last_is (s.numbered (length nodes - 1) (Leaf 0) within) in named.0
+      let named : NamesFrom children first (Pair left root.right) =
+      subst (NamesFrom children first) last_is (s.numbered (length nodes - 1) (Leaf 0) within) in named.0
 
   j : IsJoined kids nodes (left - first, root.right - first) last
   j = joined_at kids nodes s.post_order (Leaf 0) (left - first, root.right - first) (ap kids last_is)
@@ -153,7 +153,7 @@ module _ (count first left : ℕ) (nodes : List ShapeNode) (s : IsStretchOver co
   front_is_stretch : IsStretchOver count first (labels j.left)
   front_is_stretch = record {
     post_order = front_spelled.post_order;
-    numbered = subst (All (NamesFrom first)) j.left_nodes (All-take (NamesFrom first) (left - first + 1) nodes s.numbered);
+    numbered = subst (All (NamesFrom children first)) j.left_nodes (All-take (NamesFrom children first) (left - first + 1) nodes s.numbered);
     within = all_front IsIn (leaf_sinks (labels j.left)) (leaf_sinks (labels j.right)) sinks_below;
   }
 
@@ -163,8 +163,7 @@ module _ (count first left : ℕ) (nodes : List ShapeNode) (s : IsStretchOver co
       record {
         post_order = back_spelled.post_order;
         numbered = All-weaker
-            (λ node. IfSome (kids node) (λ (c : ℕ × ℕ). (left - first + 1 ≤ c.0) × (left - first + 1 ≤ c.1)))
-            (NamesFrom (left + 1)) (names_further first left from_first) (labels j.right)
+            (NamesFrom kids (left - first + 1)) (NamesFrom children (left + 1)) (names_further first left from_first) (labels j.right)
             (names_from kids j.right (left - first + 1) (left - first + 1) start j.right_numbered);
         within = all_back IsIn (leaf_sinks (labels j.left)) (leaf_sinks (labels j.right)) sinks_below;
       }

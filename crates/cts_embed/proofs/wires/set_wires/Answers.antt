@@ -1,16 +1,17 @@
 use Rattle.std.proofs.Common.{inr, refl, arith}
 use Rattle.cts_postorder.proofs.Lists.{length_pos}
+use Rattle.cts_postorder.proofs.Stretches.{all_from_start}
 use Rattle.cts_tree.specs.Nodes.{tree_children}
 use Rattle.cts_embed.proofs.Assembled.{same_as_placed}
 use Rattle.cts_embed.proofs.Root.{all_within, root_beyond, root_route}
-use Rattle.cts_embed.proofs.Rooted.{whole_post_order, all_from_start, whole_balance, whole_stretch, rooted}
+use Rattle.cts_embed.proofs.Rooted.{whole_post_order, whole_balance, whole_stretch, rooted}
 use Rattle.cts_embed.proofs.wires.set_wires.Goals as goal
 
 pub balance_part-requires-clause-post_order : goal.balance_part-requires-clause-post_order
 balance_part-requires-clause-post_order c = whole_post_order c.args.nodes.now c.requires.post_order
 
 pub balance_part-requires-clause-numbered : goal.balance_part-requires-clause-numbered
-balance_part-requires-clause-numbered c = all_from_start c.args.nodes.now
+balance_part-requires-clause-numbered c = all_from_start tree_children c.args.nodes.now
 
 pub overflow_sub-last : goal.overflow_sub-last
 overflow_sub-last c = omega (arith, c.balance_part.auto.nodes, length_pos tree_children c.args.nodes.now c.requires.post_order)

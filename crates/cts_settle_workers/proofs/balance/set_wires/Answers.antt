@@ -1,17 +1,18 @@
 -- The whole tree is balanced as a stretch from number 0 on, and then the limits are asked of its root.
 use Rattle.std.proofs.Common.{inr, refl, arith}
 use Rattle.cts_postorder.proofs.Lists.{length_pos}
+use Rattle.cts_postorder.proofs.Stretches.{all_from_start}
 use Rattle.cts_tree.specs.Nodes.{tree_children}
 use Rattle.cts_embed.proofs.Assembled.{same_as_placed}
 use Rattle.cts_embed.proofs.Root.{all_within, root_beyond, root_route}
-use Rattle.cts_embed.proofs.Rooted.{whole_post_order, all_from_start, whole_balance, whole_stretch, rooted}
+use Rattle.cts_embed.proofs.Rooted.{whole_post_order, whole_balance, whole_stretch, rooted}
 use Rattle.cts_settle_workers.proofs.balance.set_wires.Goals as goal
 
 pub balance_stretch-requires-clause-part : goal.balance_stretch-requires-clause-part
 balance_stretch-requires-clause-part g c κs within = record {
   few = omega (arith, c.requires.fits.few);
   post_order = whole_post_order c.args.nodes.now c.requires.post_order;
-  numbered = all_from_start c.args.nodes.now;
+  numbered = all_from_start tree_children c.args.nodes.now;
   fits = c.requires.fits;
   pins_are = c.requires.pins;
 }
