@@ -1,5 +1,5 @@
 -- What the leaves of a shape have of the sinks that they name.
-use Rattle.std.specs.Prelude.{◌≡◌, List, filter_map, slice_get, Option}
+use Rattle.std.specs.Prelude.{◌≡◌, List, [], filter_map, slice_get, Option}
 use Rattle.std.specs.Option.{option_and_then, option_map}
 use Rattle.cts_topo.specs.declared.shape.ShapeNode.{ShapeNode}
 use Rattle.cts_topo.specs.Shape.{leaf_sink}
@@ -18,6 +18,11 @@ module _ (i : Parts) where
 
   abbrev pub shape_pins : List ShapeNode → List Pin
   shape_pins nodes = filter_map shape_pin nodes
+
+-- nothing is listed yet
+pub record AreNone (leaves : Leaves) : Type 0 where
+  pub ids : leaves.ids.items ≡ []
+  pub pins : leaves.pins.items ≡ []
 
 -- the ids of these sinks, and their pins, which are those of every placed tree of the shape
 pub record AreLeavesOf (i : Parts) (nodes : List ShapeNode) (leaves : Leaves) : Type 0 where

@@ -2,7 +2,7 @@
 
 ghost use Rattle.std.specs.Prelude.{length, IfOk};
 ghost use Rattle.cts_topo.specs.Shape.{IsShapeOver};
-ghost use Rattle.cts_embed_workers.specs.Leaves.{AreLeavesOf};
+ghost use Rattle.cts_embed_workers.specs.Leaves.{AreLeavesOf, AreNone};
 
 use cts_elmore::Pin;
 use cts_instance::Instance;
@@ -19,16 +19,28 @@ pub struct Leaves {
     pub pins: Vec<Pin>,
 }
 
+/// Lists without items, reserved for what [`leaves_for`] lists of a shape of so many nodes. Answers `NoMemory` where an
+/// allocation fails.
+pub fn leaves_room(alloc: Global, nodes: usize) -> Result<Leaves, NoMemory>
+    ensures { IfOk result AreNone }
+{
+    Ok(Leaves {
+        ids: Vec::with_capacity(alloc, nodes)?,
+        pins: Vec::with_capacity(alloc, nodes.div_ceil(2))?,
+    })
+}
+
 /// The ids and the pins of the leaves' sinks, from one pass over the shape. They are looked up before the nodes are placed,
 /// since each look-up goes far in memory, and a node that waits for one takes far longer; a placed tree of the shape has
-/// these pins, as `cts_elmore::pins` lists them. Answers `NoMemory` where an allocation fails.
-pub fn leaves_for(alloc: Global, instance: &Instance, shape: &Shape) -> Result<Leaves, NoMemory>
+/// these pins, as `cts_elmore::pins` lists them. They go into lists without items: those that are reserved for the shape take
+/// no memory here. Answers `NoMemory` where an allocation fails.
+pub fn leaves_for(room: Leaves, instance: &Instance, shape: &Shape) -> Result<Leaves, NoMemory>
     requires shape { IsShapeOver (length instance.now.sinks) shape.now }
+    requires none { AreNone room }
     ensures { IfOk result (AreLeavesOf instance.now shape.now) }
 {
     let (sinks, nodes) = (instance.sinks(), shape.nodes());
-    let mut ids = Vec::with_capacity(alloc, nodes.len())?;
-    let mut pins = Vec::with_capacity(alloc, nodes.len().div_ceil(2))?;
+    let Leaves { mut ids, mut pins } = room;
     for node in nodes {
         match *node {
             ShapeNode::Leaf { sink } => {

@@ -14,6 +14,6 @@ mod leaves;
 mod tree;
 mod whole;
 
-pub use leaves::{Leaves, leaves_for};
+pub use leaves::{Leaves, leaves_for, leaves_room};
 pub use tree::place_at;
 pub use whole::{embed_by, room_for};

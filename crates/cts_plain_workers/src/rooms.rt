@@ -5,19 +5,20 @@ ghost use Rattle.cts_plain_workers.specs.Rooms.{AreEmpty, AreFor};
 
 use cts_elmore::NodeFigure;
 use cts_elmore_workers::figures_room;
-use cts_embed_workers::room_for;
+use cts_embed_workers::{Leaves, leaves_room, room_for};
 use cts_num::NoMemory;
 use cts_tree::TreeNode;
 use cts_up::Site;
 use cts_up_workers::sites_room;
 use std::alloc::Global;
 
-/// The rooms of a tree's lists: its sites, its nodes and their figures.
+/// The rooms of a tree's lists: its sites, its nodes and their figures, and what its leaves have of their sinks.
 #[derive(Drop)]
 pub(crate) struct Rooms {
     pub(crate) sites: Vec<Site>,
     pub(crate) nodes: Vec<TreeNode>,
     pub(crate) figures: Vec<NodeFigure>,
+    pub(crate) leaves: Leaves,
 }
 
 /// Rooms that are empty, reserved for so many nodes. They are reserved by the thread that asks for them first, whose heap has
@@ -29,10 +30,11 @@ pub(crate) fn reserve(alloc: Global, count: usize) -> Result<Rooms, NoMemory>
         sites: Vec::with_capacity(alloc, count)?,
         nodes: Vec::with_capacity(alloc, count)?,
         figures: Vec::with_capacity(alloc, count)?,
+        leaves: leaves_room(alloc, count)?,
     })
 }
 
-/// The same rooms, with a place for each of so many nodes.
+/// The same rooms, with a place for each of so many nodes in the lists of nodes.
 pub(crate) fn fill(rooms: Rooms, count: usize) -> Result<Rooms, NoMemory>
     requires { AreEmpty rooms }
     ensures { IfOk result (AreFor count) }
@@ -41,5 +43,6 @@ pub(crate) fn fill(rooms: Rooms, count: usize) -> Result<Rooms, NoMemory>
         sites: sites_room(rooms.sites, count)?,
         nodes: room_for(rooms.nodes, count)?,
         figures: figures_room(rooms.figures, count)?,
+        leaves: rooms.leaves,
     })
 }

@@ -7,7 +7,7 @@ ghost use Rattle.cts_topo.specs.Topology.{shape_of};
 ghost use Rattle.cts_up.specs.Ends.{Ends as EndsOfPlan};
 ghost use Rattle.cts_up.specs.Sites.{AreSites};
 ghost use Rattle.cts_embed.specs.Fitting.{Fits};
-ghost use Rattle.cts_embed_workers.specs.Leaves.{AreLeavesOf};
+ghost use Rattle.cts_embed_workers.specs.Leaves.{AreLeavesOf, AreNone};
 ghost use Rattle.cts_elmore.specs.Figures.{AreFigures, AreFiguresInRange};
 ghost use Rattle.cts_elmore.specs.Loads.{leaf_pins};
 ghost use Rattle.cts_elmore.specs.Sound.{IsSound, StandsInDie};
@@ -91,18 +91,20 @@ fn list_and_rise<R: Threads + Sync>(
     workers: u32,
     instance: &Instance,
     shape: &Shape,
+    leaves: Leaves,
     room: Vec<Site>,
 ) -> (Result<Leaves, NoMemory>, Result<Vec<Site>, UpEnd>)
     requires shape { IsShapeOver (length instance.now.sinks) shape.now }
+    requires leaves { AreNone leaves }
     requires room { length room.items ≡ length shape.now }
     ensures leaves { IfOk result.0 (AreLeavesOf instance.now shape.now) }
     ensures sites { IfOk result.1 (λ sites. AreSites instance.now.params instance.now.sinks shape.now sites.items) }
     ensures ends { IfErr result.1 (EndsOfPlan instance.now.params instance.now.sinks shape.now) }
 {
     let list = move || -> Result<Leaves, NoMemory>
-        requires { IsShapeOver (length instance.now.sinks) shape.now }
+        requires { IsShapeOver (length instance.now.sinks) shape.now × AreNone leaves }
         ensures { IfOk result (AreLeavesOf instance.entry.now shape.entry.now) }
-    { leaves_for(alloc, instance, shape) };
+    { leaves_for(leaves, instance, shape) };
     let up = move || -> Result<Vec<Site>, UpEnd>
         requires { IsShapeOver (length instance.now.sinks) shape.now × (length room.items ≡ length shape.now) }
         ensures sites { IfOk result (λ sites. AreSites instance.entry.now.params instance.entry.now.sinks shape.entry.now sites.items) }
@@ -118,10 +120,12 @@ fn place_over<R: Threads + Sync>(
     workers: u32,
     instance: &Instance,
     shape: &Shape,
+    leaves: Leaves,
     sites: Vec<Site>,
     nodes: Vec<TreeNode>,
 ) -> Result<(Placed, Vec<Pin>), NoTree>
     requires shape { IsShapeOver (length instance.now.sinks) shape.now }
+    requires leaves { AreNone leaves }
     requires sites { length sites.items ≡ length shape.now }
     requires nodes { length nodes.items ≡ length shape.now }
     ensures fits { IfOk result (λ made. Fits instance.now made.0) }
@@ -129,7 +133,7 @@ fn place_over<R: Threads + Sync>(
     ensures pins { IfOk result (λ made. made.1.items ≡ leaf_pins instance.now made.0) }
     ensures ends { IfErr result (EndsInPlaces instance.now shape.now) }
 {
-    let (leaves, sites) = list_and_rise(rt, alloc, workers, instance, shape, sites);
+    let (leaves, sites) = list_and_rise(rt, alloc, workers, instance, shape, leaves, sites);
     let sites = sites?;
     let Leaves { ids, pins } = leaves?;
     let (sites, ids) = (sites.as_slice(), ids.as_slice());
@@ -163,8 +167,11 @@ fn place<R: Threads + Sync>(
         sites,
         nodes,
         figures,
+        leaves,
     } = rooms;
-    let (placed, pins) = place_over(rt, alloc, workers, instance, &shape, sites, nodes)?;
+    let (placed, pins) = place_over(
+        rt, alloc, workers, instance, &shape, leaves, sites, nodes,
+    )?;
     Ok(Ground {
         placed,
         pins,

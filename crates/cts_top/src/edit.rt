@@ -70,8 +70,8 @@ fn read_source<S: ByteSource>(
     ensures write_fault { IsErrOf result Stop.WriteFault → ⊥ }
     ensures counted { S.faults source.old ≤ S.faults source.new }
 {
-    let bytes = read_all(alloc, source, INPUT_LIMIT)?;
     let _first = open_heap(alloc, TREE_ROOM);
+    let bytes = read_all(alloc, source, INPUT_LIMIT)?;
     let read = read_scripts(alloc, &bytes);
     give_back(bytes);
     Ok(read?)

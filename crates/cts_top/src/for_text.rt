@@ -12,6 +12,7 @@ ghost use Rattle.cts_top.specs.Written.{Answers};
 
 use crate::answer::{Telling, answer_synthesis_by};
 use crate::notes::write_note;
+use crate::room::{TREE_ROOM, open_heap};
 use crate::serve::{read_source, serve_by_threads};
 use crate::stop::{Answer, Stop, status_of};
 use crate::valid::instance_is_valid;
@@ -91,7 +92,9 @@ fn job_by<R: Threads + Sync, K: ByteSink>(
     requires few { workers ≤ 64 }
     ensures { Answers (TellsSynthesis summary_in (made_parts seed sinks)) K.held K.faults sink.old sink.new result }
 {
+    let first = open_heap(alloc, TREE_ROOM);
     let instance = make_instance(alloc, seed, sinks)?;
+    drop(first);
     answer_by(rt, alloc, workers, sink, Telling::Summary, &instance)
 }
 

@@ -99,8 +99,8 @@ pub fn read_source<S: ByteSource>(alloc: Global, source: &mut S) -> Result<Insta
     ensures write_fault { IsErrOf result Stop.WriteFault → ⊥ }
     ensures counted { S.faults source.old ≤ S.faults source.new }
 {
-    let bytes = read_all(alloc, source, INPUT_LIMIT)?;
     let _first = open_heap(alloc, TREE_ROOM);
+    let bytes = read_all(alloc, source, INPUT_LIMIT)?;
     let read = read_input(alloc, &bytes);
     give_back(bytes);
     Ok(read?)

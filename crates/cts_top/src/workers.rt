@@ -21,7 +21,7 @@ ghost use Rattle.cts_work.specs.Plans.{nodes_of};
 use crate::valid::instance_is_valid;
 use cts_beside::beside;
 use cts_elmore::{Figures, Pin};
-use cts_embed_workers::{Leaves, embed_by, leaves_for, room_for};
+use cts_embed_workers::{Leaves, embed_by, leaves_for, leaves_room, room_for};
 use cts_instance::Instance;
 use cts_memo::{Memo, MemoPass, Secret, Table};
 use cts_num::NoMemory;
@@ -107,7 +107,8 @@ fn place_plan<R: Threads + Sync>(
     ensures ends { IfErr result (EndsWithPlan instance.now shape.now) }
 {
     let sites = plan.sites(alloc)?;
-    let Leaves { ids, pins } = leaves_for(alloc, instance, shape)?;
+    let leaves = leaves_room(alloc, shape.nodes().len())?;
+    let Leaves { ids, pins } = leaves_for(leaves, instance, shape)?;
     let room = room_for(Vec::new(alloc), shape.nodes().len())?;
     let (sites, ids) = (sites.as_slice(), ids.as_slice());
     let placed = embed_by(rt, alloc, workers, instance, shape, sites, ids, room)?;
