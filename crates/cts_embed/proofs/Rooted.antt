@@ -1,5 +1,5 @@
 -- A balanced stretch that is the whole of a placed tree, and the root's own wire, which is set last.
-use Rattle.std.proofs.Common.{◌≡◌, ℕ, ◌≤◌, ◌+◌, ◌-◌, ◌<◌, inl, List, [], ◌∷◌, ◌++◌, map, set, length, get_or, refl, sym, ap, subst, ◌∙◌, arith, length-append}
+use Rattle.std.proofs.Common.{◌≡◌, ℕ, ◌+◌, ◌-◌, ◌<◌, inl, List, [], ◌∷◌, ◌++◌, map, set, length, get_or, refl, sym, ap, subst, ◌∙◌, arith, length-append}
 use Rattle.std.specs.Prelude.{IfSome}
 use Rattle.std.specs.List.{All, AllZip}
 use Rattle.std.proofs.lemmas.List.Elements.{All-append, All-cons, All-nil, All-head, All-tail}
@@ -12,10 +12,8 @@ use Rattle.cts_postorder.proofs.Places.{get_or-occurrences-root}
 use Rattle.cts_postorder.proofs.Sizes.{length-occurrences, root_number-next}
 use Rattle.cts_postorder.proofs.Stretches.{names_from}
 use Rattle.cts_postorder.proofs.Zips.{all_zip-at}
-use Rattle.cts_tree.specs.declared.nodes.NodeKind.{NodeKind}
-use Rattle.cts_tree.specs.declared.nodes.NodeKind.TheVariants.{Leaf, Pair}
 use Rattle.cts_tree.specs.declared.nodes.TreeNode.{TreeNode}
-use Rattle.cts_tree.specs.Nodes.{children_of, children_from, tree_children}
+use Rattle.cts_tree.specs.Nodes.{children_from, tree_children}
 use Rattle.cts_tree.proofs.Stretches.{whole_from_start}
 use Rattle.cts_instance.specs.declared.parts.Parts.{Parts}
 use Rattle.cts_embed.specs.declared.end.BalanceEnd.{BalanceEnd}

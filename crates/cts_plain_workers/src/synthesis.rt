@@ -169,9 +169,7 @@ fn place<R: Threads + Sync>(
         figures,
         leaves,
     } = rooms;
-    let (placed, pins) = place_over(
-        rt, alloc, workers, instance, &shape, leaves, sites, nodes,
-    )?;
+    let (placed, pins) = place_over(rt, alloc, workers, instance, &shape, leaves, sites, nodes)?;
     Ok(Ground {
         placed,
         pins,

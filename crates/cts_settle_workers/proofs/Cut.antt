@@ -13,7 +13,7 @@ use Rattle.cts_postorder.proofs.Stretches.{IsJoined, joined_at}
 use Rattle.cts_tree.specs.declared.nodes.NodeKind.{NodeKind}
 use Rattle.cts_tree.specs.declared.nodes.NodeKind.TheVariants.{Leaf, Pair}
 use Rattle.cts_tree.specs.declared.nodes.TreeNode.{TreeNode}
-use Rattle.cts_tree.specs.Nodes.{children_of_from, tree_children, children_of, children_from}
+use Rattle.cts_tree.specs.Nodes.{children_of, children_of_from, children_from, tree_children}
 use Rattle.cts_instance.specs.declared.parts.Parts.{Parts}
 use Rattle.cts_elmore.specs.declared.pin_list.Pin.{Pin}
 use Rattle.cts_elmore.specs.Loads.{leaf_pin, leaf_pins}
@@ -101,7 +101,7 @@ from_node : (first left right : ℕ) (buffer : Option ℕ) (node : TreeNode) →
     → NamesFrom tree_children first node → first ≤ left
 from_node first left right buffer node is names =
     let named : (first ≤ left) × (first ≤ right) =
-        subst (λ (o : Option (ℕ × ℕ)). IfSome o (λ (c : ℕ × ℕ). (first ≤ c.0) × (first ≤ c.1))) (ap children_of is) names in
+    subst (λ (o : Option (ℕ × ℕ)). IfSome o (λ (c : ℕ × ℕ). (first ≤ c.0) × (first ≤ c.1))) (ap children_of is) names in
     named.0
 
 module _ (parts : Parts) (first : ℕ) (nodes : List TreeNode) (pins : List Pin) (part : IsPart parts first nodes pins) (left : ℕ)
