@@ -1,6 +1,6 @@
 //! Runs of which nothing is wanted but what they write and how they end. Their workers share no memo.
 
-ghost use Rattle.std.specs.Prelude.{◌≡◌, ◌≤◌, ◌<◌, ◌^◌, IsErrOf};
+ghost use Rattle.std.specs.Prelude.{◌≤◌, ◌<◌, ◌^◌, IsErrOf};
 ghost use Rattle.cts_script.specs.Generator.{made_parts};
 ghost use Rattle.cts_top.specs.Log.{Log, no_log};
 ghost use Rattle.cts_top.specs.Outcome.{Serves};
