@@ -1,8 +1,8 @@
 #!/bin/sh
 # Runs the clock tree synthesiser, or under the name cts-draw the program that draws a tree, and under cts-after the one that
-# tells the instance after edits. Where its program is missing, or a source is newer, tools/build proves and builds it first;
-# where that fails, the status is 125. All words and streams are the program's own, but for --help or --version alone, and
-# --unproved before others.
+# tells the instance after edits. Where its program is missing, a source is newer or another kit has built it, tools/build proves
+# and builds it first; where that fails, the status is 125. All words and streams are the program's own, but for --help or
+# --version alone, and --unproved before others.
 self=$0 main=cts_main
 while
     case ${self##*/} in
@@ -23,7 +23,9 @@ case $#:${1-} in
 *:--unproved) shift && exec "$top/tools/unproved" "$main" "$@" ;;
 esac
 program=$top/crates/$main/out/$main stamp=$top/crates/$main/out/built
-[ -x "$program" ] && [ -e "$stamp" ] && [ -z "$(find "$top/crates.txt" "$top/HANDLES" "$top/crates" \( -name out -o -name must-fail \) -prune -o -type f -newer "$stamp" -print -quit)" ] ||
+# The kit names itself in a file beside its bin; without a kit the program that is there will do.
+kit=$(readlink -f "$(command -v rt)") kit=${kit%/bin/rt}/KIT-ID
+[ -x "$program" ] && [ -e "$stamp" ] && { [ ! -r "$kit" ] || grep -qxF "kit $(cat "$kit")" "$stamp"; } && [ -z "$(find "$top/crates.txt" "$top/HANDLES" "$top/crates" \( -name out -o -name must-fail \) -prune -o -type f -newer "$stamp" -print -quit)" ] ||
     "$top/tools/build" "$main" || exit 125
 # The lists of a run are long, so the C library may ask for them in large pages: the system then has fewer to make.
 GLIBC_TUNABLES=${GLIBC_TUNABLES-glibc.malloc.hugetlb=1}

@@ -8,13 +8,16 @@ use std::io;
 use std::sync::Wait;
 use std::thread::Threads;
 
+/// The bytes that an output has room for: the replies to as many steps as there may be.
+const ROOM: usize = 1 << 22;
+
 /// Runs some words on a text.
 pub(crate) fn answer<R: AllocGlobal + Threads + Wait + Sync>(
     rt: &R,
     words: &str,
     text: &[u8],
 ) -> io::Result<Ran> {
-    run_open(rt, words, text, Streams::of(1 << 20, 1 << 20))
+    run_open(rt, words, text, Streams::of(1 << 20, ROOM))
 }
 
 /// A text and what stands below it.
@@ -132,5 +135,19 @@ fn check_made<R: AllocGlobal + Threads + Wait + Sync + Print>(
     compare(rt, "synth 1", &reports, made)?;
     let summaries = ["job 14 64 2", "job 14 64 3", "job 14 64 64"];
     compare(rt, "job 14 64 1", &summaries, b"")?;
-    judge(rt, "synth 1", made)
+    judge(rt, "synth 1", made)?;
+    let long = answer(rt, "make 21 4200", b"")?;
+    compare_long(rt, long.output.bytes())
+}
+
+/// The lines of 8,399 nodes are made by as many workers as there are, and the parts of 9,999 nodes are made, placed, balanced
+/// and measured beside each other.
+fn compare_long<R: AllocGlobal + Threads + Wait + Sync + Print>(
+    rt: &R,
+    made: &[u8],
+) -> io::Result<()> {
+    let reports = ["synth 2", "synth 4", "synth 7"];
+    compare(rt, "synth 1", &reports, made)?;
+    let summaries = ["job 14 5000 2", "job 14 5000 3", "job 14 5000 64"];
+    compare(rt, "job 14 5000 1", &summaries, b"")
 }

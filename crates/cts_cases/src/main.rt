@@ -17,9 +17,9 @@
 //! of a few bytes, and each read and each write failing once. It prints how many runs of each kind end as the whole
 //! text does, and how the others end.
 //!
-//! Last it writes some long numbers, reads an instance with as many sinks and blocks as there may be and scripts with a
-//! step too many, checks trees as deep as a list, compares what one worker and many write, and hands the nearest-pair
-//! topology as many sinks as it takes and one more.
+//! Last it writes some long numbers, reads an instance with as many sinks and blocks as there may be and scripts with as
+//! many steps and one more, checks trees as deep as a list, compares what one worker and many write, hands the nearest-pair
+//! topology as many sinks as it takes and one more, and holds workers and callers at a gate until they meet.
 #![tactic(auto)]
 
 mod alike;
@@ -28,6 +28,7 @@ mod decimals;
 mod deep;
 mod hostile;
 mod many;
+mod meetings;
 mod near;
 mod runs;
 mod show;
@@ -61,8 +62,9 @@ fn run_cases<R: AllocGlobal + Threads + Wait + Sync + Print>(
 fn run_last<R: AllocGlobal + Threads + Wait + Sync + Print>(rt: &R) -> io::Result<()> {
     decimals::write(rt)?;
     many::read(rt)?;
-    many::step(rt)?;
+    many::steps(rt)?;
     deep::check(rt)?;
     alike::check(rt)?;
-    near::check(rt)
+    near::check(rt)?;
+    meetings::check(rt)
 }

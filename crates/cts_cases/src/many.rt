@@ -1,5 +1,5 @@
-//! As many sinks and blocks as there may be: a reader that gives up early for want of memory is seen. And one step more
-//! than there may be.
+//! As many sinks and blocks as there may be: a reader that gives up early for want of memory is seen. And as many steps as
+//! there may be, with one more.
 
 use crate::alike;
 use cts_read::read_instance;
@@ -60,12 +60,41 @@ fn print_counts<R: AllocGlobal + Print>(rt: &R, text: &[u8]) -> io::Result<()> {
     }
 }
 
-/// Prints how the forms that read a script end on one step more than there may be.
-pub(crate) fn step<R: AllocGlobal + Threads + Wait + Sync + Print>(rt: &R) -> io::Result<()> {
+/// A line after as many steps as there may be, by what it is.
+const MORE_STEPS: [(&str, &str); 6] = [
+    ("65537 steps", "1 tree\nend\n"),
+    (
+        "65536 steps and one of 10 digits",
+        "2 cap 1000000000 1\nend\n",
+    ),
+    ("65536 steps and one without a load", "2 cap 1 x\nend\n"),
+    ("65536 steps and one of three words", "2 cap 1\nend\n"),
+    ("65536 steps and one of no caller", "two tree\nend\n"),
+    ("65536 steps and no end", ""),
+];
+
+/// Prints how the forms that read a script end on as many steps as there may be, and on what may follow them.
+pub(crate) fn steps<R: AllocGlobal + Threads + Wait + Sync + Print>(rt: &R) -> io::Result<()> {
     let mut text = String::new(rt.alloc());
     text.push_str("cts 1\ndie 0 0 20 20\nsource 0 0 0\nwire 1 1\nlimits 1 1 1\nbuffers 0\n")?;
     text.push_str("sinks 1\nsink 1 3 4 5\nblocks 0\nend\ncallers 1\n")?;
-    repeat(&mut text, STEPS + 1, "1 tree\n")?;
-    alike::end(rt, "edit", "65537 steps", text.as_bytes())?;
-    alike::end(rt, "replay", "65537 steps", text.as_bytes())
+    repeat(&mut text, STEPS, "1 tree\n")?;
+    end_with(rt, "edit", text.as_bytes(), "65536 steps", "end\n")?;
+    for (name, more) in MORE_STEPS {
+        end_with(rt, "edit", text.as_bytes(), name, more)?;
+        end_with(rt, "replay", text.as_bytes(), name, more)?;
+    }
+    Ok(())
+}
+
+/// Prints how a form ends on a text and what follows it.
+fn end_with<R: AllocGlobal + Threads + Wait + Sync + Print>(
+    rt: &R,
+    form: &str,
+    text: &[u8],
+    name: &str,
+    more: &str,
+) -> io::Result<()> {
+    let text = alike::joined(rt.alloc(), text, more.as_bytes())?;
+    alike::end(rt, form, name, &text)
 }

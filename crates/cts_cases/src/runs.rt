@@ -3,7 +3,7 @@
 use cts_draw::draw;
 use cts_io::{MemSink, MemSource};
 use cts_num::NoMemory;
-use cts_top::{Status, run, run_for_text};
+use cts_top::{Outcome, Status, run, run_for_text};
 use cts_work::Gate;
 use std::alloc::Global;
 use std::io::{self, ErrorKind};
@@ -170,6 +170,43 @@ pub(crate) fn run_open<R: AllocGlobal + Threads + Wait + Sync>(
     let mut open = Open::over(rt.alloc(), text, streams)?;
     let status = end(rt, &words, &mut open);
     Ok(open.ended(status))
+}
+
+/// What a run at a gate leaves and writes.
+#[derive(Drop)]
+pub(crate) struct Gated {
+    pub(crate) outcome: Outcome,
+    pub(crate) output: MemSink,
+    pub(crate) notes: MemSink,
+}
+
+/// Runs the words of a text, workers and callers at a gate.
+pub(crate) fn at_gate<R: AllocGlobal + Threads + Wait + Sync, G: Gate>(
+    rt: &R,
+    gate: &G,
+    words: &str,
+    text: &[u8],
+) -> io::Result<Gated> {
+    let words = words_of(rt.alloc(), words)?;
+    let Open {
+        mut input,
+        mut output,
+        mut notes,
+    } = Open::over(rt.alloc(), text, Streams::of(4_096, 1 << 22))?;
+    let outcome = run(
+        rt,
+        rt.alloc(),
+        &words,
+        &mut input,
+        &mut output,
+        &mut notes,
+        gate,
+    );
+    Ok(Gated {
+        outcome,
+        output,
+        notes,
+    })
 }
 
 /// The words of a text.

@@ -1,8 +1,7 @@
 //! Worked rows of the crates that neither wait nor start threads, as tests.
 //!
 //! They stand in a crate of their own, since a crate that has a test is proved twice. Those of the crates that share
-//! objects between threads are in `cts_rows_shared`, those of texts and whole runs in `cts_rows_top`. A row that a text
-//! can say is one of `cts_cases` instead.
+//! objects between threads are in `cts_rows_shared`. A row that a text can say, or a whole run, is one of `cts_cases` instead.
 #![tactic(auto)]
 
 #[cfg(test)]
@@ -13,6 +12,8 @@ mod blocks;
 mod buffers;
 #[cfg(test)]
 mod delays;
+#[cfg(test)]
+mod devices;
 #[cfg(test)]
 mod figures;
 #[cfg(test)]

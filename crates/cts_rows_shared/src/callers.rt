@@ -18,7 +18,7 @@ use cts_script::{Script, make_instance, read_script};
 use cts_session::laws::desk_is_shared;
 use cts_session::{Desk, Hands, Session};
 use cts_tree::Tree;
-use cts_work::{Gate, OpenGate};
+use cts_work::Gate;
 use std::alloc::Global;
 use std::sync::Wait;
 use std::sync::atomic::{AtomicU64, Ordering};
@@ -98,20 +98,6 @@ fn callers_begin_before_their_first_draws(rt: HostRuntime) -> Result<(), Fail> {
     let tree = Some((7_000, 119_000_000_000_000));
     same(&rt, "no edit, one sink", told, (0, 1, tree));
     same(&rt, "nothing made before", gate.counted(), (0b110, 0, 0));
-    Ok(())
-}
-
-#[test]
-fn the_last_sink_stays_and_none_leaves_the_die(rt: HostRuntime) -> Result<(), Fail> {
-    let text = b"callers 1\n1 remove 1\n1 move 1 21 0\nend\n";
-    let (told, replies) = told(&rt, rt.alloc(), &OpenGate, text)?;
-    let last = EditReply::Refused {
-        cause: EditCause::Last,
-        version: 0,
-    };
-    same(&rt, "the last sink", replies, (Some(last), None));
-    let tree = Some((7_000, 119_000_000_000_000));
-    same(&rt, "no edit, one sink", told, (0, 1, tree));
     Ok(())
 }
 

@@ -6,9 +6,8 @@ ghost use Rattle.cts_design.specs.Edits.{IsEdit};
 ghost use Rattle.cts_design.specs.Passes.{IsPassOf, instance_of};
 
 use crate::compare::same;
-use crate::instances::{instance, shade, sink, wall};
-use cts_block::Block;
-use cts_design::EditCause::{Full, InBlock, Known, Last, Long, Outside, Unknown};
+use crate::instances::{instance, sink};
+use cts_design::EditCause::{Full, Known, Long, Outside};
 use cts_design::laws::design_is_shared;
 use cts_design::{Design, Edit, EditCause, EditReply, Entry, send_edit, snapshot};
 use cts_instance::Instance;
@@ -20,15 +19,11 @@ use std::sync::Wait;
 use std::test::Fail;
 use std::thread::{Threads, join};
 
-fn begin(
-    alloc: Global,
-    sinks: &[Sink],
-    blocks: &[Block],
-) -> Result<(Turn<Design>, Pass<Design>), Fail>
+fn begin(alloc: Global, sinks: &[Sink]) -> Result<(Turn<Design>, Pass<Design>), Fail>
     ensures own { IfOk result (λ d. IsPassOf d.0 d.1) }
     ensures share { IfOk result (λ d. share_of d.1 ≡ 65536) }
 {
-    let instance = instance(alloc, sinks, blocks)?;
+    let instance = instance(alloc, sinks, &[])?;
     Ok(Design::start(alloc, &instance)?)
 }
 
@@ -141,19 +136,6 @@ fn closed<R: Abort>(rt: &R, design: Turn<Design>, pass: Pass<Design>) -> (Vec<En
     }
 }
 
-#[test]
-fn the_only_sink_stays(rt: HostRuntime) -> Result<(), Fail> {
-    let (design, mut pass) = begin(rt.alloc(), &[sink(1, 3, 4, 5)], &[])?;
-    replies(&rt, &design, &mut pass, remove(1), refused(Last, 0));
-    let outside = move_to(1, 21, 0);
-    replies(&rt, &design, &mut pass, outside, refused(Outside, 0));
-    let now = listed(&rt, &design, &mut pass, 0)?;
-    same(&rt, "the sinks", now, (0, 1, Some((1, 3, 4, 5))));
-    let (history, _) = closed(&rt, design, pass);
-    assert!(rt; history.is_empty());
-    Ok(())
-}
-
 /// Two sinks and a third one, which are edited five times.
 fn edit_three<R: Wait + Abort>(rt: &R, design: &Turn<Design>, pass: &mut Pass<Design>)
     requires own { IsPassOf design.now pass.old }
@@ -184,46 +166,13 @@ fn three(sinks: &[Sink]) -> Option<[Numbers; 3]> {
 
 #[test]
 fn edits_keep_their_order(rt: HostRuntime) -> Result<(), Fail> {
-    let (design, mut pass) = begin(rt.alloc(), &[sink(1, 0, 0, 5), sink(2, 10, 0, 10)], &[])?;
+    let (design, mut pass) = begin(rt.alloc(), &[sink(1, 0, 0, 5), sink(2, 10, 0, 10)])?;
     edit_three(&rt, &design, &mut pass);
     let (history, sinks) = closed(&rt, design, pass);
     let second = second_of_five(&history);
     same(&rt, "the second edit", second, Some(Edit::Remove { id: 1 }));
     let expected = [(2, 8, 1, 10), (9, 20, 20, 6), (1, 3, 3, 3)];
     same(&rt, "the sinks", three(&sinks), Some(expected));
-    Ok(())
-}
-
-/// Edits that are refused at the start, each for the first cause that there is.
-fn refuse_all<R: Wait + Abort>(rt: &R, design: &Turn<Design>, pass: &mut Pass<Design>)
-    requires own { IsPassOf design.now pass.old }
-    ensures own { IsPassOf design.now pass.new }
-{
-    replies(rt, design, pass, add(1, 21, 10, 5), refused(Known, 0));
-    replies(rt, design, pass, move_to(2, 10, 10), refused(Unknown, 0));
-    replies(rt, design, pass, remove(2), refused(Unknown, 0));
-    replies(rt, design, pass, set_cap(0, 1), refused(Unknown, 0));
-    replies(rt, design, pass, add(2, 10, 21, 5), refused(Outside, 0));
-    replies(rt, design, pass, add(2, 6, 14, 5), refused(InBlock, 0));
-    replies(rt, design, pass, move_to(1, 14, 6), refused(InBlock, 0));
-}
-
-/// A sink on the edge of the wall, which is moved into the shade.
-fn accept_two<R: Wait + Abort>(rt: &R, design: &Turn<Design>, pass: &mut Pass<Design>)
-    requires own { IsPassOf design.now pass.old }
-    ensures own { IsPassOf design.now pass.new }
-{
-    replies(rt, design, pass, add(2, 5, 10, 5), accepted(1));
-    replies(rt, design, pass, move_to(2, 2, 2), accepted(2));
-    replies(rt, design, pass, add(2, 20, 20, 5), refused(Known, 2));
-}
-
-#[test]
-fn the_first_cause_is_told(rt: HostRuntime) -> Result<(), Fail> {
-    let blocks = [wall(5, 5, 15, 15), shade(0, 0, 4, 4)];
-    let (design, mut pass) = begin(rt.alloc(), &[sink(1, 0, 0, 5)], &blocks)?;
-    refuse_all(&rt, &design, &mut pass);
-    accept_two(&rt, &design, &mut pass);
     Ok(())
 }
 
@@ -267,7 +216,7 @@ fn set_caps<R: Wait>(
 
 #[test]
 fn a_long_history_takes_no_more(rt: HostRuntime) -> Result<(), Fail> {
-    let (design, mut pass) = begin(rt.alloc(), &[sink(1, 3, 4, 5)], &[])?;
+    let (design, mut pass) = begin(rt.alloc(), &[sink(1, 3, 4, 5)])?;
     let last = set_caps(&rt, &design, &mut pass, 65_536);
     same(&rt, "the last edit", last, accepted(65_536));
     replies(
@@ -286,7 +235,7 @@ fn a_long_history_takes_no_more(rt: HostRuntime) -> Result<(), Fail> {
 
 #[test]
 fn a_full_list_takes_no_more(rt: HostRuntime) -> Result<(), Fail> {
-    let (design, mut pass) = begin(rt.alloc(), &[sink(1, 3, 4, 5)], &[])?;
+    let (design, mut pass) = begin(rt.alloc(), &[sink(1, 3, 4, 5)])?;
     let last = add_sinks(&rt, &design, &mut pass, 65_537);
     same(&rt, "the last sink", last, accepted(65_535));
     let more = add(0, 1, 1, 1);
@@ -360,7 +309,7 @@ fn accepted_caller(one: EditReply, two: EditReply) -> Option<u32> {
 
 #[test]
 fn one_of_two_threads_adds_a_sink(rt: HostRuntime) -> Result<(), Fail> {
-    let (design, pass) = begin(rt.alloc(), &[sink(1, 3, 4, 5)], &[])?;
+    let (design, pass) = begin(rt.alloc(), &[sink(1, 3, 4, 5)])?;
     let (first, second) = design.split(pass);
     let (one, two, pass) = add_beside(&rt, &design, first, second);
     let (history, sinks) = closed(&rt, design, pass);

@@ -13,7 +13,7 @@ pub(crate) fn bit(number: u32) -> u64 {
 
 /// A gate that lets the two of a pair of numbers go once both have begun, and keeps what it saw.
 #[derive(Drop)]
-pub(crate) struct Meeting {
+pub struct Meeting {
     pair: u64,
     begun: AtomicU64,
     late: AtomicU64,
@@ -23,7 +23,7 @@ pub(crate) struct Meeting {
 
 impl Meeting {
     /// The gate of two numbers.
-    pub(crate) fn of(first: u32, second: u32) -> Meeting {
+    pub fn of(first: u32, second: u32) -> Meeting {
         Meeting {
             pair: bit(first) | bit(second),
             begun: AtomicU64::new(0),
@@ -40,14 +40,14 @@ impl Meeting {
 
     /// A bit for each number that began, how many of the pair did not meet the other, and how many subtrees were
     /// made before both had begun.
-    pub(crate) fn counted(&self) -> (u64, u64, u64) {
+    pub fn counted(&self) -> (u64, u64, u64) {
         let begun = self.begun.load(Ordering::SeqCst);
         let late = self.late.load(Ordering::SeqCst);
         (begun, late, self.early.load(Ordering::SeqCst))
     }
 
     /// How many subtrees were made with each number below 4, in 16 bits each, the least number last.
-    pub(crate) fn made(&self) -> u64 {
+    pub fn made(&self) -> u64 {
         self.made.load(Ordering::SeqCst)
     }
 }

@@ -34,17 +34,6 @@ pub(crate) const fn wall(x1: i64, y1: i64, x2: i64, y2: i64) -> Block {
     }
 }
 
-/// A block that no buffer stands in, in nm.
-pub(crate) const fn shade(x1: i64, y1: i64, x2: i64, y2: i64) -> Block {
-    Block {
-        kind: Kind::Buffer,
-        x1,
-        y1,
-        x2,
-        y2,
-    }
-}
-
 /// The parts of an instance of these sinks and blocks.
 fn parts(alloc: Global, sinks: Sinks, blocks: Blocks) -> Parts {
     Parts {

@@ -1,7 +1,8 @@
 //! Worked rows of the crates that share objects between threads, as tests: turns, deals, memos and their hashes, designs, sessions,
 //! shapes by workers, workers and callers.
 //!
-//! They stand in a crate of their own, since a crate that has a test is proved twice.
+//! They stand in a crate of their own, since a crate that has a test is proved twice. The gate at which threads meet
+//! serves `cts_cases` too.
 #![tactic(auto)]
 
 #[cfg(test)]
@@ -14,8 +15,7 @@ mod deals;
 mod designs;
 #[cfg(test)]
 mod drawing;
-#[cfg(test)]
-mod gates;
+pub mod gates;
 #[cfg(test)]
 mod hashes;
 #[cfg(test)]
