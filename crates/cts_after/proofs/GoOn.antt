@@ -15,7 +15,7 @@ use Rattle.cts_report.specs.Report.{report_text}
 use Rattle.cts_check.specs.declared.verdict.Verdict.TheVariants.{Yes}
 use Rattle.cts_check.specs.Verdict.{IsVerdict}
 use Rattle.cts_check.proofs.Accepted.{accepted}
-use Rattle.cts_history_reader.proofs.Openings.{history_texts_open_lem}
+use Rattle.cts_history.proofs.Openings.{history_texts_open_lem}
 use Rattle.cts_after.specs.Outcomes.{instance_after}
 use Rattle.cts_after.specs.Laws.{EditsGoOn}
 

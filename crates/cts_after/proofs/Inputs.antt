@@ -5,7 +5,7 @@ use Rattle.cts_instance.specs.declared.parts.Parts.{Parts}
 use Rattle.cts_read.specs.declared.stop.ReadStop.{ReadStop}
 use Rattle.cts_read.specs.declared.stop.ReadStop.TheVariants.{Refused, NoMemory}
 use Rattle.cts_read.specs.Grammar.{Refuses}
-use Rattle.cts_history_reader.specs.Opening.{Opens}
+use Rattle.cts_history.specs.Opening.{Opens}
 use Rattle.cts_notes.specs.Front.{SpellsFront, front_of, input_limit}
 use Rattle.cts_after.specs.declared.stop.Stop.{Stop}
 use Rattle.cts_after.specs.declared.stop.Stop.TheVariants as stop

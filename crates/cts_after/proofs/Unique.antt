@@ -6,8 +6,8 @@ use Rattle.cts_edit.specs.declared.edit.EditCause.{EditCause}
 use Rattle.cts_edit.specs.declared.edit.Entry.{Entry}
 use Rattle.cts_edit.specs.Decide.{decide}
 use Rattle.cts_edit.specs.Sound.{IsSound}
-use Rattle.cts_history_reader.specs.Opening.{Opens}
-use Rattle.cts_history_reader.proofs.Openings.{history_is_one_lem}
+use Rattle.cts_history.specs.Opening.{Opens}
+use Rattle.cts_history.proofs.Openings.{history_is_one_lem}
 use Rattle.cts_after.specs.declared.outcome.Outcome.{Outcome}
 use Rattle.cts_after.specs.declared.outcome.Outcome.TheVariants.{Made, Refused}
 use Rattle.cts_after.specs.Outcomes.{IsOutcome, IsRefusedAt}

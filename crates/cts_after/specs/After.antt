@@ -8,7 +8,7 @@ use Rattle.cts_instance.specs.declared.parts.Parts.{Parts}
 use Rattle.cts_edit.specs.declared.edit.Entry.{Entry}
 use Rattle.cts_read.specs.declared.stop.ReadStop.{ReadStop}
 use Rattle.cts_read.specs.declared.stop.ReadStop.TheVariants as text
-use Rattle.cts_history_reader.specs.Opening.{Opens, OpensNone}
+use Rattle.cts_history.specs.Opening.{Opens, OpensNone}
 use Rattle.cts_notes.specs.Front.{SpellsFront, front_of, input_limit}
 use Rattle.cts_notes.specs.declared.status.Status.{Status}
 use Rattle.cts_notes.specs.declared.status.Status.TheVariants as status

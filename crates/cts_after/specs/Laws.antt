@@ -8,9 +8,9 @@ use Rattle.cts_elmore.specs.Figures.{AreFigures}
 use Rattle.cts_plain.specs.Synthesis.{IsSynthesis, made}
 use Rattle.cts_edit.specs.declared.edit.Entry.{Entry}
 use Rattle.cts_edit.specs.Sound.{IsSound}
-use Rattle.cts_callers.specs.declared.reply.Reply.{Reply}
+use Rattle.cts_history.specs.declared.reply.Reply.{Reply}
 use Rattle.cts_history.specs.History.{history_text}
-use Rattle.cts_history_reader.specs.Opening.{IsHistory}
+use Rattle.cts_history.specs.Opening.{IsHistory}
 use Rattle.cts_report.specs.Report.{report_text}
 use Rattle.cts_check.specs.declared.verdict.Verdict.TheVariants.{Yes}
 use Rattle.cts_check.specs.Verdict.{IsVerdict}

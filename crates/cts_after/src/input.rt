@@ -4,14 +4,14 @@ ghost use Rattle.std.specs.Prelude.{◌≡◌, ◌≤◌, length, drop, All, IfS
 ghost use Rattle.std.specs.Io.KnownBytes.{IsAtEnd};
 ghost use Rattle.cts_io.specs.Faults.{Rose};
 ghost use Rattle.cts_edit.specs.Edits.{IsEdit};
-ghost use Rattle.cts_history_reader.specs.Opening.{Opens};
+ghost use Rattle.cts_history.specs.Opening.{Opens};
 ghost use Rattle.cts_notes.specs.Front.{SpellsFront, input_limit};
 ghost use Rattle.cts_after.specs.After.{ComesTo, Explains, ExplainsRest, SpellsBoth};
 
 use crate::outcome::{Outcome, outcome_of};
 use crate::stop::Stop;
 use cts_edit::Entry;
-use cts_history_reader::{Reading, read_history};
+use cts_history::{Reading, read_history};
 use cts_instance::Instance;
 use cts_io::{ByteSource, read_all};
 use cts_notes::INPUT_LIMIT;

@@ -3,11 +3,10 @@
 ghost use Rattle.std.specs.Prelude.{◌≡◌, ◌<◌, ◌^◌, [], All, IfOk, IfSome, IfNone};
 ghost use Rattle.cts_io.specs.Text.{Puts, Writes};
 ghost use Rattle.cts_edit.specs.Edits.{IsEdit};
-ghost use Rattle.cts_design.specs.Designs.{base_of, told_by};
+ghost use Rattle.cts_edit.specs.Journals.{base_of, told_by};
 ghost use Rattle.cts_after.specs.Outcomes.{IsOutcome, IsRefusedAt, answer_of, no_line, text_of};
 
-use cts_design::{Design, EditReply};
-use cts_edit::{EditCause, Entry};
+use cts_edit::{EditCause, EditReply, Entry, Journal};
 use cts_history::{put_cause, put_whole};
 use cts_instance::Instance;
 use cts_io::{ByteSink, SinkBuffer, WriteEnd};
@@ -41,15 +40,15 @@ pub struct Refusal {
 }
 
 /// Makes the edits of a history one after another, up to the first that is refused.
-fn make_all(design: &mut Design, history: &[Entry]) -> Result<Option<Refusal>, NoMemory>
+fn make_all(journal: &mut Journal, history: &[Entry]) -> Result<Option<Refusal>, NoMemory>
     requires within { All (λ entry. IsEdit entry.edit) history.now }
-    requires fresh { told_by design.old ≡ [] }
-    ensures base { base_of design.new ≡ base_of design.old }
-    ensures made { IfOk result (λ refusal. IfNone refusal (told_by design.new ≡ history.now)) }
-    ensures refused { IfOk result (λ refusal. IfSome refusal (λ r. IsRefusedAt (base_of design.old) history.now r.number r.cause)) }
+    requires fresh { told_by journal.old ≡ [] }
+    ensures base { base_of journal.new ≡ base_of journal.old }
+    ensures made { IfOk result (λ refusal. IfNone refusal (told_by journal.new ≡ history.now)) }
+    ensures refused { IfOk result (λ refusal. IfSome refusal (λ r. IsRefusedAt (base_of journal.old) history.now r.number r.cause)) }
 {
     for index in 0..history.len() {
-        match design.change(history[index]) {
+        match journal.change(history[index]) {
             EditReply::Accepted { .. } => {}
             EditReply::Refused { cause, .. } => {
                 return Ok(Some(Refusal {
@@ -72,11 +71,11 @@ pub fn outcome_of(
     requires { All (λ entry. IsEdit entry.edit) history.now }
     ensures { IfOk result (IsOutcome instance.now history.now) }
 {
-    let mut design = Design::of(alloc, instance)?;
-    if let Some(Refusal { number, cause }) = make_all(&mut design, history)? {
+    let mut journal = Journal::of(alloc, instance)?;
+    if let Some(Refusal { number, cause }) = make_all(&mut journal, history)? {
         return Ok(Outcome::Refused { number, cause });
     }
-    let (_, sinks) = design.into_lists();
+    let (_, sinks) = journal.into_lists();
     let version = instance.with_sinks(alloc, sinks)?;
     Ok(Outcome::Made { instance: version })
 }

@@ -3,15 +3,15 @@ use Rattle.std.proofs.Common.{◌≡◌, ℕ, ◌+◌, ◌<◌, ◌≤◌, List,
 use Rattle.std.proofs.lemmas.List.Elements.{All-push, filter_map-append}
 use Rattle.std.proofs.lemmas.List.Quantifiers.{all_pairs_push}
 use Rattle.cts_postorder.proofs.Zips.{all_zip-push}
-use Rattle.cts_turn.proofs.Prefixes.{prefix_self, prefix_trans, prefix_length}
+use Rattle.cts_list.proofs.Prefixes.{prefix_self, prefix_trans, prefix_length}
 use Rattle.cts_session.specs.Desks.{base_of}
 use Rattle.cts_session.specs.Sessions.{AtDesk, edits_of}
 use Rattle.cts_script.specs.declared.script.ScriptStep.{ScriptStep}
-use Rattle.cts_callers.specs.declared.reply.Reply.{Reply}
-use Rattle.cts_callers.specs.Replies.{IsReply, accepted_version, version_of}
-use Rattle.cts_callers.specs.Legal.{Follows, IsAnswered, accepted}
+use Rattle.cts_history.specs.declared.reply.Reply.{Reply}
+use Rattle.cts_history.specs.Replies.{IsReply, accepted_version, version_of}
+use Rattle.cts_history.specs.Legal.{Follows, IsAnswered, accepted}
 use Rattle.cts_callers.specs.Turns.{IsNext, Keeps}
-use Rattle.cts_callers.proofs.Longer.{replies_stay}
+use Rattle.cts_history.proofs.Longer.{replies_stay}
 
 -- so far these steps are answered, and no reply tells a later version than the session has seen
 pub record Gone (old now : AtDesk) (steps : List ScriptStep) (replies : List Reply) : Type 0 where

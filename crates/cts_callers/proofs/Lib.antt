@@ -1,6 +1,3 @@
-pub mod Longer
-pub mod Rising
-pub mod Once
 pub mod Turning
 pub mod Going
 pub mod Serving

@@ -21,12 +21,13 @@ use Rattle.cts_session.specs.Sessions.{AtDesk, at_desk, edits_of, entries_of, se
 use Rattle.cts_script.specs.declared.script.ScriptStep.{ScriptStep}
 use Rattle.cts_callers.specs.declared.callers.Served.{Served}
 use Rattle.cts_callers.specs.declared.edit.Run.{Run}
-use Rattle.cts_callers.specs.declared.reply.Reply.{Reply}
-use Rattle.cts_callers.specs.Legal.{AreAnswered, all_accepted}
+use Rattle.cts_history.specs.declared.reply.Reply.{Reply}
+use Rattle.cts_history.specs.Legal.{AreAnswered, all_accepted}
 use Rattle.cts_callers.specs.Runs.{IsLastTree, IsRun, IsSynthesisOf}
-use Rattle.cts_callers.specs.Turns.{AreServed, HandsKeep, lists_of}
-use Rattle.cts_callers.proofs.Longer.{all_answered_stay}
-use Rattle.cts_callers.proofs.Once.{all_distinct}
+use Rattle.cts_callers.specs.Turns.{AreServed, HandsKeep}
+use Rattle.cts_history.specs.Legal.{lists_of}
+use Rattle.cts_history.proofs.Longer.{all_answered_stay}
+use Rattle.cts_history.proofs.Once.{all_distinct}
 use Rattle.cts_callers.proofs.Turning.{end_is, keeps_draw}
 
 module _ (old new : AtDesk) (desk : new.desk ≡ old.desk) (caller : new.caller ≡ old.caller) (goes_on : IsPrefix (edits_of old) (edits_of new))

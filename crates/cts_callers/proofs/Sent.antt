@@ -3,7 +3,7 @@ use denote.Struct.Declared.{shape}
 use denote.Param.Send.{IsSend, recorded_send, struct_send, sendable}
 use Rattle.std.proofs.Crossing.{crosses}
 use Rattle.cts_session.proofs.Sent.{hands_field_send}
-use Rattle.cts_callers.specs.contracts.reply.Reply as reply
+use Rattle.cts_history.specs.contracts.reply.Reply as reply
 use Rattle.cts_callers.specs.contracts.callers.Served as served
 
 pub reply_send : IsSend reply.the_row

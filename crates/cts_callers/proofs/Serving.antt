@@ -4,7 +4,7 @@ use mathlib.Core.List.{IsPrefix}
 use Rattle.std.proofs.lemmas.List.{append_assoc, append-nil, map-append}
 use Rattle.std.proofs.lemmas.Result.{IfOk-at_ok, IfOk-weaker}
 use Rattle.cts_num.specs.declared.error.NoMemory.{NoMemory}
-use Rattle.cts_turn.proofs.Prefixes.{prefix_self, prefix_trans}
+use Rattle.cts_list.proofs.Prefixes.{prefix_self, prefix_trans}
 use Rattle.cts_instance.specs.declared.parts.Parts.{Parts}
 use Rattle.cts_edit.specs.declared.edit.Entry.{Entry}
 use Rattle.cts_session.specs.declared.desk.Desk.{Desk}
@@ -13,10 +13,11 @@ use Rattle.cts_session.specs.Desks.{AreHandsOf, AreJoined, Known, base_of, known
 use Rattle.cts_session.specs.Sessions.{AtDesk, edits_of}
 use Rattle.cts_script.specs.declared.script.ScriptStep.{ScriptStep}
 use Rattle.cts_callers.specs.declared.callers.Served.{Served}
-use Rattle.cts_callers.specs.declared.reply.Reply.{Reply}
-use Rattle.cts_callers.specs.Legal.{AreAnswered, IsAnswered, accepted, all_accepted}
-use Rattle.cts_callers.specs.Turns.{AreServed, AreTogether, HandsKeep, IsOnly, Keeps, lists_of}
-use Rattle.cts_callers.proofs.Longer.{all_answered_stay}
+use Rattle.cts_history.specs.declared.reply.Reply.{Reply}
+use Rattle.cts_history.specs.Legal.{AreAnswered, IsAnswered, accepted, all_accepted}
+use Rattle.cts_callers.specs.Turns.{AreServed, AreTogether, HandsKeep, IsOnly, Keeps}
+use Rattle.cts_history.specs.Legal.{lists_of}
+use Rattle.cts_history.proofs.Longer.{all_answered_stay}
 
 -- the versions of some callers, and of others
 pub all_accepted-append : (xs ys : List (List Reply)) → all_accepted (xs ++ ys) ≡ all_accepted xs ++ all_accepted ys

@@ -3,7 +3,7 @@ use Rattle.std.proofs.Common.{◌≡◌, ◌≢◌, ℕ, ◌+◌, ◌-◌, List,
 use mathlib.Core.List.{IsPrefix}
 use Rattle.std.proofs.lemmas.List.{take_all, take-append-le, get_or_at}
 use Rattle.std.proofs.lemmas.Option.{slice_get-get_or}
-use Rattle.cts_turn.proofs.Prefixes.{prefix_length}
+use Rattle.cts_list.proofs.Prefixes.{prefix_length}
 use Rattle.cts_instance.specs.declared.parts.Parts.{Parts}
 use Rattle.cts_instance.specs.Validity.{with_sinks}
 use Rattle.cts_elmore.specs.Figures.{AreFigures}
@@ -20,18 +20,18 @@ use Rattle.cts_design.specs.Decide.{decide}
 use Rattle.cts_design.specs.Passes.{IsEdited, made_in, version_in}
 use Rattle.cts_memo.specs.declared.entry.MemoEntry.{MemoEntry}
 use Rattle.cts_topo.specs.Topology.{shape_of}
-use Rattle.cts_totals.specs.Totals.{AreTotalsOver}
+use Rattle.cts_plain.specs.Totals.{AreTotalsOver}
 use Rattle.cts_session.specs.declared.draw.VersionTotals.{VersionTotals}
 use Rattle.cts_session.specs.declared.draw.TreeEnd.TheVariants.{None as no_tree}
 use Rattle.cts_session.specs.Desks.{Known, base_of, known_by, version_of}
 use Rattle.cts_session.specs.Draws.{EndsDraw, IsSummedUp}
 use Rattle.cts_session.specs.Sessions.{AtDesk, edits_of}
 use Rattle.cts_script.specs.declared.script.Act.TheVariants.{Change, Draw}
-use Rattle.cts_callers.specs.declared.reply.Reply.TheVariants.{Edited, Drew, NoTree}
-use Rattle.cts_callers.specs.Replies.{IsEntry, accepted_version, at_version, entry_of, version_of as told_by}
+use Rattle.cts_history.specs.declared.reply.Reply.TheVariants.{Edited, Drew, NoTree}
+use Rattle.cts_history.specs.Replies.{IsEntry, accepted_version, at_version, entry_of, version_of as told_by}
 use Rattle.cts_callers.specs.Turns.{IsNext, Keeps}
-use Rattle.cts_callers.specs.Legal.{accepted}
-use Rattle.cts_callers.proofs.Once.{accepted-none, accepted-some, made_some, refused_none, drew_none, no_tree_none}
+use Rattle.cts_history.specs.Legal.{accepted}
+use Rattle.cts_history.proofs.Once.{accepted-none, accepted-some, made_some, refused_none, drew_none, no_tree_none}
 
 -- the edit that was appended is the entry of its version
 appended : (base : Parts) (met after : List Entry) (entry : Entry) (v : ℕ) → after ≡ met ++ entry ∷ [] → v ≡ length met + 1 → decide base met entry.edit ≡ None

@@ -16,8 +16,9 @@ use Rattle.cts_session.specs.Draws.{IsDrawn, KnowsTree}
 use Rattle.cts_session.specs.Sessions.{AtDesk, edits_of, entries_of}
 use Rattle.cts_script.specs.declared.script.ScriptStep.{ScriptStep}
 use Rattle.cts_callers.specs.declared.edit.Run.{Run}
-use Rattle.cts_callers.specs.Legal.{IsLegal}
-use Rattle.cts_callers.specs.Turns.{Keeps, lists_of}
+use Rattle.cts_history.specs.Legal.{IsLegal}
+use Rattle.cts_callers.specs.Turns.{Keeps}
+use Rattle.cts_history.specs.Legal.{lists_of}
 
 -- The synthesis of the sinks after these edits: their tree with its figures, or why they have none.
 pub record IsSynthesisOf (base : Parts) (edits : List Entry) (synthesis : Result (List TreeNode × Figures) NoTree) : Type 0 where

@@ -1,5 +1,5 @@
 -- What a session's calls leave, where a caller goes through its script.
-use Rattle.std.specs.Prelude.{◌≡◌, ℕ, ◌+◌, ◌^◌, ◌<◌, ◌≤◌, List, [], ◌∷◌, ◌++◌, map, length, Some, Result, Ok, IfOk, Vec}
+use Rattle.std.specs.Prelude.{◌≡◌, ℕ, ◌+◌, ◌^◌, ◌<◌, ◌≤◌, List, [], ◌∷◌, ◌++◌, length, Some, Result, Ok, IfOk, Vec}
 use Rattle.std.specs.Global.{Global}
 use Rattle.cts_num.specs.declared.error.NoMemory.{NoMemory}
 use Rattle.cts_session.specs.declared.desk.Desk.{Desk}
@@ -9,9 +9,9 @@ use mathlib.Core.List.{IsPrefix}
 use Rattle.cts_session.specs.Desks.{AreHandsOf, base_of, known_by}
 use Rattle.cts_session.specs.Sessions.{AtDesk, edits_of}
 use Rattle.cts_script.specs.declared.script.ScriptStep.{ScriptStep}
-use Rattle.cts_callers.specs.declared.reply.Reply.{Reply}
-use Rattle.cts_callers.specs.Legal.{AreAnswered, accepted, all_accepted}
-use Rattle.cts_callers.specs.Replies.{IsReply, accepted_version, version_of}
+use Rattle.cts_history.specs.declared.reply.Reply.{Reply}
+use Rattle.cts_history.specs.Legal.{AreAnswered, accepted, all_accepted, lists_of}
+use Rattle.cts_history.specs.Replies.{IsReply, accepted_version, version_of}
 
 -- Desk, number and shares are the same, and no less of the history is seen, to which so many edits were added.
 pub record Keeps (old new : AtDesk) (made : ℕ) : Type 0 where
@@ -29,10 +29,6 @@ pub record IsNext (old new : AtDesk) (step : ScriptStep) (reply : Reply) : Type 
   pub right : IsReply (base_of old.desk) (edits_of new) old.caller step reply
   pub version : version_of reply ≡ length (edits_of new)
   pub later : (version : ℕ) → accepted_version reply ≡ Some version → length (edits_of old) < version
-
--- the lists of replies
-abbrev pub lists_of : List (Vec Reply Global) → List (List Reply)
-lists_of replies = map (λ r. r.items) replies
 
 -- the list of one
 abbrev pub IsOnly : Result (Vec Reply Global) NoMemory → Vec (Vec Reply Global) Global → Type 0

@@ -5,12 +5,12 @@ ghost use Rattle.cts_design.specs.Edits.{IsEdit};
 ghost use Rattle.cts_script.specs.Steps.{IsAct};
 ghost use Rattle.cts_session.specs.Desks.{base_of};
 ghost use Rattle.cts_session.specs.Sessions.{edits_of};
-ghost use Rattle.cts_callers.specs.Legal.{IsAnswered, accepted};
-ghost use Rattle.cts_callers.specs.Replies.{IsReply, accepted_version, version_of};
+ghost use Rattle.cts_history.specs.Legal.{IsAnswered, accepted};
+ghost use Rattle.cts_history.specs.Replies.{IsReply, accepted_version, version_of};
 ghost use Rattle.cts_callers.specs.Turns.{IsNext, Keeps};
 
-use crate::reply::Reply;
 use cts_design::{Edit, EditReply};
+use cts_history::Reply;
 use cts_merge::Steps;
 use cts_num::NoMemory;
 use cts_script::{Act, Script, ScriptStep};

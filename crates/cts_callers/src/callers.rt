@@ -4,11 +4,11 @@ ghost use Rattle.std.specs.Prelude.{◌≡◌, ◌≤◌, ◌<◌, ◌+◌, [], 
 ghost use denote.Param.Send.{IsSync};
 ghost use Rattle.cts_session.specs.Desks.{AreHandsOf, base_of};
 ghost use Rattle.cts_session.specs.Sessions.{edits_of};
-ghost use Rattle.cts_callers.specs.Legal.{IsAnswered, accepted};
+ghost use Rattle.cts_history.specs.Legal.{IsAnswered, accepted};
 ghost use Rattle.cts_callers.specs.Turns.{AreReady, AreServed, AreTogether, IsOnly, Keeps};
 
 use crate::answer::go_through;
-use crate::reply::Reply;
+use cts_history::Reply;
 use cts_merge::Steps;
 use cts_num::NoMemory;
 use cts_script::Script;

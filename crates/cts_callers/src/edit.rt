@@ -7,10 +7,10 @@ ghost use Rattle.cts_callers.specs.Turns.{AreReady, AreServed};
 ghost use Rattle.cts_callers.specs.Runs.{IsLastTree, IsRun};
 
 use crate::callers::{Served, run_from};
-use crate::reply::Reply;
 use crate::secret::secret_of;
 use cts_design::Entry;
 use cts_elmore::Figures;
+use cts_history::Reply;
 use cts_instance::Instance;
 use cts_memo::Table;
 use cts_merge::Steps;

@@ -1,19 +1,8 @@
-//! What legal histories mean.
+//! What holds of what every run of callers leaves.
 
-ghost use Rattle.cts_callers.specs.Laws.{AcceptedStandOnce, AnswersStay, EveryEntryIsAccepted};
+ghost use Rattle.cts_callers.specs.Laws.{RunsCanBePrinted};
 
-/// Replies that are right at a history are right at every longer one.
-pub fn answers_stay()
-    ensures { AnswersStay }
-{}
-
-/// Every entry of a legal history is an edit that one caller was told to be accepted.
-pub fn every_entry_is_accepted()
-    ensures { EveryEntryIsAccepted }
-{}
-
-/// In a legal history each caller's accepted edits stand once and in their order, and nothing else of
-/// that caller.
-pub fn accepted_stand_once()
-    ensures { AcceptedStandOnce }
+/// The history and the replies of a run can be printed.
+pub fn runs_can_be_printed()
+    ensures { RunsCanBePrinted }
 {}

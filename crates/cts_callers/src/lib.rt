@@ -10,8 +10,6 @@ mod answer;
 mod callers;
 mod edit;
 pub mod laws;
-mod reply;
 mod secret;
 
 pub use edit::{Run, run_callers};
-pub use reply::Reply;

@@ -15,7 +15,7 @@ use Rattle.cts_deal.specs.Steps.{Draws}
 use Rattle.cts_deal.specs.Hands.{IsDealt}
 use Rattle.cts_deal.proofs.Counts.{total_append, total_set, total_le, total_only, one_le_total, two_le_total}
 use Rattle.cts_deal.proofs.Seats.{put_here, each_set, each_snoc}
-use Rattle.cts_deal.proofs.Distinct.{times_append, times_more, times_else, times_le_length, times_from_at, contains_from_times, distinct_from_times}
+use Rattle.cts_deal.proofs.Times.{times_append, times_more, times_else, times_le_length, times_from_at, contains_from_times, distinct_from_times}
 
 abbrev share_in : View → ℕ
 share_in v = v.share

@@ -1,5 +1,5 @@
 pub mod Counts
 pub mod Seats
-pub mod Distinct
+pub mod Times
 pub mod Keeps
 pub mod Sent

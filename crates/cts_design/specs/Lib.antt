@@ -1,5 +1,4 @@
 pub use Rattle.cts_edit.specs.Edits
-pub mod Roster
 pub use Rattle.cts_edit.specs.Decide
 pub use Rattle.cts_edit.specs.Sound
 pub mod Replies

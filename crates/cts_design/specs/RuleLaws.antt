@@ -1,9 +1,6 @@
 -- What the rules of a design are proved from.
 use Rattle.std.specs.Prelude.{◌≡◌, ◌⊎◌, List, [], ◌∷◌, ◌++◌}
 use Rattle.std.proofs.Common.{refl, inl, inr}
-use Rattle.std.proofs.Props.{props}
-use Rattle.cts_edit.specs.declared.edit.Edit.{Edit}
-use Rattle.cts_edit.specs.declared.edit.Edit.TheVariants.{Add, Remove, Move, SetCap}
 use Rattle.cts_edit.specs.declared.edit.Entry.{Entry}
 use Rattle.cts_edit.specs.declared.reply.EditReply.{EditReply}
 use Rattle.cts_edit.specs.declared.reply.EditReply.TheVariants.{Accepted, Refused, NoMemory}
@@ -11,16 +8,8 @@ use Rattle.cts_design.specs.declared.call.DesignCall.{DesignCall}
 use Rattle.cts_design.specs.declared.call.DesignCall.TheVariants.{Change, Snapshot}
 use Rattle.cts_design.specs.declared.call.DesignReply.{DesignReply}
 use Rattle.cts_design.specs.declared.call.DesignReply.TheVariants.{Changed, Listed, NoMemory as no_list}
-use Rattle.cts_edit.specs.Edits.{IsEdit}
 use Rattle.cts_edit.specs.Replies.{after_edit}
 use Rattle.cts_design.specs.Replies.{history_after}
-
--- that an edit is within the limits is a mere fact
-pub edit_prop : (edit : Edit) → IsProp (IsEdit edit)
-edit_prop (Add id x y c) = hlevel props
-edit_prop (Remove id) = hlevel props
-edit_prop (Move id x y) = hlevel props
-edit_prop (SetCap id c) = hlevel props
 
 -- the history stays, or has one entry more
 abbrev Appends : List Entry → List Entry → Type 0

@@ -1,98 +1,26 @@
 //! The design: the sinks of an instance, and the edits that were accepted so far.
 
-ghost use Rattle.std.specs.Prelude.{◌≡◌, ◌≤◌, ◌++◌, ◌∷◌, [], false, length, IfOk, OnOk, OnErr};
-ghost use Rattle.std.proofs.Props.{props};
-ghost use Rattle.cts_instance.specs.Validity.{IsValid};
-ghost use Rattle.cts_edit.specs.Edits.{IsEdit, has_id, applied, after};
-ghost use Rattle.cts_edit.specs.Decide.{id_of, is_known, walls_of};
-ghost use Rattle.cts_edit.specs.Sound.{IsSound};
-ghost use Rattle.cts_design.specs.RuleLaws.{edit_prop};
-
 use crate::call::{DesignCall, DesignReply};
-use crate::roster::Roster;
-use cts_block::Block;
-use cts_edit::{Edit, EditCause, EditReply, Entry, Facts, cause_by, id_of, is_in_block, walls_of};
-use cts_geom::Die;
+use cts_edit::{EditReply, Entry, Journal};
 use cts_instance::Instance;
 use cts_num::NoMemory;
 use cts_turn::Object;
 use cts_units::Sink;
 use std::alloc::Global;
-use std::snapshot::Snapshot;
 
-/// The sinks of an instance, and the edits that were accepted so far, at most 65,536.
+/// The sinks of an instance, and the edits that were accepted so far, at most 65,536: a journal that threads may share.
 #[derive(Drop)]
 pub struct Design {
-    history: Vec<Entry>,
-    sinks: Roster,
-    die: Die,
-    walls: Vec<Block>,
-    base: Snapshot<Instance>,
-    ghost valid: { IsValid base.value } by { Prim.hlevel props },
-    ghost same_die: { die ≡ base.value.die },
-    ghost same_walls: { walls.items ≡ walls_of base.value.blocks },
-    ghost kept: { sinks ≡ after base.value.sinks history.items },
-    ghost sound: { IsSound base.value history.items } by { Prim.hlevel (props, edit_prop) },
-    ghost short: { length history.items ≤ 65536 },
-}
-
-/// Makes an edit of an id that fits it. Want of memory changes nothing.
-fn apply(sinks: &mut Roster, edit: Edit) -> Result<(), NoMemory>
-    requires within { IsEdit edit }
-    requires new { is_known (has_id (id_of edit) sinks.old) edit ≡ false }
-    ensures ok { OnOk result (sinks.new ≡ applied edit sinks.old) }
-    ensures err { OnErr result (sinks.new ≡ sinks.old) }
-{
-    match edit {
-        Edit::Add { id, x, y, cap } => sinks.add(Sink {
-            id,
-            x,
-            y,
-            cap,
-            offset: 0,
-        }),
-        Edit::Remove { id } => {
-            sinks.remove(id);
-            Ok(())
-        }
-        Edit::Move { id, x, y } => {
-            sinks.move_to(id, x, y);
-            Ok(())
-        }
-        Edit::SetCap { id, cap } => {
-            sinks.set_cap(id, cap);
-            Ok(())
-        }
-    }
-}
-
-/// Makes an edit and appends it to the history. Want of memory changes nothing.
-fn append(history: &mut Vec<Entry>, sinks: &mut Roster, entry: Entry) -> Result<(), NoMemory>
-    requires within { IsEdit entry.edit }
-    requires new { is_known (has_id (id_of entry.edit) sinks.old) entry.edit ≡ false }
-    ensures history { OnOk result (history.new.items ≡ history.old.items ++ entry ∷ []) }
-    ensures sinks { OnOk result (sinks.new ≡ applied entry.edit sinks.old) }
-    ensures same_history { OnErr result (history.new.items ≡ history.old.items) }
-    ensures same_sinks { OnErr result (sinks.new ≡ sinks.old) }
-{
-    history.push(entry)?;
-    match apply(sinks, entry.edit) {
-        Ok(()) => Ok(()),
-        Err(NoMemory) => {
-            history.pop();
-            Err(NoMemory)
-        }
-    }
+    journal: Journal,
 }
 
 impl Design {
-    ghost use Rattle.std.specs.Prelude.{◌≡◌, [], length, IfOk};
+    ghost use Rattle.std.specs.Prelude.{◌≡◌, [], IfOk};
     ghost use Rattle.cts_instance.specs.Validity.{IsValid, with_sinks};
     ghost use Rattle.cts_edit.specs.Edits.{IsEdit, after};
-    ghost use Rattle.cts_edit.specs.Decide.{decide};
-    ghost use Rattle.cts_design.specs.Designs.{base_of, told_by};
     ghost use Rattle.cts_edit.specs.Sound.{IsSound};
     ghost use Rattle.cts_edit.specs.Replies.{IsDecided, after_edit};
+    ghost use Rattle.cts_design.specs.Designs.{base_of, told_by};
     ghost use Rattle.cts_design.specs.Replies.{Allows};
 
     /// The design of an instance that has no edits yet.
@@ -100,28 +28,8 @@ impl Design {
         ensures base { IfOk result (λ design. base_of design ≡ instance.now) }
         ensures told { IfOk result (λ design. told_by design ≡ []) }
     {
-        let sinks = Roster::of(alloc, instance.sinks())?;
-        let walls = walls_of(alloc, instance.blocks())?;
-        Ok(Design {
-            history: Vec::new(alloc),
-            sinks,
-            die: instance.die(),
-            walls,
-            base: Snapshot::of(instance),
-        })
-    }
-
-    /// The first cause that refuses an edit now.
-    fn cause_of(&self, edit: Edit) -> Option<EditCause>
-        ensures { result ≡ decide (base_of self.now) (told_by self.now) edit }
-    {
-        let facts = Facts {
-            there: self.sinks.has(id_of(edit)),
-            walled: is_in_block(self.walls.as_slice(), edit),
-            count: self.sinks.len(),
-            edits: self.history.len(),
-        };
-        cause_by(&self.die, facts, edit)
+        let journal = Journal::of(alloc, instance)?;
+        Ok(Design { journal })
     }
 
     /// Judges an edit, and makes it where it is accepted. A refusal and want of memory change nothing.
@@ -131,26 +39,16 @@ impl Design {
         ensures reply { IsDecided (base_of self.old) (told_by self.old) entry.edit result }
         ensures told { told_by self.new ≡ after_edit (told_by self.old) entry result }
     {
-        let version = self.history.len() as u32;
-        if let Some(cause) = self.cause_of(entry.edit) {
-            return EditReply::Refused { cause, version };
-        }
-        match append(&mut self.history, &mut self.sinks, entry) {
-            Ok(()) => EditReply::Accepted {
-                version: version + 1,
-            },
-            Err(NoMemory) => EditReply::NoMemory,
-        }
+        self.journal.change(entry)
     }
 
     /// The sinks as they are now.
     fn list(&self) -> DesignReply
         ensures { Allows (base_of self.now) (told_by self.now) DesignCall.Snapshot result }
     {
-        let alloc = *self.history.allocator();
-        match self.sinks.to_vec(alloc) {
+        match self.journal.list() {
             Ok(sinks) => DesignReply::Listed {
-                version: self.history.len() as u32,
+                version: self.journal.version(),
                 sinks,
             },
             Err(NoMemory) => DesignReply::NoMemory,
@@ -164,14 +62,14 @@ impl Design {
         ensures sound { IsSound (base_of self) (told_by self) }
         ensures valid { IsValid (with_sinks (base_of self) result.1.items) }
     {
-        let Design { history, sinks, .. } = self;
-        (history, sinks.into_vec())
+        self.journal.into_lists()
     }
 }
 
 impl Object for Design {
     ghost use Rattle.cts_instance.specs.declared.parts.Parts.{Parts};
     ghost use Rattle.cts_edit.specs.Sound.{IsSound};
+    ghost use Rattle.cts_design.specs.Designs.{base_of, told_by};
     ghost use Rattle.cts_design.specs.Replies.{Allows, Fits, history_after};
     ghost use Rattle.cts_design.specs.RuleLaws.{appends};
 
@@ -187,9 +85,9 @@ impl Object for Design {
 
     ghost Base = { Parts };
 
-    ghost base = { λ design. design.base.value };
+    ghost base = { base_of };
 
-    ghost told = { λ design. design.history.items };
+    ghost told = { told_by };
 
     ghost is_sound = { IsSound };
 
@@ -200,7 +98,7 @@ impl Object for Design {
     ghost after = { λ _ history call reply. history_after history call reply };
 
     fn len(&self) -> u64 {
-        self.history.len() as u64
+        u64::from(self.journal.version())
     }
 
     fn act(&mut self, call: DesignCall) -> DesignReply {
@@ -210,9 +108,9 @@ impl Object for Design {
         }
     }
 
-    ghost told_is_sound = { λ design. design.sound };
+    ghost told_is_sound = { λ design. design.journal.sound };
 
-    ghost told_is_short = { λ design. design.short };
+    ghost told_is_short = { λ design. design.journal.short };
 
     ghost appends_at_most_one = { λ _ history call reply allowed. appends history call reply };
 

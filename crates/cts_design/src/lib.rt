@@ -12,7 +12,6 @@
 mod call;
 mod design;
 pub mod laws;
-mod roster;
 mod shared;
 
 pub use call::{DesignCall, DesignReply};

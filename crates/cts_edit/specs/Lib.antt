@@ -2,5 +2,8 @@ pub mod Edits
 pub mod Decide
 pub mod Sound
 pub mod Replies
+pub mod Roster
+pub mod EditProps
+pub mod Journals
 pub use Rattle.cts_instance.specs.Validity
 pub mod Laws

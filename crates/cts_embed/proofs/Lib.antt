@@ -1,4 +1,4 @@
-pub mod Leaves
+pub mod OfLeaves
 pub mod Range
 pub mod Unique
 pub mod Beyond
@@ -26,4 +26,8 @@ pub mod Cuts
 pub mod Splits
 pub mod PlacesExist
 pub mod BalanceExists
+pub mod StretchIds
+pub mod LeafPins
+pub mod Stretches
+pub mod AllNodes
 mod Example

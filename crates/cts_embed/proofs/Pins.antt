@@ -12,7 +12,7 @@ use Rattle.cts_elmore.specs.declared.pin_list.Pin.{Pin}
 use Rattle.cts_elmore.specs.Loads.{pin_of, leaf_pins}
 use Rattle.cts_elmore.proofs.LeafPins.{sink_pin, sink_pin_is, taken_leaf}
 use Rattle.cts_embed.specs.Fitting.{Fits, NamesWithin}
-use Rattle.cts_embed.proofs.Leaves.{IsSmallSink}
+use Rattle.cts_embed.proofs.OfLeaves.{IsSmallSink}
 use Rattle.cts_embed.proofs.Steps.{leaf_names}
 
 -- the leaves of a placed tree name sinks of the instance

@@ -12,7 +12,7 @@ use Rattle.cts_tree.specs.Nodes.{buffer_of}
 use Rattle.cts_embed.specs.declared.node.NodeBalance.{NodeBalance}
 use Rattle.cts_embed.specs.Balance.{IsBalance, IsLeafBalance, load_below}
 use Rattle.cts_embed.specs.Range.{IsInRange}
-use Rattle.cts_embed.proofs.Leaves.{IsSmallSink, SinkOf, sink_found, sink_has}
+use Rattle.cts_embed.proofs.OfLeaves.{IsSmallSink, SinkOf, sink_found, sink_has}
 
 -- no least delay is above the greatest
 no_greater : (params : Params) (sinks : List Sink) (t : BinaryTree TreeNode) (node : NodeBalance) → IsBalance params sinks t node

@@ -21,7 +21,7 @@ use Rattle.cts_embed.specs.declared.node.NodeBalance.{NodeBalance}
 use Rattle.cts_embed.specs.Balance.{IsBalance, IsBeyondBalance, IsLeafBalance, IsPairBalance, IsPairBeyond, sink_of}
 use Rattle.cts_embed.specs.Fitting.{NamesWithin}
 use Rattle.cts_embed.specs.Range.{IsInRange}
-use Rattle.cts_embed.proofs.Leaves.{IsSmallSink}
+use Rattle.cts_embed.proofs.OfLeaves.{IsSmallSink}
 use Rattle.cts_embed.proofs.Range.{in_range}
 
 -- what a leaf or a pair names, where its kind is known

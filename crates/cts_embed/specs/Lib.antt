@@ -2,6 +2,8 @@ pub mod Places
 pub mod PlacedTree
 pub mod Prepared
 pub mod Leaves
+pub mod Stretches
+pub mod LeafLists
 pub mod Fitting
 pub mod Balance
 pub mod BalancedTree

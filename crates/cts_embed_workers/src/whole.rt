@@ -6,7 +6,7 @@ ghost use Rattle.cts_up.specs.Sites.{AreSites};
 ghost use Rattle.cts_embed.specs.Ends.{EmbedEnds};
 ghost use Rattle.cts_embed.specs.Fitting.{Fits};
 ghost use Rattle.cts_embed.specs.PlacedTree.{IsPlacedTree};
-ghost use Rattle.cts_embed_workers.specs.Stretches.{AreIds};
+ghost use Rattle.cts_embed.specs.Stretches.{AreIds};
 
 use crate::tree::place_tree;
 use cts_embed::{EmbedEnd, ground_of, source_place};

@@ -1,4 +1,13 @@
 pub mod Lists
 pub mod Numbered
-pub mod Runs
 pub mod Pieces
+pub mod Longer
+pub mod Rising
+pub mod Once
+pub mod Printable
+pub mod EditParts
+pub mod EntryParts
+pub mod EntryPieces
+pub mod HistoryPieces
+pub mod EntryLoops
+pub mod Openings

@@ -3,8 +3,8 @@ use Rattle.std.proofs.Common.{◌≡◌, ℕ, zero, suc, ◌+◌, ◌<◌, List,
 use Rattle.std.proofs.lemmas.List.{take_more, length-take-le}
 use Rattle.std.specs.Prelude.{Vec}
 use Rattle.std.specs.Global.{Global}
-use Rattle.cts_callers.specs.declared.reply.Reply.{Reply}
-use Rattle.cts_callers.specs.Turns.{lists_of}
+use Rattle.cts_history.specs.declared.reply.Reply.{Reply}
+use Rattle.cts_history.specs.Legal.{lists_of}
 use Rattle.cts_history.specs.History.{numbered}
 
 -- the texts of items, with one more item

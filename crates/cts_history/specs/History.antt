@@ -11,12 +11,12 @@ use Rattle.cts_edit.specs.declared.edit.EditCause.TheVariants.{Known, Unknown, O
 use Rattle.cts_edit.specs.declared.edit.Entry.{Entry}
 use Rattle.cts_edit.specs.declared.reply.EditReply.{EditReply}
 use Rattle.cts_edit.specs.declared.reply.EditReply.TheVariants.{Accepted, Refused, NoMemory}
-use Rattle.cts_design.specs.Edits.{IsEdit}
+use Rattle.cts_edit.specs.Edits.{IsEdit}
 use Rattle.cts_script.specs.declared.script.Act.TheVariants.{Change}
 use Rattle.cts_script.specs.ScriptText.{act_words}
 use Rattle.cts_script.specs.Text.{count_line, end_line, line_of}
-use Rattle.cts_callers.specs.declared.reply.Reply.{Reply}
-use Rattle.cts_callers.specs.declared.reply.Reply.TheVariants.{Edited, Drew, NoTree}
+use Rattle.cts_history.specs.declared.reply.Reply.{Reply}
+use Rattle.cts_history.specs.declared.reply.Reply.TheVariants.{Edited, Drew, NoTree}
 
 -- a whole number
 abbrev pub whole : ℕ → List ℕ

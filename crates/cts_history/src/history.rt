@@ -3,14 +3,14 @@
 ghost use Rattle.std.specs.Prelude.{◌+◌, ◌++◌, All, codes, length};
 ghost use Rattle.std.specs.List.{flat_map};
 ghost use Rattle.cts_io.specs.Text.{Puts, Writes};
-ghost use Rattle.cts_callers.specs.Turns.{lists_of};
+ghost use Rattle.cts_history.specs.Legal.{lists_of};
 ghost use Rattle.cts_script.specs.Text.{after_space, count_line};
 ghost use Rattle.cts_history.specs.History.{IsPrintable, IsPrintableReply, caller_text, edit_words, entry_line, history_text, numbered};
 
-use crate::reply::put_replies;
+use crate::reply::Reply;
+use crate::reply_words::put_replies;
 use crate::words::{put_capacitance, put_coordinate, put_labelled};
-use cts_callers::Reply;
-use cts_design::{Edit, Entry};
+use cts_edit::{Edit, Entry};
 use cts_io::{ByteSink, SinkBuffer, WriteEnd};
 
 /// Writes a history of edits, and the replies to the callers, who are numbered from 1. It takes no

@@ -1,7 +1,7 @@
 -- What a table's owner knows of it.
 use Rattle.std.proofs.Common.{◌≡◌, ◌≤◌, inl, inr, List, [], ◌∷◌, length, refl, sym, subst}
 use mathlib.Core.List.{IsPrefix}
-use Rattle.cts_turn.proofs.Prefixes.{prefix_self}
+use Rattle.cts_list.proofs.Prefixes.{prefix_self}
 use Rattle.cts_merge.specs.declared.side.Finished.{Finished}
 use Rattle.cts_memo.specs.declared.key.Key.{Key}
 use Rattle.cts_memo.specs.declared.entry.MemoEntry.{MemoEntry}

@@ -1,6 +1,5 @@
 -- What it does to a table's entries to publish what was made of a key.
-use Rattle.std.proofs.Common.{◌≡◌, ◌≢◌, ℕ, ◌+◌, ◌<◌, ◌≤◌, ◌⊎◌, inl, inr, cond, List, [], ◌∷◌, ◌++◌, suc, length, take, drop, get_or, slice_get, Option, Some, None, MatchOption, IfNone, IfSome, OnSome, Result, Ok, Err, OnOk, OnErr, refl, sym, ap, ◌∙◌, subst, arith, length-append, lt-ltb, le-ltb}
-use Rattle.std.proofs.Math.ListN.{take-append-drop}
+use Rattle.std.proofs.Common.{◌≡◌, ◌≢◌, ℕ, ◌+◌, ◌<◌, ◌≤◌, ◌⊎◌, inl, inr, cond, List, [], ◌∷◌, ◌++◌, suc, length, take, get_or, slice_get, Option, Some, None, MatchOption, IfNone, IfSome, OnSome, Result, Ok, Err, OnOk, OnErr, refl, sym, ap, ◌∙◌, subst, arith, length-append, lt-ltb, le-ltb}
 use Rattle.std.proofs.lemmas.List.{map-append}
 use Rattle.std.specs.List.{position_or_len}
 use Rattle.std.specs.Map.{keys_of, lookup}
@@ -9,7 +8,7 @@ use Rattle.std.proofs.lemmas.Grind.{common_steps}
 use Rattle.std.proofs.lemmas.List.Quantifiers.{all_pairs_push}
 use Rattle.std.proofs.lemmas.Option.{slice_get_within, get_or_from_slice_get, slice_get-get_or}
 use Rattle.indexmap.specs.IndexMap.{insert_entry}
-use mathlib.Core.List.{IsPrefix}
+use Rattle.cts_list.proofs.Prefixes.{front_of}
 use Rattle.cts_units.specs.declared.params.Params.{Params}
 use Rattle.cts_units.specs.Limits.{IsParams}
 use Rattle.cts_merge.specs.declared.side.Finished.{Finished}
@@ -42,9 +41,6 @@ merged_same params f g (Some a) (Some b) p q = merged_one params a.finished.side
 pub made_one : (params : Params) (seen : List MemoEntry) (key : Key) (f g : Finished) → IsMadeOf params seen key f → IsMadeOf params seen key g → f ≡ g
 made_one params seen (Leaf x y cap offset) f g p q = leaf_one (sink_at x y cap offset) f g p q
 made_one params seen (Pair left right) f g p q = merged_same params f g (slice_get seen left) (slice_get seen right) p q
-
-pub front_of : {A : Type 0} (n : ℕ) (xs : List A) → IsPrefix (take n xs) xs
-front_of n xs = (drop n xs, take-append-drop n xs)
 
 -- an entry is made of those before it, and so of all
 pub made_of_all : (params : Params) (seen : List MemoEntry) (n : ℕ) (e : MemoEntry) → IsSound params seen → slice_get seen n ≡ Some e

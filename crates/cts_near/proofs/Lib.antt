@@ -13,3 +13,5 @@ pub mod Steps
 pub mod Begun
 pub mod Written
 pub mod Passed
+pub mod OneTree
+pub mod Passing

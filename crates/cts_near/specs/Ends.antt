@@ -9,12 +9,12 @@ use Rattle.cts_near.specs.Forest.{IsStuck}
 use Rattle.cts_near.specs.NearShape.{IsNearBeyond}
 
 -- the most sinks that it is made for
-abbrev pub max_sinks : ℕ
-max_sinks = 2048
+abbrev pub max_near_sinks : ℕ
+max_near_sinks = 2048
 
 -- it may end so: there are too many sinks, or a step is beyond the limits, or for want of memory
 abbrev pub Ends : Params → List Sink → NearEnd → Type 0
-Ends params sinks Many = max_sinks < length sinks
+Ends params sinks Many = max_near_sinks < length sinks
 Ends params sinks (Beyond step) = IsNearBeyond params sinks step
 Ends params sinks NoMemory = Unit {0}
 

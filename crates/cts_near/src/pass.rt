@@ -8,7 +8,7 @@ ghost use Rattle.cts_units.specs.Limits.{IsParams};
 ghost use Rattle.cts_topo.specs.Shape.{IsShapeOver};
 ghost use Rattle.cts_up.specs.Sinks.{AreSinksInRange};
 ghost use Rattle.cts_near.specs.declared.end.NearEnd.TheVariants.{Many};
-ghost use Rattle.cts_near.specs.Ends.{Ends, max_sinks};
+ghost use Rattle.cts_near.specs.Ends.{Ends, max_near_sinks};
 ghost use Rattle.cts_near.specs.NearShape.{IsNearShape};
 
 use crate::end::NearEnd;
@@ -22,7 +22,7 @@ use std::marker::Brand;
 use std::sync::ledger::{Blank, Ledger};
 
 /// The most sinks that a nearest-pair topology is made for.
-pub const MAX_SINKS: usize = 2048;
+pub const MAX_NEAR_SINKS: usize = 2048;
 
 /// The nearest-pair topology of the sinks.
 ///
@@ -41,9 +41,9 @@ pub fn near(alloc: Global, params: &Params, sinks: &[Sink]) -> Result<Shape, Nea
     ensures shape { IfOk result (IsNearShape params.now sinks.now) }
     ensures each_sink_once { IfOk result (IsShapeOver (length sinks.now)) }
     ensures ends { IfErr result (Ends params.now sinks.now) }
-    ensures many { max_sinks < length sinks.now → IsErrOf result Many }
+    ensures many { max_near_sinks < length sinks.now → IsErrOf result Many }
 {
-    if sinks.len() > MAX_SINKS {
+    if sinks.len() > MAX_NEAR_SINKS {
         return Err(NearEnd::Many);
     }
     near_counted::<Brand>(alloc, Blank::new(1), params, sinks)
@@ -62,7 +62,7 @@ fn near_counted<L: Ledger>(
     requires params { IsParams params.now }
     requires sinks { AreSinksInRange sinks.now }
     requires some { 0 < length sinks.now }
-    requires few { length sinks.now ≤ max_sinks }
+    requires few { length sinks.now ≤ max_near_sinks }
     requires distinct { HasDistinctIds (λ (s : Sink). s.id) sinks.now }
     ensures shape { IfOk result (IsNearShape params.now sinks.now) }
     ensures each_sink_once { IfOk result (IsShapeOver (length sinks.now)) }

@@ -6,6 +6,7 @@ pub mod LeafPins
 pub mod Fitted
 pub mod Unique
 pub mod Sound
+pub mod Residues
 pub mod Valid
 pub mod Uncut
 pub mod Settled
@@ -13,3 +14,6 @@ pub mod FewCorners
 pub mod Placing
 pub mod Counted
 pub mod Exists
+pub mod Joined
+pub mod FiguresExist
+pub mod Whole

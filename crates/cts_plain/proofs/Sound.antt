@@ -25,7 +25,7 @@ use Rattle.cts_plain.proofs.Wires.{wires_are_legal, buffers_are_open}
 module _ (i : Parts) where
   module _ (shape : List ShapeNode) (tree : List TreeNode) (valid : IsValid i) (over : IsShapeOver (length i.sinks) shape)
       (is : IsTreeOf i shape tree) where
-    placed_ok : IsPostOrder (map tree_children is.placed)
+    pub placed_ok : IsPostOrder (map tree_children is.placed)
     placed_ok = placed_post_order i shape is.placed is.is_placed over.post_order
 
     pub nodes_made : AllZip (IsMadeOf i) (occurrences_of children shape) tree

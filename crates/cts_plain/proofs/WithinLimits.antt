@@ -166,7 +166,7 @@ module _ (i : Parts) where
           (All-cons (λ s. ¬ IsPairOver i s) (fork l r m) [] not_over (All-nil (λ s. ¬ IsPairOver i s)));
     }
 
-  agrees : (up : List (BinaryTree TreeNode)) (q : BinaryTree TreeNode) (t : BinaryTree TreeNode) (p : NodeBalance)
+  pub agrees : (up : List (BinaryTree TreeNode)) (q : BinaryTree TreeNode) (t : BinaryTree TreeNode) (p : NodeBalance)
       → IsAlike (IsBalancedNode i) up q t → IsBalance i.params i.sinks q p → Agrees p t
   unfolding IsAlike IsBalance IsWireLength label
   agrees up (tip n) (tip m) p a h = leaf_agrees n m p a.kind h

@@ -1,9 +1,14 @@
 pub mod Synthesis
 pub mod Ends
 pub mod EndsOf
+pub mod Residues
 pub mod Laws
+pub mod Below
+pub mod Totals
 pub use Rattle.cts_up.specs.Plan
 pub use Rattle.cts_embed.specs.PlacedTree
 pub use Rattle.cts_embed.specs.BalancedTree
 pub use Rattle.cts_elmore.specs.Figures
 pub use Rattle.cts_elmore.specs.Sound
+pub use Rattle.cts_topo.specs.Shape
+pub use Rattle.cts_up.specs.Sites

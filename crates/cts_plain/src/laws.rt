@@ -9,6 +9,7 @@ ghost use Rattle.cts_plain.specs.Laws.{
   TreesAreSound,
   TreesHaveFewCorners,
 };
+ghost use Rattle.cts_plain.specs.Residues.{ResiduesAreSmall, SkewIsSmall};
 
 /// Over one shape there is one synthesis at most.
 pub fn synthesis_is_one()
@@ -44,4 +45,15 @@ pub fn trees_have_few_corners()
 /// Where no block stops wires no node is cut.
 pub fn nothing_is_cut_without_walls()
     ensures { NothingIsCutWithoutWalls }
+{}
+
+/// In the tree of a shape twice the residue of each pair is at most what one unit more would add to a wire of the longer of its
+/// two lengths into the greater of its two loads.
+pub fn residues_are_small()
+    ensures { ResiduesAreSmall }
+{}
+
+/// So twice the skew is at most so many times the height of the tree, for the longest wire and the greatest load in it.
+pub fn skew_is_small()
+    ensures { SkewIsSmall }
 {}

@@ -1,6 +1,6 @@
 -- The rooms in which workers write a tree.
 use Rattle.std.specs.Prelude.{◌≡◌, ℕ, [], length}
-use Rattle.cts_embed_workers.specs.Leaves.{AreNone}
+use Rattle.cts_embed.specs.LeafLists.{AreNone}
 use Rattle.cts_plain_workers.specs.declared.rooms.Rooms.{Rooms}
 
 -- nothing stands in them yet

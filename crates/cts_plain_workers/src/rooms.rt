@@ -5,7 +5,8 @@ ghost use Rattle.cts_plain_workers.specs.Rooms.{AreEmpty, AreFor};
 
 use cts_elmore::NodeFigure;
 use cts_elmore_workers::figures_room;
-use cts_embed_workers::{Leaves, leaves_room, room_for};
+use cts_embed::{Leaves, leaves_room};
+use cts_embed_workers::room_for;
 use cts_num::NoMemory;
 use cts_tree::TreeNode;
 use cts_up::Site;

@@ -4,8 +4,7 @@ ghost use Rattle.std.specs.Prelude.{◌^◌, ◌<◌, ◌≤◌};
 
 use crate::compare::same;
 use cts_script::make_instance;
-use cts_topo::topology;
-use cts_topo_again::{Order, topology_again};
+use cts_topo::{Order, topology, topology_again};
 use cts_topo_workers::topology_by;
 use std::alloc::Global;
 use std::test::Fail;

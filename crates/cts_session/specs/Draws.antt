@@ -10,8 +10,8 @@ use Rattle.cts_plain.specs.declared.end.NoTree.{NoTree}
 use Rattle.cts_plain.specs.declared.end.NoTree.TheVariants.{Beyond, Cut}
 use Rattle.cts_plain.specs.declared.end.NoTree.TheVariants.{NoMemory as no_memory}
 use Rattle.cts_plain.specs.Synthesis.{IsSynthesis, beyond, cut, made}
-use Rattle.cts_totals.specs.declared.totals.Totals.{Totals}
-use Rattle.cts_totals.specs.Totals.{AreTotalsOver}
+use Rattle.cts_plain.specs.declared.totals.Totals.{Totals}
+use Rattle.cts_plain.specs.Totals.{AreTotalsOver}
 use Rattle.cts_memo.specs.declared.entry.MemoEntry.{MemoEntry}
 use Rattle.cts_memo.specs.Numbers.{AreKnown}
 use Rattle.cts_memo.specs.Sound.{max_entries}

@@ -4,7 +4,7 @@ use crate::desk::{Desk, Hands};
 use crate::draw::{Drawn, TreeEnd, VersionTotals, draw_now, sum_up_now};
 use cts_design::{Edit, EditReply, Entry, send_edit};
 use cts_merge::Steps;
-use cts_topo_again::Order;
+use cts_topo::Order;
 use cts_work::{Gate, Past};
 use std::alloc::Global;
 use std::marker::Model;

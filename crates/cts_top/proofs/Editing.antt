@@ -22,7 +22,7 @@ use Rattle.cts_report.specs.Report.{report_text}
 use Rattle.cts_script.specs.declared.script.ScriptStep.{ScriptStep}
 use Rattle.cts_session.specs.Desks.{IsTableOf, version_of}
 use Rattle.cts_session.specs.Draws.{IsDrawn, KnowsTree}
-use Rattle.cts_callers.specs.Legal.{IsLegal}
+use Rattle.cts_history.specs.Legal.{IsLegal}
 use Rattle.cts_callers.specs.Runs.{IsSynthesisOf}
 use Rattle.cts_top.specs.declared.stop.Answer.{Answer}
 use Rattle.cts_top.specs.declared.stop.Answer.TheVariants as answer

@@ -4,7 +4,7 @@ use Rattle.std.specs.Io.KnownBytes.{Appends}
 use Rattle.cts_io.specs.Faults.{Rose}
 use Rattle.cts_io.specs.Text.{Writes}
 use Rattle.cts_io.specs.declared.write.WriteEnd.{WriteEnd}
-use Rattle.cts_near.specs.Ends.{max_sinks}
+use Rattle.cts_near.specs.Ends.{max_near_sinks}
 use Rattle.cts_read.specs.Grammar.{Refusal}
 use Rattle.cts_read.specs.declared.stop.Cause.{Cause}
 use Rattle.cts_instance.specs.declared.parts.Parts.{Parts}
@@ -41,8 +41,8 @@ use Rattle.cts_top.specs.Written.{IsAnswered, IsAnsweredInPart}
 use Rattle.cts_top.specs.Trunk.{IsTrunkKind}
 use Rattle.cts_top.proofs.TrunkKinds.{trunk_kind_one}
 use Rattle.cts_plain.proofs.Valid.{synthesis_same}
-use Rattle.cts_near_tree.specs.Synthesis.{ComesNear}
-use Rattle.cts_near_tree.proofs.One.{near_syntheses_one}
+use Rattle.cts_near.specs.Synthesis.{ComesNear}
+use Rattle.cts_near.proofs.OneTree.{near_syntheses_one}
 
 -- what follows, bytes by bytes, from what holds of an input
 pub on_input : (reading : Reading) (left : Option (List ℕ)) (P Q : List ℕ → Type 0) → ((b : List ℕ) → P b → Q b) → OfInput reading left P
@@ -179,7 +179,7 @@ refused_many : (reading : Reading) (bytes : List ℕ) → Explains reading stop.
 refused_many whole bytes x = λ s. x
 refused_many few bytes (i, spells, many) = λ s.
     let same : i ≡ s.0 = one_instance bytes i s.0 spells s.1.spells in
-    let fits : length i.sinks ≤ max_sinks = subst (λ (p : Parts). length p.sinks ≤ max_sinks) (sym same) s.1.few in
+    let fits : length i.sinks ≤ max_near_sinks = subst (λ (p : Parts). length p.sinks ≤ max_near_sinks) (sym same) s.1.few in
     omega (arith, many, fits)
 refused_many front bytes x = λ s. x
 refused_many scripted bytes x = λ s. x

@@ -4,7 +4,7 @@ use Rattle.cts_instance.specs.declared.parts.Parts.{Parts}
 use Rattle.cts_instance.specs.Validity.{IsValid}
 use Rattle.cts_report.specs.Report.{report_text}
 use Rattle.cts_near.specs.NearShape.{IsNearBeyond}
-use Rattle.cts_near_tree.specs.Synthesis.{IsSynthesisNear, at_step, over}
+use Rattle.cts_near.specs.Synthesis.{IsSynthesisNear, at_step, over}
 use Rattle.cts_top.specs.declared.stop.Answer.{Answer}
 use Rattle.cts_top.specs.declared.stop.Answer.TheVariants as answer
 use Rattle.cts_top.specs.declared.stop.Stop.{Stop}

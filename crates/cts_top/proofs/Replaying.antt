@@ -15,9 +15,9 @@ use Rattle.cts_undo.specs.Replay.{opening}
 use Rattle.cts_report.specs.Report.{report_text}
 use Rattle.cts_script.specs.declared.replay.ReplayStep.{ReplayStep}
 use Rattle.cts_script.specs.Replays.{replay_at}
-use Rattle.cts_replay.specs.declared.reply.ReplayReply.{ReplayReply}
-use Rattle.cts_replay.specs.Answers.{AreReplies}
-use Rattle.cts_replay.specs.ReplayText.{replay_text}
+use Rattle.cts_undo.specs.declared.reply.ReplayReply.{ReplayReply}
+use Rattle.cts_undo.specs.Answers.{AreReplies}
+use Rattle.cts_undo.specs.ReplayText.{replay_text}
 use Rattle.cts_top.specs.declared.stop.Answer.{Answer}
 use Rattle.cts_top.specs.declared.stop.Stop.{Stop}
 use Rattle.cts_top.specs.Replay.{TellsReplay, TellsReplayed, done_at_end, replayed_of, version_at_end}

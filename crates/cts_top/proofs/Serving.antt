@@ -1,7 +1,7 @@
 -- How a run ends that has its input, by what it then wrote.
 use Rattle.std.proofs.Common.{◌≡◌, ◌≢◌, ◌≤◌, ℕ, List, [], length, Option, None, Some, IfSome, Result, Ok, Err, IsErrOf, sym, subst, ap, arith}
 use Rattle.cts_instance.specs.declared.parts.Parts.{Parts}
-use Rattle.cts_near.specs.Ends.{max_sinks}
+use Rattle.cts_near.specs.Ends.{max_near_sinks}
 use Rattle.cts_read.specs.Grammar.{Refusal}
 use Rattle.cts_report.specs.Report.{report_text}
 use Rattle.cts_script.specs.declared.script.ScriptStep.{ScriptStep}
@@ -165,7 +165,7 @@ module _ {S K : Type 0} (source : Stream S) (sink : Stream K) (result : Result A
       (on_left (told_before source) (λ b. Spells b i) _ (λ b s kind text told. (i, s, told)) spells) counted result
 
   -- a run that has read an instance of few enough sinks
-  pub serves_near : (i : Parts) → IsReadWhole source → IfSome (told_before source) (λ b. Spells b i) → length i.sinks ≤ max_sinks
+  pub serves_near : (i : Parts) → IsReadWhole source → IfSome (told_before source) (λ b. Spells b i) → length i.sinks ≤ max_near_sinks
       → KeepsCount source → Answers (TellsNear i) sink.tells sink.faults sink.before sink.after result
       → Serves no_log Near source sink result
   serves_near i at_end spells fits counted =

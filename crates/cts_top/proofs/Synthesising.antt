@@ -24,8 +24,8 @@ use Rattle.cts_plain.specs.Synthesis.{IsBeyondOf, IsCutOf, IsSynthesis, IsSynthe
 use Rattle.cts_top.specs.declared.stop.Answer.TheVariants as answer
 use Rattle.cts_top.specs.Synthesised.{IsSynthesised, IsSynthesisedBy}
 use Rattle.cts_top.specs.Text.{TellsComing, TreeText}
-use Rattle.cts_near_tree.specs.Synthesis.{IsSynthesisNear}
-use Rattle.cts_near_tree.proofs.One.{near_over}
+use Rattle.cts_near.specs.Synthesis.{IsSynthesisNear}
+use Rattle.cts_near.proofs.OneTree.{near_over}
 use Rattle.cts_top.proofs.Accepting.{right_made}
 use Rattle.cts_top.proofs.Accepting.{right_over}
 use Rattle.cts_top.proofs.Told.{tree_told}

@@ -1,7 +1,7 @@
 -- What an input spells: an instance and nothing after it, or an instance and then scripts.
 use Rattle.std.specs.Prelude.{◌≡◌, ℕ, ◌<◌, ◌≤◌, List, length, Result, Ok}
 use Rattle.cts_instance.specs.declared.parts.Parts.{Parts}
-use Rattle.cts_near.specs.Ends.{max_sinks}
+use Rattle.cts_near.specs.Ends.{max_near_sinks}
 use Rattle.cts_read.specs.Grammar.{◌>>=◌, Refusal}
 use Rattle.cts_read.specs.Whole.{instance_of, rest_of}
 use Rattle.cts_notes.specs.Front.{input_limit}
@@ -23,11 +23,11 @@ pub record Spells (bytes : List ℕ) (i : Parts) : Type 0 where
 -- The input spells this instance, and it has few enough sinks for a nearest-pair topology.
 pub record SpellsFew (bytes : List ℕ) (i : Parts) : Type 0 where
   pub spells : Spells bytes i
-  pub few : length i.sinks ≤ max_sinks
+  pub few : length i.sinks ≤ max_near_sinks
 
 -- the input spells an instance, and that has too many sinks for it
 abbrev pub SpellsMany : List ℕ → Type 0
-SpellsMany bytes = (i : Parts) × Spells bytes i × (max_sinks < length i.sinks)
+SpellsMany bytes = (i : Parts) × Spells bytes i × (max_near_sinks < length i.sinks)
 
 -- the instance at the front of a text and the scripts of all callers, which are all that follows it; or the first line that
 -- offends and its first cause

@@ -2,8 +2,8 @@
 use Rattle.std.specs.Prelude.{List, [], Vec}
 use Rattle.std.specs.Global.{Global}
 use Rattle.cts_edit.specs.declared.edit.Entry.{Entry}
-use Rattle.cts_callers.specs.declared.reply.Reply.{Reply}
-use Rattle.cts_callers.specs.Turns.{lists_of}
+use Rattle.cts_history.specs.declared.reply.Reply.{Reply}
+use Rattle.cts_history.specs.Legal.{lists_of}
 
 -- the history of all accepted edits, and the replies to each caller
 pub record Log : Type 0 where

@@ -3,7 +3,7 @@ use Rattle.std.specs.Prelude.{◌≡◌, ℕ, List, ◌++◌, codes}
 use Rattle.cts_instance.specs.declared.parts.Parts.{Parts}
 use Rattle.cts_instance.specs.Validity.{IsValid}
 use Rattle.cts_report.specs.Report.{report_text}
-use Rattle.cts_near_tree.specs.Synthesis.{NearSynthesis, at_step, over, ComesNear}
+use Rattle.cts_near.specs.Synthesis.{NearSynthesis, at_step, over, ComesNear}
 use Rattle.cts_notes.specs.Notes.{numbered}
 use Rattle.cts_top.specs.declared.stop.Answer.{Answer}
 use Rattle.cts_top.specs.declared.stop.Answer.TheVariants as answer

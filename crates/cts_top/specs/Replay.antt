@@ -10,9 +10,9 @@ use Rattle.cts_undo.specs.Replay.{opening}
 use Rattle.cts_script.specs.declared.replay.ReplayStep.{ReplayStep}
 use Rattle.cts_script.specs.Replays.{replay_at}
 use Rattle.cts_session.specs.Desks.{version_of}
-use Rattle.cts_replay.specs.declared.reply.ReplayReply.{ReplayReply}
-use Rattle.cts_replay.specs.Answers.{AreReplies, after_steps}
-use Rattle.cts_replay.specs.ReplayText.{replay_text}
+use Rattle.cts_undo.specs.declared.reply.ReplayReply.{ReplayReply}
+use Rattle.cts_undo.specs.Answers.{AreReplies, after_steps}
+use Rattle.cts_undo.specs.ReplayText.{replay_text}
 use Rattle.cts_top.specs.declared.stop.Answer.{Answer}
 use Rattle.cts_top.specs.Text.{TellsSynthesis}
 

@@ -10,7 +10,7 @@ use Rattle.cts_check.specs.declared.verdict.Verdict.{Verdict}
 use Rattle.cts_check.specs.Verdict.{IsVerdict}
 use Rattle.cts_plain.specs.Synthesis.{Synthesis, IsSynthesis}
 use Rattle.cts_session.specs.Desks.{version_of}
-use Rattle.cts_callers.specs.Legal.{IsLegal}
+use Rattle.cts_history.specs.Legal.{IsLegal}
 use Rattle.cts_top.specs.declared.stop.Answer.{Answer}
 use Rattle.cts_top.specs.declared.stop.Answer.TheVariants as answer
 use Rattle.cts_top.specs.declared.words.Form.{Form}

@@ -10,7 +10,7 @@ use Rattle.cts_check.specs.Verdict.{IsRight}
 use Rattle.cts_plain.specs.declared.end.NoTree.{NoTree}
 use Rattle.cts_plain.specs.Ends.{EndsBy}
 use Rattle.cts_plain.specs.Synthesis.{IsSynthesis, Synthesis, made}
-use Rattle.cts_near_tree.specs.Synthesis.{IsSynthesisNear}
+use Rattle.cts_near.specs.Synthesis.{IsSynthesisNear}
 
 -- the topology over which a tree is made: that after means and medians, or the nearest-pair one
 pub data Topology : Type 0 where

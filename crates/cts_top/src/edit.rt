@@ -2,8 +2,7 @@
 
 ghost use Rattle.std.specs.Prelude.{◌≡◌, ◌≢◌, ◌≤◌, ◌↔◌, length, IfOk, IfErr, IfSome, OnOk, IsErrOf, IsSome};
 ghost use Rattle.std.specs.Io.KnownBytes.{IsAtEnd};
-ghost use Rattle.cts_callers.specs.Legal.{IsLegal};
-ghost use Rattle.cts_callers.specs.Turns.{lists_of};
+ghost use Rattle.cts_history.specs.Legal.{IsLegal, lists_of};
 ghost use Rattle.cts_history.specs.History.{IsPrintable};
 ghost use Rattle.cts_instance.specs.Validity.{IsValid, with_sinks};
 ghost use Rattle.cts_io.specs.Faults.{Rose};
@@ -26,10 +25,10 @@ use crate::room::{TREE_ROOM, open_heap};
 use crate::stop::{Answer, Stop};
 use crate::valid::instance_is_valid;
 use crate::words::Form;
-use cts_callers::{Reply, Run, run_callers};
+use cts_callers::{Run, run_callers};
 use cts_design::Entry;
 use cts_elmore::Figures;
-use cts_history::write_history;
+use cts_history::{Reply, write_history};
 use cts_instance::Instance;
 use cts_io::{ByteSink, ByteSource, read_all};
 use cts_memo::Table;

@@ -2,7 +2,7 @@
 
 ghost use Rattle.std.specs.Prelude.{◌≤◌, length};
 ghost use Rattle.cts_io.specs.Text.{Writes};
-ghost use Rattle.cts_near.specs.Ends.{max_sinks};
+ghost use Rattle.cts_near.specs.Ends.{max_near_sinks};
 ghost use Rattle.cts_top.specs.Near.{TellsNear, no_step_text};
 ghost use Rattle.cts_top.specs.Written.{Answers};
 
@@ -11,7 +11,7 @@ use crate::stop::{Answer, Stop, ended};
 use crate::valid::instance_is_valid;
 use cts_instance::Instance;
 use cts_io::{ByteSink, SinkBuffer, WriteEnd};
-use cts_near_tree::{NoNearTree, synthesise_near};
+use cts_near::{NoNearTree, synthesise_near};
 use cts_notes::put_numbered;
 use std::alloc::Global;
 
@@ -32,7 +32,7 @@ pub fn answer_near<K: ByteSink>(
     sink: &mut K,
     instance: &Instance,
 ) -> Result<Answer, Stop>
-    requires { length instance.now.sinks ≤ max_sinks }
+    requires { length instance.now.sinks ≤ max_near_sinks }
     ensures { Answers (TellsNear instance.now) K.held K.faults sink.old sink.new result }
 {
     instance_is_valid(instance);

@@ -1,7 +1,7 @@
 //! What a run tells its caller.
 
-use cts_callers::Reply;
 use cts_design::Entry;
+use cts_history::Reply;
 use cts_memo::Table;
 use cts_notes::Status;
 use std::alloc::Global;

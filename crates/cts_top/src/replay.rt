@@ -5,8 +5,8 @@ ghost use Rattle.std.specs.Io.KnownBytes.{IsAtEnd};
 ghost use Rattle.cts_io.specs.Faults.{Rose};
 ghost use Rattle.cts_notes.specs.Front.{input_limit};
 ghost use Rattle.cts_read.specs.Grammar.{Refuses};
-ghost use Rattle.cts_replay.specs.Answers.{AreReplies, after_steps};
-ghost use Rattle.cts_replay.specs.ReplayText.{IsPrintableReplay};
+ghost use Rattle.cts_undo.specs.Answers.{AreReplies, after_steps};
+ghost use Rattle.cts_undo.specs.ReplayText.{IsPrintableReplay};
 ghost use Rattle.cts_script.specs.Replays.{AreReplayed};
 ghost use Rattle.cts_undo.specs.Replay.{opening};
 ghost use Rattle.cts_top.specs.Log.{no_log};
@@ -28,9 +28,9 @@ use cts_notes::INPUT_LIMIT;
 use cts_num::NoMemory;
 use cts_plain::NoTree;
 use cts_read::{ReadStop, read_instance};
-use cts_replay::{Replayed, replay, version_after, write_replay};
 use cts_script::{ReplayStep, read_replay};
 use cts_tree::Tree;
+use cts_undo::{Replayed, replay, version_after, write_replay};
 use std::alloc::Global;
 
 /// What a replay comes to: the instance with the sinks after the changes that are done at its end, its book

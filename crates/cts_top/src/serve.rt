@@ -9,7 +9,7 @@ ghost use Rattle.cts_top.specs.Log.{log_of, no_log};
 ghost use Rattle.cts_script.specs.Generator.{made_parts};
 ghost use Rattle.cts_top.specs.Memos.{HasMemo, HoldsMemo, IsMemoOf, TellsOfTree};
 ghost use Rattle.cts_top.specs.Outcome.{Serves, status_of};
-ghost use Rattle.cts_near.specs.Ends.{max_sinks};
+ghost use Rattle.cts_near.specs.Ends.{max_near_sinks};
 ghost use Rattle.cts_top.specs.Reading.{ExplainsBy, ExplainsFew};
 ghost use Rattle.cts_top.specs.Right.{IsRight};
 ghost use Rattle.cts_top.specs.Text.{TellsSynthesis, summary_in};
@@ -31,7 +31,7 @@ use crate::words::Form;
 use cts_instance::Instance;
 use cts_io::{ByteSink, ByteSource, read_all};
 use cts_memo::Table;
-use cts_near::MAX_SINKS;
+use cts_near::MAX_NEAR_SINKS;
 use cts_notes::{INPUT_LIMIT, read_front};
 use cts_num::NoMemory;
 use cts_script::{make_instance, write_instance};
@@ -127,7 +127,7 @@ fn serve_near<S: ByteSource, K: ByteSink>(
 fn read_few<S: ByteSource>(alloc: Global, source: &mut S) -> Result<Instance, Stop>
     ensures end { OnOk result (IsAtEnd (S.left source.new)) }
     ensures spells { IfOk result (λ instance. IfSome (S.left source.old) (λ bytes. Spells bytes instance)) }
-    ensures few { IfOk result (λ instance. length instance.sinks ≤ max_sinks) }
+    ensures few { IfOk result (λ instance. length instance.sinks ≤ max_near_sinks) }
     ensures explained { IfErr result (λ stop. IfSome (S.left source.old) (ExplainsFew stop)) }
     ensures words { IsErrOf result Stop.Words → ⊥ }
     ensures read_fault { IsErrOf result Stop.ReadFault → Rose (S.faults source.old) (S.faults source.new) }
@@ -135,7 +135,7 @@ fn read_few<S: ByteSource>(alloc: Global, source: &mut S) -> Result<Instance, St
     ensures counted { S.faults source.old ≤ S.faults source.new }
 {
     let instance = read_source(alloc, source)?;
-    if instance.sinks().len() > MAX_SINKS {
+    if instance.sinks().len() > MAX_NEAR_SINKS {
         return Err(Stop::Many);
     }
     Ok(instance)

@@ -1,3 +1,4 @@
+mod Example
 pub mod Shuffles
 pub mod Orders
 pub mod Ranks
@@ -12,5 +13,8 @@ pub mod Divided
 pub mod Whole
 pub mod Counts
 pub mod Stretches
-mod Example
 pub mod RoughOrder
+pub mod Fresh
+pub mod Picked
+pub mod Rising
+pub mod WholeAgain

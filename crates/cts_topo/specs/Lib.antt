@@ -4,6 +4,7 @@ pub mod Sinks
 pub mod Topology
 pub mod Divisible
 pub mod Laws
+pub mod Rising
 pub use Rattle.cts_units.specs.Ids
 pub use Rattle.cts_postorder.specs.BinaryTree
 pub use Rattle.cts_postorder.specs.PostOrder

@@ -8,10 +8,9 @@ ghost use Rattle.cts_units.specs.Limits.{max_sinks};
 ghost use Rattle.cts_topo.specs.declared.shape.ShapeNode.TheVariants.{Leaf, Pair};
 ghost use Rattle.cts_topo.specs.Shape.{IsShapeOver};
 ghost use Rattle.cts_topo.specs.Sinks.{AreSinks, IsPlaced};
-ghost use Rattle.cts_topo.specs.Topology.{AddsTree, is_before, compare_along, pins_from, shape_of, turned};
+ghost use Rattle.cts_topo.specs.Topology.{AddsTree, is_before, compare_along, pins_from, shape_of, turned, is_wide as spec_is_wide, pin_of as spec_pin_of};
 ghost use Rattle.cts_topo.specs.Divisible.{AreHalves, IsDivisible};
 ghost use Rattle.cts_topo.specs.Shuffled.{Shuffled};
-ghost use Rattle.cts_topo.specs.Topology.{is_wide as spec_is_wide, pin_of as spec_pin_of};
 
 use crate::pin::Pin;
 use crate::shape::{Shape, ShapeNode};
@@ -264,7 +263,8 @@ fn sort_along(pins: &mut Vec<Pin>, wide: bool)
 }
 
 /// Whether the first pin comes before the second one along x or along y.
-fn comes_before(wide: bool, p: &Pin, q: &Pin) -> bool
+#[inline(always)]
+pub(crate) fn comes_before(wide: bool, p: &Pin, q: &Pin) -> bool
     ensures { result ≡ is_before wide p.now q.now }
 {
     compare(wide, p, q).is_lt()

@@ -4,7 +4,7 @@ use mathlib.Core.List.{IsPrefix}
 use Rattle.cts_turn.specs.declared.view.View.{View}
 use Rattle.cts_turn.specs.Views.{with_ticket, at_turn, after_call, after_turn}
 use Rattle.cts_turn.specs.Steps.{Held, TakesTurn}
-use Rattle.cts_turn.proofs.Prefixes.{prefix_same}
+use Rattle.cts_list.proofs.Prefixes.{prefix_same}
 
 module _ {O E : Type 0} where
   -- what the object tells that a seat holds

@@ -10,7 +10,7 @@ use Rattle.cts_turn.specs.declared.view.View.{View}
 use Rattle.cts_turn.specs.Views.{first_half, second_half, joined, spent_view, longer}
 use Rattle.cts_turn.specs.History.{NoneInTurn, SomeInTurn, HasSeen, IsHistory, KeepsObject}
 use Rattle.cts_turn.proofs.Sums.{total_append, total_set}
-use Rattle.cts_turn.proofs.Prefixes.{shorter_begins, longer_begins, longer_whole}
+use Rattle.cts_turn.proofs.Joins.{shorter_begins, longer_begins, longer_whole}
 use Rattle.cts_turn.proofs.Seats.{at_same, put_here, put_else, each_set, each_snoc}
 
 module _ {E O : Type 0} where

@@ -18,7 +18,7 @@ use Rattle.cts_turn.specs.Line.{StandsInLine}
 use Rattle.cts_turn.specs.History.{NoneInTurn, SomeInTurn, HasSeen, IsKept}
 use Rattle.cts_turn.specs.Steps.{Held, Draws, Compares, Rings, Records, PassesOn, Waits}
 use Rattle.cts_turn.proofs.Sums.{total_only, one_le_total, two_le_total}
-use Rattle.cts_turn.proofs.Prefixes.{prefix_self, prefix_same, prefix_trans, prefix_length}
+use Rattle.cts_list.proofs.Prefixes.{prefix_self, prefix_same, prefix_trans, prefix_length}
 use Rattle.cts_turn.proofs.Seats.{at_same, put_here, each_set, each_single}
 use Rattle.cts_turn.proofs.Lines.{line_set, ticket_served, others_wait, line_split, line_join}
 use Rattle.cts_turn.proofs.Histories.{whole_mine, whole_still, history_set, slot_still, history_split, slot_split, history_join, slot_join}

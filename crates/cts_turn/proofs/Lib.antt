@@ -1,5 +1,5 @@
 pub mod Sums
-pub mod Prefixes
+pub mod Joins
 pub mod Seats
 pub mod Lines
 pub mod Histories

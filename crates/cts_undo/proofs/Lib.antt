@@ -1,5 +1,10 @@
+mod Example
 pub mod Around
 pub mod Backs
+pub mod TakenBack
 pub mod Indexed
 pub mod Books
-mod Example
+pub mod Going
+pub mod Drawing
+pub mod OneSynthesis
+pub mod OneReply

@@ -38,3 +38,16 @@ IsPlaceOf (edit.Add id x y c) sinks place = has_id id sinks ≡ false
 IsPlaceOf (edit.Remove id) sinks place = StandsAt sinks id place
 IsPlaceOf (edit.Move id x y) sinks place = StandsAt sinks id place
 IsPlaceOf (edit.SetCap id c) sinks place = StandsAt sinks id place
+
+-- a sink of this id stands at a place, and the inverse is made of both
+abbrev Restores : List Sink → ℕ → Inverse → (ℕ → Sink → Inverse) → Type 0
+Restores sinks id inverse made =
+    (place : ℕ) × (sink : Sink) × (slice_get sinks place ≡ Some sink) × (sink.id ≡ id) × (inverse ≡ made place sink)
+
+-- what takes an edit of these sinks back: a sink that was added is removed, one that was removed is put in where it stood, and
+-- one that was changed is put in the place of what it became
+abbrev pub IsInverse : List Sink → Edit → Inverse → Type 0
+IsInverse sinks (edit.Add id x y c) inverse = inverse ≡ Remove id
+IsInverse sinks (edit.Remove id) inverse = Restores sinks id inverse (λ place sink. Insert place sink)
+IsInverse sinks (edit.Move id x y) inverse = Restores sinks id inverse (λ place sink. Restore sink)
+IsInverse sinks (edit.SetCap id c) inverse = Restores sinks id inverse (λ place sink. Restore sink)

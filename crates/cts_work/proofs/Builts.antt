@@ -9,7 +9,7 @@ use Rattle.cts_postorder.specs.BinaryTree.{BinaryTree, fork}
 use Rattle.cts_topo.specs.declared.shape.ShapeNode.{ShapeNode}
 use Rattle.cts_merge.specs.declared.side.Finished.{Finished}
 use Rattle.cts_merge.specs.Merge.{IsLeaf, IsMerged, IsBeyond}
-use Rattle.cts_turn.proofs.Prefixes.{prefix_whole}
+use Rattle.cts_list.proofs.Prefixes.{prefix_whole}
 use Rattle.cts_up.specs.Plan.{IsFinished, IsBeyondPair}
 use Rattle.cts_up.proofs.Unique.{finished_one}
 use Rattle.cts_memo.specs.declared.key.Key.{Key}

@@ -5,7 +5,7 @@ use Rattle.std.proofs.lemmas.List.{map-append}
 use Rattle.std.proofs.lemmas.List.Elements.{All-cons, Contains-append_left, Contains-append_right, filter-append}
 use Rattle.std.proofs.lemmas.List.Kept.{AllPairs-filter}
 use Rattle.cts_deal.specs.Hands.{IsDealt}
-use Rattle.cts_deal.proofs.Distinct.{at_most_from_distinct_below}
+use Rattle.cts_list.proofs.Distinct.{at_most_from_distinct_below}
 use Rattle.cts_work.specs.declared.workers.Done.{Done}
 use Rattle.cts_work.specs.Done.{AreOnce, Covers, numbers_of}
 

@@ -15,7 +15,7 @@ use Rattle.cts_topo.specs.Shape.{children, IsShapeOver}
 use Rattle.cts_merge.specs.Merge.{IsLeaf}
 use Rattle.cts_turn.specs.declared.turn.Pass.{Pass}
 use Rattle.cts_turn.specs.Passes.{seen_by}
-use Rattle.cts_turn.proofs.Prefixes.{prefix_self, prefix_trans}
+use Rattle.cts_list.proofs.Prefixes.{prefix_self, prefix_trans}
 use Rattle.cts_up.specs.Plan.{IsFinished, sink_of}
 use Rattle.cts_memo.specs.declared.entry.MemoEntry.{MemoEntry}
 use Rattle.cts_memo.specs.declared.entry.MemoCall.{MemoCall}

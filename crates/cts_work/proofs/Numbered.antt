@@ -17,7 +17,7 @@ use Rattle.cts_topo.specs.declared.shape.ShapeNode.TheVariants.{Leaf}
 use Rattle.cts_topo.specs.Shape.{children}
 use Rattle.cts_merge.specs.declared.side.Finished.{Finished}
 use Rattle.cts_merge.specs.Merge.{IsLeaf, IsMerged}
-use Rattle.cts_turn.proofs.Prefixes.{prefix_length, prefix_whole}
+use Rattle.cts_list.proofs.Prefixes.{prefix_length, prefix_whole}
 use Rattle.cts_up.specs.Plan.{IsFinished, sink_of}
 use Rattle.cts_up.proofs.Unique.{finished_one}
 use Rattle.cts_memo.specs.declared.key.Key.{Key}

@@ -1,5 +1,5 @@
 use Rattle.std.proofs.Common.{subst}
-use Rattle.cts_history_reader.specs.Readings.{IsReading}
+use Rattle.cts_history.specs.Readings.{IsReading}
 use Rattle.cts_after.proofs.input.history_of.Goals as goal
 
 pub returns-in-History-clause-opens : goal.returns-in-History-clause-opens

@@ -1,6 +1,6 @@
 use Rattle.std.proofs.Common.{ℕ, List, drop, subst}
 use Rattle.std.proofs.lemmas.Result.{err_from_is_err_and}
-use Rattle.cts_history_reader.specs.Opening.{Opens}
+use Rattle.cts_history.specs.Opening.{Opens}
 use Rattle.cts_after.specs.After.{ExplainsRest}
 use Rattle.cts_after.proofs.Inputs.{rest_refused, rest_taken}
 use Rattle.cts_after.proofs.input.read_both.Goals as goal

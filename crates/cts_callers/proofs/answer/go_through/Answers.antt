@@ -2,7 +2,7 @@ use Rattle.std.proofs.Common.{[], take, sym, ◌∙◌, subst, arith}
 use Rattle.std.proofs.lemmas.List.{take_all, take_more}
 use Rattle.cts_session.specs.Desks.{base_of}
 use Rattle.cts_session.specs.Sessions.{edits_of}
-use Rattle.cts_callers.specs.Legal.{IsAnswered}
+use Rattle.cts_history.specs.Legal.{IsAnswered}
 use Rattle.cts_callers.proofs.Going.{Gone, gone_start, gone_more}
 use Rattle.cts_callers.proofs.answer.go_through.Goals as goal
 

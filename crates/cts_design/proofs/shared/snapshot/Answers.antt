@@ -38,7 +38,7 @@ returns-in-Listed-clause-valid g c =
     let answer = c.in-Listed.ensures.answer in
     let base = instance_of c.args.design.now in
     subst (λ sinks. IsValid (with_sinks base sinks)) (sym answer.allowed.1)
-    (sound_valid base answer.list (start_of c.args.design.now).valid answer.sound)
+    (sound_valid base answer.list (start_of c.args.design.now).journal.valid answer.sound)
 
 pub returns-in-NoMemory-clause-own : goal.returns-in-NoMemory-clause-own
 returns-in-NoMemory-clause-own g c = c.call.ensures.own

@@ -1,8 +1,8 @@
 use Rattle.std.proofs.Common.{rules, ◌≡◌, ◌+◌, ◌<◌, ◌≤◌, length, IfOk, IfErr, refl, arith}
 use Rattle.cts_topo.specs.declared.shape.ShapeNode.TheVariants.{Leaf}
-use Rattle.cts_embed_workers.specs.Stretches.{ArePlaced, IsReady, IsStretch, StretchEnds}
-use Rattle.cts_embed_workers.proofs.Ids.{id_at, ids_long}
-use Rattle.cts_embed_workers.proofs.Stretches.{begins_before, leaf_stretch, right_next, left_stretch, right_stretch, in_order, left_ready, right_ready, placed_joined, placed_leaf, placed_pair, ends_in_back, ends_in_front, ends_below, ok_both, err_weaker}
+use Rattle.cts_embed.specs.Stretches.{ArePlaced, IsReady, IsStretch, StretchEnds}
+use Rattle.cts_embed.proofs.StretchIds.{id_at, ids_long}
+use Rattle.cts_embed.proofs.Stretches.{begins_before, leaf_stretch, right_next, left_stretch, right_stretch, in_order, left_ready, right_ready, placed_joined, placed_leaf, placed_pair, ends_in_back, ends_in_front, ends_below, ok_both, err_weaker}
 use Rattle.std.proofs.lemmas.Result.{IfOk-at_ok, IfOk-weaker}
 use Rattle.cts_embed_workers.proofs.tree.+places.Goals as goal
 

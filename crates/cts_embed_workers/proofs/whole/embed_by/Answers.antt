@@ -6,7 +6,7 @@ use Rattle.cts_tree.specs.declared.nodes.TreeNode.{TreeNode}
 use Rattle.cts_tree.specs.Nodes.{tree_children}
 use Rattle.cts_embed.specs.PlacedTree.{IsPlacedTree}
 use Rattle.cts_embed.proofs.PlacedFits.{placed_post_order}
-use Rattle.cts_embed_workers.proofs.AllNodes.{room_filled}
+use Rattle.cts_embed.proofs.AllNodes.{room_filled}
 use Rattle.cts_embed_workers.proofs.whole.embed_by.Goals as goal
 
 pub of-requires : goal.of-requires

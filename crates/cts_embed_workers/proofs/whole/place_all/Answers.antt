@@ -3,8 +3,8 @@ use Rattle.std.proofs.Common.{◌-◌, length, arith}
 use Rattle.std.proofs.lemmas.Result.{IfOk-weaker}
 use Rattle.cts_topo.proofs.Counts.{length-shape}
 use Rattle.cts_embed.proofs.PlacedFits.{placed_fits}
-use Rattle.cts_embed_workers.proofs.Stretches.{all_placed, all_ends, err_weaker}
-use Rattle.cts_embed_workers.proofs.AllNodes.{last_next, whole_stretch, whole_ready}
+use Rattle.cts_embed.proofs.Stretches.{all_placed, all_ends, err_weaker}
+use Rattle.cts_embed.proofs.AllNodes.{last_next, whole_stretch, whole_ready}
 use Rattle.cts_embed_workers.proofs.whole.place_all.Goals as goal
 
 pub overflow_sub-last : goal.overflow_sub-last

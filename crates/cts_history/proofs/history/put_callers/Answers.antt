@@ -1,7 +1,7 @@
 use Rattle.std.proofs.Common.{◌+◌, ◌++◌, take, take_all, All, sym, ap, subst, ◌∙◌, arith}
 use Rattle.cts_io.specs.Text.{Puts}
 use Rattle.cts_io.proofs.Chains.{◌▸◌, puts_nothing}
-use Rattle.cts_callers.specs.Turns.{lists_of}
+use Rattle.cts_history.specs.Legal.{lists_of}
 use Rattle.cts_history.specs.History.{IsPrintableReply, caller_text, numbered}
 use Rattle.cts_history.proofs.Numbered.{get_or-lists, length-lists, numbered_before_more}
 use Rattle.cts_history.proofs.history.put_callers.Goals as goal

@@ -1,6 +1,6 @@
 use Rattle.std.proofs.Common.{take}
 use Rattle.cts_io.specs.Text.{Puts}
-use Rattle.cts_callers.specs.Turns.{lists_of}
+use Rattle.cts_history.specs.Legal.{lists_of}
 use Rattle.cts_history.specs.History.{caller_text, numbered}
 use Rattle.cts_history.proofs.history.put_callers.Given as goal
 

@@ -1,5 +1,5 @@
 use Rattle.std.proofs.Common.{arith}
-use Rattle.cts_deal.proofs.Distinct.{at_most_from_distinct_below}
+use Rattle.cts_list.proofs.Distinct.{at_most_from_distinct_below}
 use Rattle.cts_rows_shared.proofs.deals.draw_past.Goals as goal
 
 pub unreachable-requires : goal.unreachable-requires

@@ -1,5 +1,5 @@
 use Rattle.std.proofs.lemmas.Result.{err_from_is_err_and}
-use Rattle.cts_callers.specs.Turns.{lists_of}
+use Rattle.cts_history.specs.Legal.{lists_of}
 use Rattle.cts_history.specs.History.{history_text}
 use Rattle.cts_report.specs.Report.{report_text}
 use Rattle.cts_top.specs.Log.{Log}

@@ -1,10 +1,9 @@
 use Rattle.std.proofs.Common.{◌≡◌, ◌≢◌, IfErr, subst, sym, ap, ◌∙◌}
 use Rattle.std.proofs.lemmas.Result.{IfOk-weaker}
 use Rattle.cts_instance.specs.Validity.{IsValid, with_sinks}
-use Rattle.cts_callers.specs.Legal.{IsLegal}
-use Rattle.cts_callers.specs.Turns.{lists_of}
+use Rattle.cts_history.specs.Legal.{IsLegal, lists_of}
 use Rattle.cts_history.specs.History.{IsPrintable}
-use Rattle.cts_history.proofs.Runs.{runs_can_be_printed_lem}
+use Rattle.cts_history.proofs.Printable.{printable_lem}
 use Rattle.cts_plain.specs.declared.end.NoTree.TheVariants as end
 use Rattle.cts_session.specs.Desks.{version_of}
 use Rattle.cts_top.specs.Memos.{IsMemoOf}
@@ -37,7 +36,8 @@ returns-clause-printable g c =
     with_both c.with_version.result c.with_version.ensures.history c.with_version.ensures.replies
     (λ e. IsPrintable e.history.items (lists_of e.replies.items))
     (λ e history replies. rw (history, replies)
-    (runs_can_be_printed_lem c.args.instance c.args.scripts.now c.in_ok-left.left c.instance_is_valid.ensures c.in_ok-left.ensures))
+    (printable_lem c.args.instance c.args.scripts.now c.in_ok-left.left.history.items (lists_of c.in_ok-left.left.replies.items)
+    c.instance_is_valid.ensures c.in_ok-left.ensures.sound c.in_ok-left.ensures.legal))
 
 pub returns-clause-synthesised : goal.returns-clause-synthesised
 returns-clause-synthesised g c =

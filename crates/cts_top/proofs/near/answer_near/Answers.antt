@@ -1,7 +1,7 @@
 use Rattle.std.proofs.Common.{subst}
 use Rattle.cts_report.specs.Report.{report_text}
-use Rattle.cts_near_tree.specs.Ends.{NearEnds}
-use Rattle.cts_near_tree.specs.Synthesis.{IsSynthesisNear}
+use Rattle.cts_near.specs.TreeEnds.{NearEnds}
+use Rattle.cts_near.specs.Synthesis.{IsSynthesisNear}
 use Rattle.cts_top.specs.declared.stop.Answer.TheVariants as answer
 use Rattle.cts_top.specs.Near.{TellsNear, no_step_text}
 use Rattle.cts_top.specs.Synthesised.{nearest}

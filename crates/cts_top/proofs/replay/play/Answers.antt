@@ -1,6 +1,6 @@
 use Rattle.std.proofs.Common.{sym, ap, ◌∙◌}
 use Rattle.cts_undo.specs.Replay.{State, opening}
-use Rattle.cts_replay.proofs.Going.{steps_base}
+use Rattle.cts_undo.proofs.Going.{steps_base}
 use Rattle.cts_top.proofs.replay.play.Goals as goal
 
 pub version_after-requires : goal.version_after-requires

@@ -3,7 +3,7 @@ use Rattle.std.proofs.lemmas.Result.{err_from_is_err_and}
 use Rattle.std.specs.Io.KnownBytes.{Appends}
 use Rattle.cts_io.specs.Text.{Writes}
 use Rattle.cts_report.specs.Report.{report_text}
-use Rattle.cts_replay.specs.ReplayText.{replay_text}
+use Rattle.cts_undo.specs.ReplayText.{replay_text}
 use Rattle.cts_top.specs.Replay.{TellsReplayed}
 use Rattle.cts_top.specs.Synthesised.{medians}
 use Rattle.cts_top.specs.Text.{TellsSynthesis}

@@ -1,6 +1,6 @@
 use Rattle.std.proofs.Common.{◌≡◌, ℕ, List, Some, get_or, slice_get, arith, sym, ap, subst, ◌∙◌}
 use Rattle.std.proofs.lemmas.Option.{get_or_from_slice_get, slice_get_within}
-use Rattle.cts_turn.proofs.Prefixes.{prefix_self}
+use Rattle.cts_list.proofs.Prefixes.{prefix_self}
 use Rattle.cts_work.proofs.Nodes.{stands_still}
 use Rattle.cts_turn.specs.Passes.{seen_by}
 use Rattle.cts_topo.specs.declared.shape.ShapeNode.TheVariants.{Pair}

@@ -1,6 +1,6 @@
 use Rattle.std.proofs.Common.{rules, ◌≡◌, ◌+◌, ◌⊎◌, ◌++◌, ◌∷◌, [], ℕ, List, length, ap, sym, ◌∙◌, subst, arith}
 use mathlib.Core.List.{IsPrefix}
-use Rattle.cts_turn.proofs.Prefixes.{prefix_trans}
+use Rattle.cts_list.proofs.Prefixes.{prefix_trans}
 use Rattle.cts_turn.specs.Steps.{Held}
 use Rattle.cts_turn.proofs.Calls.{told_by_held, recorded, onward, appends, counted, ended, has_taken}
 use Rattle.cts_turn.proofs.turn.Turn.call.Goals as goal

@@ -1,6 +1,6 @@
 use Rattle.std.proofs.Common.{refl, ap, sym, ◌∙◌, subst, arith, List, [], ◌∷◌, length, length-append, Some}
 use Rattle.cts_turn.proofs.Keeps.{opens}
-use Rattle.cts_turn.proofs.Prefixes.{prefix_same}
+use Rattle.cts_list.proofs.Prefixes.{prefix_same}
 use Rattle.cts_turn.proofs.turn.Turn.start.Goals as goal
 
 pub new-requires : goal.new-requires

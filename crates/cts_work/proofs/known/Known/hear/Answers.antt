@@ -1,5 +1,5 @@
 use Rattle.std.proofs.Common.{arith}
-use Rattle.cts_turn.proofs.Prefixes.{prefix_self, prefix_trans}
+use Rattle.cts_list.proofs.Prefixes.{prefix_self, prefix_trans}
 use Rattle.cts_work.proofs.Noted.{entry_stands}
 use Rattle.cts_work.proofs.known.Known.hear.Goals as goal
 

@@ -1,4 +1,4 @@
-use Rattle.cts_turn.proofs.Prefixes.{prefix_self, prefix_trans}
+use Rattle.cts_list.proofs.Prefixes.{prefix_self, prefix_trans}
 use Rattle.cts_work.proofs.Nodes.{stands_still, goes_further}
 use Rattle.cts_work.proofs.known.Known.hear_all.Goals as goal
 

@@ -1,5 +1,0 @@
-use Rattle.cts_callers.proofs.Once.{accepted_stand_once_lem}
-use Rattle.cts_callers.proofs.laws.accepted_stand_once.Goals as goal
-
-pub returns : goal.returns
-returns c = accepted_stand_once_lem

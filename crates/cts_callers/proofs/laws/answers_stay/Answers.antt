@@ -1,5 +1,0 @@
-use Rattle.cts_callers.proofs.Longer.{answers_stay_lem}
-use Rattle.cts_callers.proofs.laws.answers_stay.Goals as goal
-
-pub returns : goal.returns
-returns c = answers_stay_lem

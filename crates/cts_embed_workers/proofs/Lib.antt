@@ -1,4 +1,0 @@
-pub mod Ids
-pub mod LeafPins
-pub mod Stretches
-pub mod AllNodes

@@ -1,6 +1,0 @@
-pub mod EditParts
-pub mod EntryParts
-pub mod EntryPieces
-pub mod HistoryPieces
-pub mod EntryLoops
-pub mod Openings

@@ -1,4 +1,0 @@
-pub mod Opening
-pub mod Entries
-pub mod Readings
-pub mod Laws

@@ -1,0 +1,39 @@
+-- Lists that begin other lists.
+use Rattle.std.proofs.Common.{◌≡◌, ◌≤◌, ℕ, List, [], ◌∷◌, ◌++◌, length, take, drop, refl, ap, sym, ◌∙◌, subst, arith, append_assoc, length-append}
+use mathlib.Core.List.{IsPrefix}
+use Rattle.std.proofs.lemmas.List.{append-nil}
+use Rattle.std.proofs.Math.ListN.{take-append-drop}
+
+module _ {A : Type 0} where
+  pub prefix_self : (xs : List A) → IsPrefix xs xs
+  prefix_self xs = ([], append-nil xs)
+
+  pub prefix_same : (xs ys : List A) → xs ≡ ys → IsPrefix xs ys
+  prefix_same xs ys e = subst (IsPrefix xs) e (prefix_self xs)
+
+  pub prefix_trans : (xs ys zs : List A) → IsPrefix xs ys → IsPrefix ys zs → IsPrefix xs zs
+  prefix_trans xs ys zs p q = (p.0 ++ q.0, sym (append_assoc xs p.0 q.0) ∙ (ap (λ w. w ++ q.0) p.1 ∙ q.1))
+
+  pub prefix_length : (xs ys : List A) → IsPrefix xs ys → length xs ≤ length ys
+  prefix_length xs ys p = omega (arith, sym (ap length p.1) ∙ length-append xs p.0)
+
+  -- of two beginnings of one list the shorter begins the longer
+  pub prefix_shorter : (xs ys zs : List A) → IsPrefix xs zs → IsPrefix ys zs → length xs ≤ length ys → IsPrefix xs ys
+  prefix_shorter [] ys zs p q le = (ys, refl)
+  prefix_shorter (x ∷ xs) [] zs p q le = absurd (omega arith)
+  prefix_shorter (x ∷ xs) (y ∷ ys) [] p q le = absurd (cc (p.1))
+  prefix_shorter (x ∷ xs) (y ∷ ys) (z ∷ zs) p q le =
+      let heads : x ≡ y = cc (p.1, q.1) in
+      let rest = prefix_shorter xs ys zs (p.0, cc (p.1)) (q.0, cc (q.1)) (omega arith) in
+      (rest.0, cc (heads, rest.1))
+
+  -- a beginning that is as long as the whole is the whole
+  pub prefix_whole : (xs ys : List A) → IsPrefix xs ys → length ys ≤ length xs → xs ≡ ys
+  prefix_whole [] [] p le = refl
+  prefix_whole [] (y ∷ ys) p le = absurd (omega arith)
+  prefix_whole (x ∷ xs) [] p le = absurd (cc (p.1))
+  prefix_whole (x ∷ xs) (y ∷ ys) p le =
+      let rest = prefix_whole xs ys (p.0, cc (p.1)) (omega arith) in cc (p.1, rest)
+
+  pub front_of : (n : ℕ) (xs : List A) → IsPrefix (take n xs) xs
+  front_of n xs = (drop n xs, take-append-drop n xs)

@@ -1,2 +1,0 @@
-pub mod One
-pub mod Passing

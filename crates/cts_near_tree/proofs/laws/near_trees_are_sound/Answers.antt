@@ -1,5 +1,0 @@
-use Rattle.cts_near_tree.proofs.One.{near_trees_sound}
-use Rattle.cts_near_tree.proofs.laws.near_trees_are_sound.Goals as goal
-
-pub returns : goal.returns
-returns c = near_trees_sound

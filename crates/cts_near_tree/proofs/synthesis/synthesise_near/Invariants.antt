@@ -1,4 +1,0 @@
-use Rattle.cts_near_tree.proofs.synthesis.synthesise_near.Given as goal
-
-abbrev pub ghosts-synthesise_counted : goal.ghosts-synthesise_counted
-ghosts-synthesise_counted a = record { name = a.blank.name; parts = a.blank.parts }

@@ -1,4 +1,0 @@
-pub mod Going
-pub mod Drawing
-pub mod OneSynthesis
-pub mod OneReply

@@ -1,5 +1,0 @@
-use Rattle.cts_replay.proofs.OneReply.{replies_one}
-use Rattle.cts_replay.proofs.laws.replies_are_one.Goals as goal
-
-pub returns : goal.returns
-returns c = replies_one

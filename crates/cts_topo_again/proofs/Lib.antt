@@ -1,4 +1,0 @@
-pub mod Fresh
-pub mod Picked
-pub mod Rising
-pub mod Whole

@@ -1,5 +1,0 @@
-pub mod Rising
-pub use Rattle.cts_topo.specs.Shape
-pub use Rattle.cts_topo.specs.Sinks
-pub use Rattle.cts_topo.specs.Topology
-pub use Rattle.cts_topo.specs.Shuffled

@@ -1,3 +1,0 @@
-pub mod Joined
-pub mod FiguresExist
-pub mod Whole
