@@ -7,9 +7,11 @@ use Rattle.cts_read.specs.declared.stop.ReadStop.TheVariants.{Refused, NoMemory}
 use Rattle.cts_read.specs.Grammar.{Refuses}
 use Rattle.cts_history.specs.Opening.{Opens}
 use Rattle.cts_notes.specs.Front.{SpellsFront, front_of, input_limit}
-use Rattle.cts_after.specs.declared.stop.Stop.{Stop}
-use Rattle.cts_after.specs.declared.stop.Stop.TheVariants as stop
-use Rattle.cts_after.specs.After.{Explains, ExplainsRest, stop_of_text}
+use Rattle.cts_notes.specs.Stops.{stop_of_text}
+use Rattle.cts_notes.specs.declared.stop.Stop.{Stop}
+use Rattle.cts_notes.specs.declared.stop.Stop.TheVariants as stop
+use Rattle.cts_after.specs.declared.stop.NotHistory.{NotHistory}
+use Rattle.cts_after.specs.After.{Explains, ExplainsRest}
 use Rattle.cts_after.specs.Laws.{SpelledIsServed}
 
 pub refuses_explains : (bytes : List ℕ) (end : ReadStop) → length bytes ≤ input_limit → Refuses end (front_of bytes)
@@ -18,9 +20,9 @@ refuses_explains bytes (Refused line cause) h e = (h, e)
 refuses_explains bytes NoMemory h e = tt
 
 -- where the instance was read, and what follows it begins with no history
-pub rest_refused : (bytes : List ℕ) (i : Parts) (rest : List ℕ) (end : Stop) → SpellsFront bytes i rest → ExplainsRest rest end
+pub rest_refused : (bytes : List ℕ) (i : Parts) (rest : List ℕ) (end : Stop NotHistory) → SpellsFront bytes i rest → ExplainsRest rest end
     → Explains bytes end
-rest_refused bytes i rest (stop.NotHistory line) front none = (i, rest, front, none)
+rest_refused bytes i rest (stop.Own reason) front none = (i, rest, front, none)
 rest_refused bytes i rest stop.NoMemory front none = tt
 rest_refused bytes i rest stop.Words front none = absurd none
 rest_refused bytes i rest stop.TooLong front none = absurd none
@@ -47,7 +49,7 @@ fronts_are_one bytes i j rest other h g = ok_is (sym h.read ∙ g.read)
 pub spelled_is_served_lem : SpelledIsServed
 spelled_is_served_lem bytes i history stop.TooLong spells long is = omega (arith, spells.front.within, long)
 spelled_is_served_lem bytes i history (stop.Refused line cause) spells refused is = err_ok (sym refused.1 ∙ spells.front.read)
-spelled_is_served_lem bytes i history (stop.NotHistory line) spells none is =
+spelled_is_served_lem bytes i history (stop.Own reason) spells none is =
     let same = fronts_are_one bytes i none.0 spells.rest none.1 spells.front none.2 in
     none.3.none history (subst (λ rest. Opens rest history) (ap (λ (x : Parts × List ℕ). x.1) same) spells.opens)
 spelled_is_served_lem bytes i history stop.Words spells explained is = is

@@ -1,5 +1,4 @@
 pub mod Inputs
-pub mod Noting
 pub mod Refusals
 pub mod Unique
 pub mod GoOn

@@ -2,21 +2,19 @@
 use Rattle.std.specs.Prelude.{◌≡◌, ◌≢◌, ℕ, ◌<◌, ◌≤◌, ◌↔◌, Bool, true, List, length, take, Option, IfSome, Result, Ok, Err, IfOk, IfErr, IsErrOf}
 use Rattle.std.specs.Io.KnownBytes.{Appends, IsAtEnd}
 use Rattle.cts_io.specs.Faults.{Rose}
-use Rattle.cts_io.specs.declared.read.ReadEnd.{ReadEnd}
-use Rattle.cts_io.specs.declared.read.ReadEnd.TheVariants as reading
 use Rattle.cts_instance.specs.declared.parts.Parts.{Parts}
 use Rattle.cts_edit.specs.declared.edit.Entry.{Entry}
-use Rattle.cts_read.specs.declared.stop.ReadStop.{ReadStop}
-use Rattle.cts_read.specs.declared.stop.ReadStop.TheVariants as text
 use Rattle.cts_history.specs.Opening.{Opens, OpensNone}
 use Rattle.cts_notes.specs.Front.{SpellsFront, front_of, input_limit}
 use Rattle.cts_notes.specs.declared.status.Status.{Status}
 use Rattle.cts_notes.specs.declared.status.Status.TheVariants as status
+use Rattle.cts_notes.specs.declared.stop.Stop.{Stop}
+use Rattle.cts_notes.specs.declared.stop.Stop.TheVariants as stop
+use Rattle.cts_notes.specs.Stops.{stop_status}
 use Rattle.cts_after.specs.declared.outcome.Outcome.{Outcome}
 use Rattle.cts_after.specs.declared.outcome.Answer.{Answer}
 use Rattle.cts_after.specs.declared.outcome.Answer.TheVariants as answer
-use Rattle.cts_after.specs.declared.stop.Stop.{Stop}
-use Rattle.cts_after.specs.declared.stop.Stop.TheVariants as stop
+use Rattle.cts_after.specs.declared.stop.NotHistory.{NotHistory}
 use Rattle.cts_after.specs.Outcomes.{IsOutcome, answer_of, text_of}
 
 -- The input is not too long, and spells this instance, behind which stands a text that begins with this history.
@@ -32,30 +30,15 @@ pub record ComesTo (bytes : List ℕ) (outcome : Outcome) : Type 0 where
   pub spells : SpellsBoth bytes instance history
   pub is_outcome : IsOutcome instance history outcome
 
-abbrev pub stop_of_read : ReadEnd → Stop
-stop_of_read reading.ReadFault = stop.ReadFault
-stop_of_read reading.TooLong = stop.TooLong
-stop_of_read reading.NoMemory = stop.NoMemory
-
-abbrev pub stop_of_text : ReadStop → Stop
-stop_of_text (text.Refused line cause) = stop.Refused line cause
-stop_of_text text.NoMemory = stop.NoMemory
-
 -- the statuses are those of the program for words
-abbrev pub status_of : Result Answer Stop → Status
+abbrev pub status_of : Result Answer (Stop NotHistory) → Status
 status_of (Ok answer.After) = status.Done
 status_of (Ok answer.No) = status.No
-status_of (Err stop.Words) = status.Words
-status_of (Err stop.TooLong) = status.Refused
-status_of (Err (stop.Refused line cause)) = status.Refused
-status_of (Err (stop.NotHistory line)) = status.Refused
-status_of (Err stop.ReadFault) = status.ReadFault
-status_of (Err stop.WriteFault) = status.WriteFault
-status_of (Err stop.NoMemory) = status.NoMemory
+status_of (Err stop) = stop_status (λ reason. status.Refused) stop
 
 -- What follows the instance, where a run stops for it: the text of no history.
-abbrev pub ExplainsRest : List ℕ → Stop → Type 0
-ExplainsRest rest (stop.NotHistory line) = OpensNone rest line
+abbrev pub ExplainsRest : List ℕ → Stop NotHistory → Type 0
+ExplainsRest rest (stop.Own reason) = OpensNone rest reason.line
 ExplainsRest rest stop.NoMemory = Unit
 ExplainsRest rest stop.Words = ⊥
 ExplainsRest rest stop.TooLong = ⊥
@@ -65,10 +48,10 @@ ExplainsRest rest stop.WriteFault = ⊥
 
 -- What the bytes of an input must be where a run stops so: too long, or refused at this line for this cause, or with no
 -- history behind the instance.
-abbrev pub Explains : List ℕ → Stop → Type 0
+abbrev pub Explains : List ℕ → Stop NotHistory → Type 0
 Explains bytes stop.TooLong = input_limit < length bytes
 Explains bytes (stop.Refused line cause) = (length bytes ≤ input_limit) × (front_of bytes ≡ Err (line, cause))
-Explains bytes (stop.NotHistory line) = (i : Parts) × (rest : List ℕ) × SpellsFront bytes i rest × OpensNone rest line
+Explains bytes (stop.Own reason) = (i : Parts) × (rest : List ℕ) × SpellsFront bytes i rest × OpensNone rest reason.line
 Explains bytes stop.Words = Unit
 Explains bytes stop.ReadFault = Unit
 Explains bytes stop.WriteFault = Unit
@@ -78,7 +61,7 @@ Explains bytes stop.NoMemory = Unit
 -- written whole, once the input was read to its end; where none was, the input explains why, and the output is as it was but
 -- for a write fault.
 pub record Tells {S K : Type 0} (left : S → Option (List ℕ)) (reads : S → ℕ) (held : K → Option (List ℕ)) (writes : K → ℕ)
-    (has_words : Bool) (source source' : S) (sink sink' : K) (result : Result Answer Stop) : Type 0 where
+    (has_words : Bool) (source source' : S) (sink sink' : K) (result : Result Answer (Stop NotHistory)) : Type 0 where
   pub words : IsErrOf result stop.Words ↔ (has_words ≡ true)
   pub untouched : IsErrOf result stop.Words → source' ≡ source
   pub done : IfOk result (λ answer. IsAtEnd (left source')

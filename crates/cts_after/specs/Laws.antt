@@ -15,10 +15,11 @@ use Rattle.cts_report.specs.Report.{report_text}
 use Rattle.cts_check.specs.declared.verdict.Verdict.TheVariants.{Yes}
 use Rattle.cts_check.specs.Verdict.{IsVerdict}
 use Rattle.cts_notes.specs.Front.{SpellsFront}
+use Rattle.cts_notes.specs.declared.stop.Stop.{Stop}
+use Rattle.cts_notes.specs.declared.stop.Stop.TheVariants as stop
 use Rattle.cts_after.specs.declared.outcome.Outcome.{Outcome}
 use Rattle.cts_after.specs.declared.outcome.Outcome.TheVariants.{Made}
-use Rattle.cts_after.specs.declared.stop.Stop.{Stop}
-use Rattle.cts_after.specs.declared.stop.Stop.TheVariants as stop
+use Rattle.cts_after.specs.declared.stop.NotHistory.{NotHistory}
 use Rattle.cts_after.specs.Outcomes.{instance_after}
 use Rattle.cts_after.specs.After.{ComesTo, Explains, SpellsBoth}
 
@@ -27,10 +28,10 @@ abbrev pub OutcomeIsOne : Type 0
 OutcomeIsOne = (bytes : List ℕ) (outcome other : Outcome) → ComesTo bytes outcome → ComesTo bytes other → outcome ≡ other
 
 -- a run stops so for the input
-abbrev pub IsRefusal : Stop → Type 0
+abbrev pub IsRefusal : Stop NotHistory → Type 0
 IsRefusal stop.TooLong = Unit
 IsRefusal (stop.Refused line cause) = Unit
-IsRefusal (stop.NotHistory line) = Unit
+IsRefusal (stop.Own reason) = Unit
 IsRefusal stop.Words = ⊥
 IsRefusal stop.ReadFault = ⊥
 IsRefusal stop.WriteFault = ⊥
@@ -39,7 +40,7 @@ IsRefusal stop.NoMemory = ⊥
 -- no input is refused that spells an instance and a history
 abbrev pub SpelledIsServed : Type 0
 SpelledIsServed =
-    (bytes : List ℕ) (i : Parts) (history : List Entry) (end : Stop) → SpellsBoth bytes i history → Explains bytes end → ¬ IsRefusal end
+    (bytes : List ℕ) (i : Parts) (history : List Entry) (end : Stop NotHistory) → SpellsBoth bytes i history → Explains bytes end → ¬ IsRefusal end
 
 -- An instance, and behind it what `edit` writes of a history that was accepted on it, with the report of a synthesis of the sinks
 -- after that history: the input comes to the instance with these sinks, of which the report has the verdict Yes.

@@ -1,19 +1,19 @@
 //! The top call.
 
-ghost use Rattle.std.specs.Prelude.{◌≡◌, ◌≤◌, Result, false};
+ghost use Rattle.std.specs.Prelude.{◌≡◌, ◌≤◌, ℕ, Result, false, take};
 ghost use Rattle.std.specs.Io.KnownBytes.{Appends};
 ghost use Rattle.cts_io.specs.Faults.{Rose};
 ghost use Rattle.cts_after.specs.After.{Tells, status_of};
 ghost use Rattle.cts_after.specs.Notes.{note_of};
 ghost use Rattle.cts_after.specs.declared.outcome.Answer.{Answer};
-ghost use Rattle.cts_after.specs.declared.stop.Stop.{Stop};
+ghost use Rattle.cts_after.specs.declared.stop.NotHistory.{NotHistory};
+ghost use Rattle.cts_notes.specs.declared.stop.Stop.{Stop};
 
 use crate::input::read_source;
-use crate::notes::write_note;
 use crate::outcome::{Answer, answer_of, write_outcome};
-use crate::stop::{Stop, status_of};
+use crate::stop::{NotHistory, status_of};
 use cts_io::{ByteSink, ByteSource};
-use cts_notes::Status;
+use cts_notes::{Status, Stop, write_note};
 use std::alloc::Global;
 
 /// Reads an instance and a history, and writes what the history comes to.
@@ -21,7 +21,7 @@ fn tell_source<S: ByteSource, K: ByteSink>(
     alloc: Global,
     source: &mut S,
     sink: &mut K,
-) -> Result<Answer, Stop>
+) -> Result<Answer, Stop<NotHistory>>
     ensures { Tells S.left S.faults K.held K.faults false source.old source.new sink.old sink.new result }
 {
     let outcome = read_source(alloc, source)?;
@@ -35,7 +35,7 @@ fn answer<S: ByteSource, K: ByteSink>(
     has_words: bool,
     source: &mut S,
     sink: &mut K,
-) -> Result<Answer, Stop>
+) -> Result<Answer, Stop<NotHistory>>
     ensures { Tells S.left S.faults K.held K.faults has_words source.old source.new sink.old sink.new result }
 {
     if has_words {
@@ -60,7 +60,7 @@ fn answer<S: ByteSource, K: ByteSink>(
 ///   write fault the sink holds its old bytes and a front of the text.
 /// - `NoMemory`: before the first write; the sink is as it was.
 ///
-/// The notes get at most one line. Where they fail, nothing else changes.
+/// The notes get at most one line. Where they fail they get a front of it, and nothing else changes.
 pub fn tell_after<S: ByteSource, K: ByteSink, N: ByteSink>(
     alloc: Global,
     has_words: bool,
@@ -68,15 +68,16 @@ pub fn tell_after<S: ByteSource, K: ByteSink, N: ByteSink>(
     sink: &mut K,
     notes: &mut N,
 ) -> Status
-    ensures tells { (ending : Result Answer Stop)
+    ensures tells { (ending : Result Answer (Stop NotHistory))
         × Tells S.left S.faults K.held K.faults has_words source.old source.new sink.old sink.new ending
         × (result ≡ status_of ending)
         × ((Rose (N.faults notes.old) (N.faults notes.new) → ⊥)
-        → Appends (N.held notes.old) (N.held notes.new) (note_of ending)) }
+        → Appends (N.held notes.old) (N.held notes.new) (note_of ending))
+        × ((count : ℕ) × Appends (N.held notes.old) (N.held notes.new) (take count (note_of ending))) }
     ensures counted { N.faults notes.old ≤ N.faults notes.new }
 {
     let ending = answer(alloc, has_words, source, sink);
     // A note that can't be written changes nothing.
-    let _ = write_note(notes, &ending);
+    let _ = write_note(notes, b"usage: cts-after\n", &ending);
     status_of(&ending)
 }

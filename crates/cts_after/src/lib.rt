@@ -3,16 +3,15 @@
 //! sinks after the history, or a line that names the first entry that the rule of edits refuses.
 //!
 //! The layer above, the program, may use [`tell_after`]. What stands beside it is private: the instance and the
-//! history of an input (`input`), the edits of a history made one after another (`outcome`), and the notes
-//! (`stop`, `notes`). Statuses and notes are those of `cts` (`cts_notes`), beside which there is one more note, on
-//! a history that is none. [`laws`] says that an input comes to one thing at most, that none is refused which
+//! history of an input (`input`), the edits of a history made one after another (`outcome`), and the
+//! program's own reason to stop (`stop`), a history that is none. Statuses and the other notes are those of `cts`
+//! (`cts_notes`). [`laws`] says that an input comes to one thing at most, that none is refused which
 //! spells an instance and a history, and that what `edit` writes comes to the instance of its report.
 #![tactic(auto)]
 
 mod after;
 mod input;
 pub mod laws;
-mod notes;
 mod outcome;
 mod stop;
 

@@ -1,95 +1,49 @@
-//! Why nothing was written whole.
+//! The reason that this program alone has to stop, and the status of a run.
 
 ghost use Rattle.std.specs.Prelude.{◌≡◌, Result};
-ghost use Rattle.cts_after.specs.After.{status_of, stop_of_read, stop_of_text};
-ghost use Rattle.cts_after.specs.declared.stop.Stop.TheVariants.{WriteFault};
+ghost use Rattle.cts_io.specs.Text.{Puts};
+ghost use Rattle.cts_notes.specs.declared.status.Status.TheVariants.{Refused};
+ghost use Rattle.cts_after.specs.After.{status_of};
+ghost use Rattle.cts_after.specs.Notes.{not_history_note};
 
 use crate::outcome::Answer;
-use cts_io::{ReadEnd, WriteEnd};
-use cts_notes::Status;
-use cts_num::NoMemory;
-use cts_read::{Cause, ReadStop};
-use thiserror::Error;
+use cts_io::{ByteSink, SinkBuffer};
+use cts_notes::{Reason, Status, Stop, put_numbered};
 
-/// Why nothing was written whole.
-#[derive(Clone, Copy, Debug, Error)]
-pub enum Stop {
-    /// There are words, and none is served.
-    #[error("the words are not served")]
-    Words,
-    /// The input is longer than is accepted.
-    #[error("the input is too long")]
-    TooLong,
-    /// The input begins with no instance: its first line that offends, and the first cause of that line.
-    #[error("line {line}: {cause}")]
-    Refused { line: u32, cause: Cause },
-    /// What follows the instance begins with no history: the first line with which none begins, counted from 1
-    /// after the instance.
-    #[error("history line {line}")]
-    NotHistory { line: u64 },
-    /// Reading the input failed.
-    #[error("read fault")]
-    ReadFault,
-    /// Writing the text failed.
-    #[error("write fault")]
-    WriteFault,
-    /// Memory ran out.
-    #[error("no memory")]
-    NoMemory,
+/// What follows the instance begins with no history: the first line with which none begins, counted from 1
+/// after the instance.
+#[derive(Clone, Copy, Debug)]
+pub struct NotHistory {
+    pub line: u64,
 }
 
-impl From<ReadEnd> for Stop {
-    ghost from_gives = { λ end stop. stop ≡ stop_of_read end };
+impl Reason for NotHistory {
+    ghost note = { not_history_note };
 
-    fn from(end: ReadEnd) -> Stop {
-        match end {
-            ReadEnd::ReadFault => Stop::ReadFault,
-            ReadEnd::TooLong => Stop::TooLong,
-            ReadEnd::NoMemory => Stop::NoMemory,
-        }
+    ghost status = { λ _. Refused };
+
+    #[tactic(auto, unfolding(crate::specs::Notes::not_history_note))]
+    fn put_note<N: ByteSink>(&self, out: &mut SinkBuffer, notes: &mut N)
+        ensures { Puts N.ByteSink (notes.old, out.old) (notes.new, out.new) (not_history_note self.now) }
+    {
+        put_numbered(out, notes, b"refused: history line ", self.line);
+        out.put(notes, b"\n");
     }
-}
 
-impl From<ReadStop> for Stop {
-    ghost from_gives = { λ end stop. stop ≡ stop_of_text end };
-
-    fn from(end: ReadStop) -> Stop {
-        match end {
-            ReadStop::Refused { line, cause } => Stop::Refused { line, cause },
-            ReadStop::NoMemory => Stop::NoMemory,
-        }
-    }
-}
-
-impl From<NoMemory> for Stop {
-    ghost use Rattle.cts_after.specs.declared.stop.Stop.TheVariants.{NoMemory};
-
-    ghost from_gives = { λ _ stop. stop ≡ NoMemory };
-
-    fn from(_error: NoMemory) -> Stop {
-        Stop::NoMemory
-    }
-}
-
-impl From<WriteEnd> for Stop {
-    ghost from_gives = { λ _ stop. stop ≡ WriteFault };
-
-    fn from(_end: WriteEnd) -> Stop {
-        Stop::WriteFault
+    fn status(&self) -> Status
+        ensures { result ≡ Refused }
+    {
+        Status::Refused
     }
 }
 
 /// The status of a run that ended so.
-pub fn status_of(ending: &Result<Answer, Stop>) -> Status
+pub fn status_of(ending: &Result<Answer, Stop<NotHistory>>) -> Status
     ensures { result ≡ status_of ending.now }
 {
     match ending {
         Ok(Answer::After) => Status::Done,
         Ok(Answer::No) => Status::No,
-        Err(Stop::Words) => Status::Words,
-        Err(Stop::TooLong | Stop::Refused { .. } | Stop::NotHistory { .. }) => Status::Refused,
-        Err(Stop::ReadFault) => Status::ReadFault,
-        Err(Stop::WriteFault) => Status::WriteFault,
-        Err(Stop::NoMemory) => Status::NoMemory,
+        Err(stop) => stop.status(),
     }
 }

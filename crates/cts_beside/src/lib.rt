@@ -7,6 +7,9 @@
 //! that calls [`threads_at_once`] for work that starts several threads by itself.
 #![tactic(auto)]
 
+mod halves;
+
+pub use halves::{Halved, Halves, by_halves};
 use std::thread::{Threads, join, join_mut};
 
 /// Calls one in a thread of its own, or last where none can be made, and the other one in this thread.

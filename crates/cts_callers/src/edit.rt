@@ -93,7 +93,7 @@ pub fn run_callers<R: Threads + Wait + Sync, G: Gate>(
     ensures { IfOk result (IsRun instance scripts.now) }
 {
     let secret = secret_of(&instance, scripts);
-    let (desk, hands) = Desk::start(alloc, instance, secret)?;
+    let (desk, hands) = Desk::start_seeded(alloc, instance, secret)?;
     let Served { replies, hands } = run_from(rt, alloc, gate, &desk, hands, 1, scripts);
     let replies = replies?;
     let mut session = Session::of(&desk, hands, 0);

@@ -7,6 +7,7 @@ use Rattle.std.proofs.lemmas.List.{length-map}
 use Rattle.std.proofs.lemmas.List.Elements.{All-cons, All-nil, All-head, All-tail, All-append, All-weaker}
 use Rattle.std.proofs.lemmas.List.Sums.{sum_by-cons}
 use Rattle.std.proofs.lemmas.Option.{slice_get_within, get_or_from_slice_get}
+use Rattle.cts_list.proofs.AllOf.{all_front, all_back}
 use Rattle.cts_geom.specs.declared.points.Half.{Half}
 use Rattle.cts_geom.specs.declared.points.Spot.{Spot}
 use Rattle.cts_geom.specs.Points.{point_of}
@@ -34,7 +35,7 @@ use Rattle.cts_elmore.specs.Limits.{IsPairOver, IsRootOver, IsOver, long_left, l
 use Rattle.cts_elmore.specs.Loads.{load_below, source_load}
 use Rattle.cts_elmore.specs.Measurement.{HasFigures}
 use Rattle.cts_elmore.specs.Sound.{IsSound, StandsInDie}
-use Rattle.cts_elmore.proofs.InDie.{all_front, all_back, sound_in_die}
+use Rattle.cts_elmore.proofs.InDie.{sound_in_die}
 use Rattle.cts_elmore.proofs.InRange.{all_partners, figures_in_range}
 use Rattle.cts_elmore.proofs.Rising.{not_above, sink_load_le}
 use Rattle.cts_report.specs.Report.{printed_point, printed_kind, printed_arrival, printed_arrivals, printed_node, printed_nodes, printed_report, report_text}

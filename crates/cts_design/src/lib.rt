@@ -6,7 +6,7 @@
 //! sends an edit to it, and [`snapshot`] lists the sinks. The layers above may use that each call meets a
 //! history that begins with all that its pass had seen, that an accepted edit is appended there once, and
 //! that the sinks of a snapshot are those after the history that the pass then has seen, which are valid
-//! with the other parts of the instance.
+//! with the other parts of the instance. [`decide`] judges an edit of any list of sinks, without a design.
 #![tactic(auto)]
 
 mod call;
@@ -15,6 +15,6 @@ pub mod laws;
 mod shared;
 
 pub use call::{DesignCall, DesignReply};
-pub use cts_edit::{Edit, EditCause, EditReply, Entry};
+pub use cts_edit::{Edit, EditCause, EditReply, Entry, decide};
 pub use design::Design;
 pub use shared::{send_edit, snapshot};

@@ -6,9 +6,11 @@ use Rattle.cts_read.specs.declared.stop.ReadStop.{ReadStop}
 use Rattle.cts_read.specs.declared.stop.ReadStop.TheVariants.{Refused, NoMemory}
 use Rattle.cts_read.specs.Grammar.{Refuses}
 use Rattle.cts_notes.specs.Front.{SpellsFront, front_of, input_limit}
-use Rattle.cts_draw.specs.declared.stop.Stop.{Stop}
-use Rattle.cts_draw.specs.declared.stop.Stop.TheVariants as stop
-use Rattle.cts_draw.specs.Drawing.{Explains, ExplainsReport, stop_of_text}
+use Rattle.cts_notes.specs.Stops.{stop_of_text}
+use Rattle.cts_notes.specs.declared.stop.Stop.{Stop}
+use Rattle.cts_notes.specs.declared.stop.Stop.TheVariants as stop
+use Rattle.cts_draw.specs.declared.stop.NotText.{NotText}
+use Rattle.cts_draw.specs.Drawing.{Explains, ExplainsReport}
 
 pub refuses_explains : (bytes : List ℕ) (end : ReadStop) → length bytes ≤ input_limit → Refuses end (front_of bytes)
     → Explains bytes (stop_of_text end)
@@ -16,9 +18,9 @@ refuses_explains bytes (Refused line cause) h e = (h, e)
 refuses_explains bytes NoMemory h e = tt
 
 -- where the instance was read, and what follows it is no report
-pub report_refused : (bytes : List ℕ) (i : Parts) (rest : List ℕ) (end : Stop) → SpellsFront bytes i rest → ExplainsReport i rest end
+pub report_refused : (bytes : List ℕ) (i : Parts) (rest : List ℕ) (end : Stop NotText) → SpellsFront bytes i rest → ExplainsReport i rest end
     → Explains bytes end
-report_refused bytes i rest (stop.NotText line) front none = (i, rest, front, none)
+report_refused bytes i rest (stop.Own reason) front none = (i, rest, front, none)
 report_refused bytes i rest stop.NoMemory front none = tt
 report_refused bytes i rest stop.Words front none = absurd none
 report_refused bytes i rest stop.TooLong front none = absurd none

@@ -2,11 +2,7 @@
 use Rattle.std.specs.Prelude.{◌≡◌, ◌≢◌, ℕ, ◌<◌, ◌≤◌, ◌↔◌, Bool, true, List, length, take, Option, IfSome, Result, Ok, Err, IsOk, IfErr, IsErrOf}
 use Rattle.std.specs.Io.KnownBytes.{Appends, IsAtEnd}
 use Rattle.cts_io.specs.Faults.{Rose}
-use Rattle.cts_io.specs.declared.read.ReadEnd.{ReadEnd}
-use Rattle.cts_io.specs.declared.read.ReadEnd.TheVariants as reading
 use Rattle.cts_instance.specs.declared.parts.Parts.{Parts}
-use Rattle.cts_read.specs.declared.stop.ReadStop.{ReadStop}
-use Rattle.cts_read.specs.declared.stop.ReadStop.TheVariants as text
 use Rattle.cts_report.specs.Lines.{report_lines}
 use Rattle.cts_report.specs.Printed.{Printed}
 use Rattle.cts_report_reader.specs.Bounds.{IsReport}
@@ -16,8 +12,10 @@ use Rattle.cts_picture.specs.Picture.{picture_text}
 use Rattle.cts_notes.specs.Front.{SpellsFront, front_of, input_limit}
 use Rattle.cts_notes.specs.declared.status.Status.{Status}
 use Rattle.cts_notes.specs.declared.status.Status.TheVariants as status
-use Rattle.cts_draw.specs.declared.stop.Stop.{Stop}
-use Rattle.cts_draw.specs.declared.stop.Stop.TheVariants as stop
+use Rattle.cts_notes.specs.declared.stop.Stop.{Stop}
+use Rattle.cts_notes.specs.declared.stop.Stop.TheVariants as stop
+use Rattle.cts_notes.specs.Stops.{stop_status}
+use Rattle.cts_draw.specs.declared.stop.NotText.{NotText}
 
 -- the bytes are the text of this report, in the version of an instance with these parts
 abbrev pub SpellsReport : Parts → List ℕ → Printed → Type 0
@@ -37,29 +35,14 @@ pub record SpellsBoth (bytes : List ℕ) (i : Parts) (printed : Printed) : Type 
 abbrev pub IsPicture : List ℕ → List ℕ → Type 0
 IsPicture bytes picture = (i : Parts) × (printed : Printed) × SpellsBoth bytes i printed × (picture ≡ picture_text i printed)
 
-abbrev pub stop_of_read : ReadEnd → Stop
-stop_of_read reading.ReadFault = stop.ReadFault
-stop_of_read reading.TooLong = stop.TooLong
-stop_of_read reading.NoMemory = stop.NoMemory
-
-abbrev pub stop_of_text : ReadStop → Stop
-stop_of_text (text.Refused line cause) = stop.Refused line cause
-stop_of_text text.NoMemory = stop.NoMemory
-
 -- the statuses are those of the program for words
-abbrev pub status_of : Result Unit Stop → Status
+abbrev pub status_of : Result Unit (Stop NotText) → Status
 status_of (Ok done) = status.Done
-status_of (Err stop.Words) = status.Words
-status_of (Err stop.TooLong) = status.Refused
-status_of (Err (stop.Refused line cause)) = status.Refused
-status_of (Err (stop.NotText line)) = status.Refused
-status_of (Err stop.ReadFault) = status.ReadFault
-status_of (Err stop.WriteFault) = status.WriteFault
-status_of (Err stop.NoMemory) = status.NoMemory
+status_of (Err stop) = stop_status (λ reason. status.Refused) stop
 
 -- What follows the instance, where a run stops for it: no text of a report.
-abbrev pub ExplainsReport : Parts → List ℕ → Stop → Type 0
-ExplainsReport i bytes (stop.NotText line) = IsNoReport i bytes line
+abbrev pub ExplainsReport : Parts → List ℕ → Stop NotText → Type 0
+ExplainsReport i bytes (stop.Own reason) = IsNoReport i bytes reason.line
 ExplainsReport i bytes stop.NoMemory = Unit
 ExplainsReport i bytes stop.Words = ⊥
 ExplainsReport i bytes stop.TooLong = ⊥
@@ -69,10 +52,10 @@ ExplainsReport i bytes stop.WriteFault = ⊥
 
 -- What the bytes of an input must be where a run stops so: too long, or refused at this line for this cause, or followed by
 -- no text of a report.
-abbrev pub Explains : List ℕ → Stop → Type 0
+abbrev pub Explains : List ℕ → Stop NotText → Type 0
 Explains bytes stop.TooLong = input_limit < length bytes
 Explains bytes (stop.Refused line cause) = (length bytes ≤ input_limit) × (front_of bytes ≡ Err (line, cause))
-Explains bytes (stop.NotText line) = (i : Parts) × (rest : List ℕ) × SpellsFront bytes i rest × IsNoReport i rest line
+Explains bytes (stop.Own reason) = (i : Parts) × (rest : List ℕ) × SpellsFront bytes i rest × IsNoReport i rest reason.line
 Explains bytes stop.Words = Unit
 Explains bytes stop.ReadFault = Unit
 Explains bytes stop.WriteFault = Unit
@@ -81,7 +64,7 @@ Explains bytes stop.NoMemory = Unit
 -- How a run ends that has an input and an output, and is asked with words or without. A picture is written whole, once the
 -- input was read to its end; where none was, the input explains why, and the output is as it was but for a write fault.
 pub record Draws {S K : Type 0} (left : S → Option (List ℕ)) (reads : S → ℕ) (held : K → Option (List ℕ)) (writes : K → ℕ)
-    (has_words : Bool) (source source' : S) (sink sink' : K) (result : Result Unit Stop) : Type 0 where
+    (has_words : Bool) (source source' : S) (sink sink' : K) (result : Result Unit (Stop NotText)) : Type 0 where
   pub words : IsErrOf result stop.Words ↔ (has_words ≡ true)
   pub untouched : IsErrOf result stop.Words → source' ≡ source
   pub done : IsOk result → IsAtEnd (left source')

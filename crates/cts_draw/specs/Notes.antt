@@ -1,20 +1,13 @@
 -- What the notes say where no picture was written whole. But for the usage and for a report that is none they are the notes
 -- of the program for words.
-use Rattle.std.specs.Prelude.{ℕ, List, [], ◌++◌, codes, Result, Ok, Err}
-use Rattle.cts_notes.specs.Notes.{numbered, refusal_note, too_long_note}
-use Rattle.cts_draw.specs.declared.stop.Stop.{Stop}
-use Rattle.cts_draw.specs.declared.stop.Stop.TheVariants as stop
+use Rattle.std.specs.Prelude.{ℕ, List, ◌++◌, codes, Result}
+use Rattle.cts_notes.specs.Notes.{numbered}
+use Rattle.cts_notes.specs.Stops.{ending_note}
+use Rattle.cts_notes.specs.declared.stop.Stop.{Stop}
+use Rattle.cts_draw.specs.declared.stop.NotText.{NotText}
 
-unfoldable pub stop_note : Stop → List ℕ
-stop_note stop.Words = codes "usage: cts-draw\n"
-stop_note stop.TooLong = too_long_note
-stop_note (stop.Refused line cause) = refusal_note line cause
-stop_note (stop.NotText line) = numbered (codes "refused: report line ") line ++ codes "\n"
-stop_note stop.ReadFault = codes "read fault\n"
-stop_note stop.WriteFault = codes "write fault\n"
-stop_note stop.NoMemory = codes "no memory\n"
+unfoldable pub not_text_note : NotText → List ℕ
+not_text_note reason = numbered (codes "refused: report line ") reason.line ++ codes "\n"
 
--- a run that wrote its picture whole has nothing to say
-unfoldable pub note_of : Result Unit Stop → List ℕ
-note_of (Ok done) = []
-note_of (Err stop) = stop_note stop
+abbrev pub note_of : Result Unit (Stop NotText) → List ℕ
+note_of ending = ending_note (codes "usage: cts-draw\n") not_text_note ending

@@ -1,8 +1,9 @@
 -- A sound tree of a valid instance stands in the die: routes lie there, and each begins where the one above it ends.
 use Rattle.std.proofs.Common.{inl, inr, List, [], ◌∷◌, ◌++◌, ℤ, sym, subst, arith}
 use Rattle.std.specs.List.{All}
-use Rattle.std.proofs.lemmas.List.Elements.{All-append, All-cons, All-head, All-nil, All-tail, All-weaker}
+use Rattle.std.proofs.lemmas.List.Elements.{All-append, All-cons, All-head, All-nil, All-weaker}
 use Rattle.std.proofs.lemmas.Int.{ints, by_lt_z}
+use Rattle.cts_list.proofs.AllOf.{all_front, all_back}
 use Rattle.cts_geom.specs.declared.bounds.Die.{Die}
 use Rattle.cts_geom.specs.declared.points.Half.{Half}
 use Rattle.cts_geom.specs.declared.points.Spot.{Spot}
@@ -19,15 +20,6 @@ use Rattle.cts_instance.specs.Validity.{IsDie}
 use Rattle.cts_instance.proofs.PlaceLemmas.{has_free_places}
 use Rattle.cts_elmore.specs.Laws.{SoundTreesStandInDie}
 use Rattle.cts_elmore.specs.Sound.{HasLegalWire, IsLegalRoute, StandsInDie, upper_end}
-
--- a list in two parts
-pub all_front : {A : Type 0} (P : A → Type 0) (xs ys : List A) → All P (xs ++ ys) → All P xs
-all_front P [] ys h = All-nil P
-all_front P (x ∷ xs) ys h = All-cons P x xs (All-head P x (xs ++ ys) h) (all_front P xs ys (All-tail P x (xs ++ ys) h))
-
-pub all_back : {A : Type 0} (P : A → Type 0) (xs ys : List A) → All P (xs ++ ys) → All P ys
-all_back P [] ys h = h
-all_back P (x ∷ xs) ys h = all_back P xs ys (All-tail P x (xs ++ ys) h)
 
 -- the ends of a segment are on it
 at_end : (a b : ℤ) → IsWithin a b b

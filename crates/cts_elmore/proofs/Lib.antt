@@ -12,6 +12,7 @@ pub mod RootDown
 pub mod Join
 pub mod Limited
 pub mod LeafPins
+pub mod PinsOfParts
 pub mod TreeFigures
 pub mod AddUp
 pub mod NoOffsets

@@ -1,1 +1,3 @@
 pub mod Fronts
+pub mod Noting
+mod Wording

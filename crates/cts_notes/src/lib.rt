@@ -8,7 +8,11 @@
 mod front;
 mod notes;
 mod status;
+mod stop;
+mod words;
 
 pub use front::{INPUT_LIMIT, read_front};
 pub use notes::{put_numbered, put_refusal};
-pub use status::Status;
+pub use status::{Status, exit_code};
+pub use stop::{Reason, Stop, write_note};
+pub use words::{Arguments, HostArguments, MemArguments, has_words, words_of};

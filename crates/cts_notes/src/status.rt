@@ -1,5 +1,11 @@
 //! How a run ended.
 
+ghost use Rattle.std.specs.Prelude.{◌≡◌};
+ghost use Rattle.std.specs.Process.{exit_status};
+ghost use Rattle.cts_notes.specs.Status.{code_of};
+
+use std::process::ExitCode;
+
 /// How a run ended.
 #[derive(Clone, Copy, Debug, PartialEq, Eq)]
 pub enum Status {
@@ -24,9 +30,6 @@ pub enum Status {
 }
 
 impl Status {
-    ghost use Rattle.std.specs.Prelude.{◌≡◌};
-    ghost use Rattle.cts_notes.specs.Status.{code_of};
-
     /// The program's exit status.
     pub fn code(self) -> u8
         ensures { result ≡ code_of self }
@@ -43,4 +46,11 @@ impl Status {
             Status::NoTrunk => 8,
         }
     }
+}
+
+/// The program's exit status, as its host takes it.
+pub fn exit_code(status: Status) -> ExitCode
+    ensures { exit_status result ≡ code_of status }
+{
+    ExitCode::from(status.code())
 }

@@ -5,7 +5,8 @@ use Rattle.std.specs.Int.{abs_diff}
 use Rattle.std.specs.List.{All}
 use Rattle.std.proofs.Math.Nat.{mul-le-mul}
 use Rattle.std.proofs.lemmas.Int.{ints}
-use Rattle.std.proofs.lemmas.List.Elements.{All-append, All-cons, All-head, All-nil, All-tail}
+use Rattle.std.proofs.lemmas.List.Elements.{All-append, All-cons, All-head, All-nil}
+use Rattle.cts_list.proofs.AllOf.{all_front, all_back}
 use Rattle.cts_geom.specs.declared.regions.Region.{Region}
 use Rattle.cts_units.specs.declared.params.Wire.{Wire}
 use Rattle.cts_units.specs.Delay.{wire_delay_of}
@@ -86,14 +87,6 @@ residues_small i shape tree valid over is =
     subst (All (HasSmallResidue i)) (sym l.second_trees)
     (all_small i valid.params.wire [] within.root l.second within.balance
     (subst (λ t. IsAlike (IsBalancedNode i) [] t l.second) same l.alike) within.whole.balanced)
-
-all_front : {A : Type 0} (P : A → Type 0) (xs ys : List A) → All P (xs ++ ys) → All P xs
-all_front P [] ys h = All-nil P
-all_front P (x ∷ xs) ys h = All-cons P x xs (All-head P x (xs ++ ys) h) (all_front P xs ys (All-tail P x (xs ++ ys) h))
-
-all_back : {A : Type 0} (P : A → Type 0) (xs ys : List A) → All P (xs ++ ys) → All P ys
-all_back P [] ys h = h
-all_back P (x ∷ xs) ys h = all_back P xs ys (All-tail P x (xs ++ ys) h)
 
 -- a step is the greater, the longer the wire and the greater the load
 step_grows : (wire : Wire) (len longest load most : ℕ) → len ≤ longest → load ≤ most → step_of wire len load ≤ step_of wire longest most

@@ -11,6 +11,7 @@ pub mod Tips
 pub mod Failures
 pub mod Nested
 pub mod Stretches
+pub mod Cut
 pub mod Statements
 mod Example
 pub mod Alike

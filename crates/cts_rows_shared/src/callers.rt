@@ -12,7 +12,6 @@ use cts_design::{EditCause, EditReply};
 use cts_elmore::Figures;
 use cts_history::Reply;
 use cts_instance::Instance;
-use cts_memo::Secret;
 use cts_plain::NoTree;
 use cts_read::read_instance;
 use cts_script::{Script, make_instance, read_script};
@@ -199,7 +198,7 @@ fn begin(alloc: Global) -> Result<(Desk, Hands), Fail>
     ensures share { IfOk result (λ d. AreDivisible d.1) }
 {
     let instance = make_instance(alloc, 14, 64)?;
-    Ok(Desk::start(alloc, instance, Secret::known())?)
+    Ok(Desk::start(alloc, instance)?)
 }
 
 #[test]

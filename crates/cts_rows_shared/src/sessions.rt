@@ -10,7 +10,7 @@ use crate::drawing::{draw, split, sum_up};
 use crate::instances::{instance, sink, wall};
 use cts_block::Block;
 use cts_design::{Edit, EditCause, EditReply, Entry};
-use cts_memo::{Secret, Table};
+use cts_memo::Table;
 use cts_plain::NoTree;
 use cts_session::{Desk, DeskOut, Hands, Session, TreeEnd};
 use cts_units::Sink;
@@ -26,7 +26,7 @@ fn desk_of(alloc: Global, sinks: &[Sink], blocks: &[Block]) -> Result<(Desk, Han
     ensures share { IfOk result (λ d. AreDivisible d.1) }
 {
     let instance = instance(alloc, sinks, blocks)?;
-    Ok(Desk::start(alloc, instance, Secret::known())?)
+    Ok(Desk::start(alloc, instance)?)
 }
 
 /// A desk of two sinks on the x axis, at 0 and at 10 nm.

@@ -4,8 +4,8 @@ ghost use Rattle.std.specs.Prelude.{◌^◌, ◌<◌, ◌≤◌};
 
 use crate::compare::same;
 use cts_script::make_instance;
+use cts_shape_workers::topology_by;
 use cts_topo::{Order, topology, topology_again};
-use cts_topo_workers::topology_by;
 use std::alloc::Global;
 use std::test::Fail;
 use std::thread::Threads;

@@ -1,22 +1,15 @@
--- A tree that a version's instance has, as what is drawn.
-use Rattle.std.proofs.Common.{◌≡◌, ◌⊎◌, ℕ, inr, List, length, Option, Some, None, Result, Ok, Err, IfOk, IfErr, OnOk, subst, sym, ap, ◌∙◌}
-use Rattle.std.specs.List.{All}
+-- What is made of a version's instance, as what is drawn.
+use Rattle.std.proofs.Common.{◌≡◌, ◌⊎◌, ℕ, inr, List, length, Option, Some, None, Result, Ok, Err, IfErr, OnOk, subst, sym, ap, ◌∙◌}
 use Rattle.std.specs.Option.{unwrap_or}
 use Rattle.cts_instance.specs.declared.parts.Parts.{Parts}
-use Rattle.cts_instance.specs.Validity.{IsValid, with_sinks}
+use Rattle.cts_instance.specs.Validity.{with_sinks}
 use Rattle.cts_units.specs.declared.params.Sink.{Sink}
 use Rattle.cts_topo.specs.declared.shape.ShapeNode.{ShapeNode}
 use Rattle.cts_topo.specs.Topology.{shape_of}
-use Rattle.cts_tree.specs.declared.nodes.TreeNode.{TreeNode}
-use Rattle.cts_elmore.specs.declared.figures.Figures.{Figures}
-use Rattle.cts_elmore.specs.Figures.{AreFigures, AreFiguresInRange}
-use Rattle.cts_elmore.specs.Sound.{IsSound, StandsInDie}
 use Rattle.cts_plain.specs.declared.end.NoTree.{NoTree}
 use Rattle.cts_plain.specs.declared.end.NoTree.TheVariants.{Beyond, Cut, NoMemory}
 use Rattle.cts_plain.specs.Ends.{Ends, EndsWithPlan}
-use Rattle.cts_plain.specs.Synthesis.{IsSynthesis, IsSynthesisOver, beyond, cut, made}
-use Rattle.cts_plain.specs.declared.totals.Totals.{Totals}
-use Rattle.cts_plain.specs.Totals.{AreTotalsOver}
+use Rattle.cts_plain.specs.Synthesis.{IsSynthesis, beyond, cut}
 use Rattle.cts_memo.specs.declared.entry.MemoEntry.{MemoEntry}
 use Rattle.cts_memo.specs.Numbers.{AreKnown}
 use Rattle.cts_memo.specs.Sound.{max_entries}
@@ -25,30 +18,11 @@ use Rattle.cts_work.specs.Last.{IsPast, MayKnow}
 use Rattle.cts_edit.specs.declared.edit.Entry.{Entry}
 use Rattle.cts_design.specs.Edits.{after}
 use Rattle.cts_session.specs.Desks.{version_of}
-use Rattle.cts_session.specs.Draws.{AreTotals, EndsDraw, IsDrawn, IsSummedUp, KnowsAtEnd, KnowsTree, KnowsUntil, end_at}
+use Rattle.cts_session.specs.Draws.{EndsDraw, KnowsAtEnd, KnowsTree, KnowsUntil, end_at}
 
-pub is_drawn : (base : Parts) (edits : List Entry) (version : ℕ) (i : Parts) (tree : List TreeNode) (figures : Figures)
-    → version ≡ length edits → i ≡ version_of base edits → IsValid i → IsSynthesis i (made tree) → AreFigures i tree figures
-    → IsSound i tree → length figures.nodes ≡ length tree → AreFiguresInRange figures → All (StandsInDie i.die) tree
-    → IsDrawn base edits (record { version = version; tree = tree; figures = figures })
-is_drawn base edits version i tree figures v is valid synthesis are sound one_each in_range in_die = record {
-  version = v;
-  valid = subst IsValid is valid;
-  tree = subst (λ j. IsSynthesis j (made tree)) is synthesis;
-  figures = subst (λ j. AreFigures j tree figures) is are;
-  sound = subst (λ j. IsSound j tree) is sound;
-  one_each = one_each;
-  in_range = in_range;
-  in_die = subst (λ j. All (StandsInDie j.die) tree) is in_die;
-}
-
--- and the skew and the wire of that tree
-pub is_summed_up : (base : Parts) (edits : List Entry) (version : ℕ) (i : Parts) (totals : Totals) → version ≡ length edits
-    → i ≡ version_of base edits → AreTotals i totals → IsSummedUp base edits (record { version = version; totals = totals })
-is_summed_up base edits version i totals v is are = record {
-  version = v;
-  totals = subst (λ j. AreTotals j totals) is are;
-}
+-- what is made of a version's instance is made of the version
+pub made_of_version : {X : Type 0} (P : Parts → ℕ → X → Type 0) (v w : ℕ) (i j : Parts) (x : X) → v ≡ w → i ≡ j → P i v x → P j w x
+made_of_version P v w i j x same is made_of = subst (λ n. P j n x) same (subst (λ k. P k v x) is made_of)
 
 -- why a version has no tree, as the end of a draw
 pub ends_draw : (base : Parts) (edits : List Entry) (version : ℕ) (i : Parts) (why : NoTree) → version ≡ length edits
@@ -70,25 +44,11 @@ pub version_made : (base of_design : Parts) (edits : List Entry) (sinks : List S
 version_made base of_design edits sinks i e f g =
     e ∙ ap (with_sinks base) (f ∙ ap (λ (j : Parts). after j.sinks edits) g)
 
--- a tree over the shape of the sinks
-pub made_of_plan : (i : Parts) (shape : List ShapeNode) (result : Result (List TreeNode × Figures) NoTree) → shape ≡ shape_of i.sinks
-    → IfOk result (λ r. IsSynthesisOver i shape (made r.0)) → IfOk result (λ r. IsSynthesis i (made r.0))
-made_of_plan i shape (Ok r) e h = subst (λ s. IsSynthesisOver i s (made r.0)) e h
-made_of_plan i shape (Err end) e h = tt
-
--- its skew and its wire
-pub summed_of_plan : (i : Parts) (shape : List ShapeNode) (result : Result Totals NoTree) → shape ≡ shape_of i.sinks
-    → IfOk result (AreTotalsOver i shape) → IfOk result (AreTotals i)
-summed_of_plan i shape (Ok totals) e h = subst (λ s. AreTotalsOver i s totals) e h
-summed_of_plan i shape (Err end) e h = tt
-
--- or why there is none over it
-pub none_of_plan : {X : Type 0} (i : Parts) (shape : List ShapeNode) (result : Result X NoTree) → shape ≡ shape_of i.sinks
-    → IfErr result (EndsWithPlan i shape) → IfErr result (Ends i)
-none_of_plan i shape (Ok r) e h = tt
-none_of_plan i shape (Err (Beyond node)) e h = inr (subst (λ s. EndsWithPlan i s (Beyond node)) e h)
-none_of_plan i shape (Err (Cut node)) e h = subst (λ s. EndsWithPlan i s (Cut node)) e h
-none_of_plan i shape (Err NoMemory) e h = tt
+-- why there is no tree over the shape of the sinks
+pub end_of_plan : (i : Parts) (shape : List ShapeNode) (why : NoTree) → shape ≡ shape_of i.sinks → EndsWithPlan i shape why → Ends i why
+end_of_plan i shape (Beyond node) e h = inr (subst (λ s. EndsWithPlan i s (Beyond node)) e h)
+end_of_plan i shape (Cut node) e h = subst (λ s. EndsWithPlan i s (Cut node)) e h
+end_of_plan i shape NoMemory e h = tt
 
 -- what the memo knows once the plan is made
 pub known_of_plan : (i : Parts) (sinks : List Sink) (shape : List ShapeNode) (entries : List MemoEntry) → sinks ≡ i.sinks → shape ≡ shape_of sinks

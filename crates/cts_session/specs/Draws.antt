@@ -22,25 +22,33 @@ use Rattle.cts_session.specs.declared.draw.TreeEnd.{TreeEnd}
 use Rattle.cts_session.specs.declared.draw.TreeEnd.TheVariants.{None as no_tree, NoMemory}
 use Rattle.cts_session.specs.Desks.{version_of}
 
--- The tree of the version after these edits, with its figures.
-pub record IsDrawn (base : Parts) (edits : List Entry) (drawn : Drawn) : Type 0 where
-  pub version : drawn.version ≡ length edits
-  pub valid : IsValid (version_of base edits)
-  pub tree : IsSynthesis (version_of base edits) (made drawn.tree)
-  pub figures : AreFigures (version_of base edits) drawn.tree drawn.figures
-  pub sound : IsSound (version_of base edits) drawn.tree
+-- The tree of a version of the sinks, with its figures.
+pub record IsTreeOf (i : Parts) (number : ℕ) (drawn : Drawn) : Type 0 where
+  pub version : drawn.version ≡ number
+  pub valid : IsValid i
+  pub tree : IsSynthesis i (made drawn.tree)
+  pub figures : AreFigures i drawn.tree drawn.figures
+  pub sound : IsSound i drawn.tree
   pub one_each : length drawn.figures.nodes ≡ length drawn.tree
   pub in_range : AreFiguresInRange drawn.figures
-  pub in_die : All (StandsInDie (version_of base edits).die) drawn.tree
+  pub in_die : All (StandsInDie i.die) drawn.tree
+
+-- the version is the one after these edits
+abbrev pub IsDrawn : Parts → List Entry → Drawn → Type 0
+IsDrawn base edits drawn = IsTreeOf (version_of base edits) (length edits) drawn
 
 -- the skew and the wire of an instance's synthesis
 abbrev pub AreTotals : Parts → Totals → Type 0
 AreTotals i totals = AreTotalsOver i (shape_of i.sinks) totals
 
--- those of the version after these edits
-pub record IsSummedUp (base : Parts) (edits : List Entry) (summed : VersionTotals) : Type 0 where
-  pub version : summed.version ≡ length edits
-  pub totals : AreTotals (version_of base edits) summed.totals
+-- those of a version of the sinks
+pub record AreTotalsOf (i : Parts) (number : ℕ) (summed : VersionTotals) : Type 0 where
+  pub version : summed.version ≡ number
+  pub totals : AreTotals i summed.totals
+
+-- the version is the one after these edits
+abbrev pub IsSummedUp : Parts → List Entry → VersionTotals → Type 0
+IsSummedUp base edits summed = AreTotalsOf (version_of base edits) (length edits) summed
 
 -- The version after these edits has no tree: the synthesis of its sinks comes to a node that is beyond, or cut. Or memory ran
 -- out.

@@ -88,7 +88,7 @@ impl Desk {
 
     /// The desk of an instance without edits, and the hands with the whole share of it. The secret is that
     /// of the memo's hash; no answer depends on it. Where memory runs out the instance is dropped.
-    pub fn start(
+    pub fn start_seeded(
         alloc: Global,
         instance: Instance,
         secret: Secret,
@@ -109,6 +109,17 @@ impl Desk {
             design: design_pass,
         };
         Ok((desk, hands))
+    }
+
+    /// The desk of an instance without edits, and the hands with the whole share of it. Everybody knows the
+    /// secret of the memo's hash, so it is for sinks that nobody picked to do harm. Where memory runs out the
+    /// instance is dropped.
+    pub fn start(alloc: Global, instance: Instance) -> Result<(Desk, Hands), NoMemory>
+        ensures base { IfOk result (λ d. base_of d.0 ≡ instance) }
+        ensures own { IfOk result (λ d. AreHandsOf d.0 d.1) }
+        ensures hands { IfOk result (λ d. known_by d.1 ≡ at_start) }
+    {
+        Desk::start_seeded(alloc, instance, Secret::known())
     }
 
     /// Splits hands in two, so that one of them can go to another thread.

@@ -1,32 +1,30 @@
 //! The tree of a version of the sinks, over the memo.
 
-ghost use Rattle.std.specs.Prelude.{◌≡◌, ◌+◌, ◌≤◌, All, length, IfOk, IfErr, OnOk};
+ghost use Rattle.std.specs.Prelude.{◌≡◌, ◌+◌, ◌≤◌, length, IfOk, IfErr, OnOk};
 ghost use mathlib.Core.List.{IsPrefix};
 ghost use Rattle.cts_instance.specs.Validity.{IsValid};
 ghost use Rattle.cts_topo.specs.Shape.{IsShapeOver};
 ghost use Rattle.cts_topo.specs.Sinks.{AreSinks};
 ghost use Rattle.cts_topo.specs.Topology.{shape_of};
 ghost use Rattle.cts_up.specs.Sites.{AreSites};
-ghost use Rattle.cts_elmore.specs.Figures.{AreFigures, AreFiguresInRange};
-ghost use Rattle.cts_elmore.specs.Sound.{IsSound, StandsInDie};
 ghost use Rattle.cts_plain.specs.Ends.{Ends};
-ghost use Rattle.cts_plain.specs.Synthesis.{IsSynthesis, made};
 ghost use Rattle.cts_turn.specs.Passes.{made_by, seen_by, share_of};
 ghost use Rattle.cts_memo.specs.Numbers.{missing};
 ghost use Rattle.cts_memo.specs.Passes.{params_of, IsPassOf as IsMemoPassOf};
 ghost use Rattle.cts_work.specs.Last.{IsPast, MayKnow};
 ghost use Rattle.cts_design.specs.Passes.{instance_of, IsPassOf as IsDesignPassOf};
 ghost use Rattle.cts_session.specs.Desks.{AreHandsOf, GoesOn, base_of, known_by, version_of};
-ghost use Rattle.cts_session.specs.Draws.{AreTotals, EndsDraw, IsDrawn, IsSummedUp, KnowsAtEnd, KnowsTree, KnowsUntil, end_at};
+ghost use Rattle.cts_session.specs.Draws.{EndsDraw, KnowsAtEnd, KnowsTree, KnowsUntil, end_at};
 
 use crate::desk::{Desk, Hands};
+use crate::finish::Finish;
 use cts_design::{Design, snapshot};
 use cts_elmore::Figures;
 use cts_instance::Instance;
 use cts_memo::{Memo, MemoPass};
 use cts_merge::Steps;
 use cts_num::NoMemory;
-use cts_plain::{NoTree, Totals, finish_sites, totals_of};
+use cts_plain::{NoTree, Totals};
 use cts_topo::{Order, Shape, topology_again};
 use cts_tree::Tree;
 use cts_turn::{Pass, Turn};
@@ -160,8 +158,8 @@ fn plan<L: Ledger, R: Wait, G: Gate>(
     Ok(shape)
 }
 
-/// The synthesis of an instance, whose [`plan`] is made over the memo.
-pub(crate) fn draw<L: Ledger, R: Wait, G: Gate>(
+/// What is made of an instance, whose version has this number and whose [`plan`] is made over the memo.
+fn draw<L: Ledger, R: Wait, G: Gate, M: Drop, F: Finish<Made = M>>(
     rt: &R,
     alloc: Global,
     memo: &Memo,
@@ -171,20 +169,18 @@ pub(crate) fn draw<L: Ledger, R: Wait, G: Gate>(
     gate: &G,
     caller: u32,
     instance: &Instance,
+    version: u32,
+    finish: &F,
     steps: &mut Steps<L>,
-) -> Result<(Tree, Figures), NoTree>
+) -> Result<M, NoTree>
     requires own { IsMemoPassOf memo.now pass.old }
     requires params { params_of memo.now ≡ instance.now.params }
+    requires valid { IsValid instance.now }
     requires kept { IsPast (seen_by pass.old) past.old }
     ensures own { IsMemoPassOf memo.now pass.new }
     ensures share { share_of pass.new ≡ share_of pass.old }
     ensures goes_on { IsPrefix (seen_by pass.old) (seen_by pass.new) }
-    ensures tree { IfOk result (λ r. IsSynthesis instance.now (made r.0)) }
-    ensures figures { IfOk result (λ r. AreFigures instance.now r.0 r.1) }
-    ensures sound { IfOk result (λ r. IsSound instance.now r.0) }
-    ensures one_each { IfOk result (λ r. length r.1.nodes ≡ length r.0) }
-    ensures in_range { IfOk result (λ r. AreFiguresInRange r.1) }
-    ensures in_die { IfOk result (λ r. All (StandsInDie instance.now.die) r.0) }
+    ensures makes { IfOk result (F.makes finish.now instance.now version) }
     ensures ends { IfErr result (Ends instance.now) }
     ensures known { OnOk result (KnowsTree instance.now (seen_by pass.new)) }
     ensures known_until { IfErr result (KnowsUntil instance.now (seen_by pass.new)) }
@@ -194,47 +190,12 @@ pub(crate) fn draw<L: Ledger, R: Wait, G: Gate>(
     let shape = plan(
         rt, alloc, memo, pass, past, order, gate, caller, instance, steps,
     )?;
-    let Ok(sites) = Vec::from_slice(alloc, past.sites()) else {
-        return Err(NoTree::NoMemory);
-    };
-    finish_sites(alloc, instance, &shape, sites)
+    finish.finish(alloc, instance, version, &shape, past.sites())
 }
 
-/// The skew and the wire of the synthesis of an instance, whose [`plan`] is made over the memo. No tree is made.
-pub(crate) fn sum_up<L: Ledger, R: Wait, G: Gate>(
-    rt: &R,
-    alloc: Global,
-    memo: &Memo,
-    pass: &mut MemoPass,
-    past: &mut Past,
-    order: &mut Option<Order>,
-    gate: &G,
-    caller: u32,
-    instance: &Instance,
-    steps: &mut Steps<L>,
-) -> Result<Totals, NoTree>
-    requires own { IsMemoPassOf memo.now pass.old }
-    requires params { params_of memo.now ≡ instance.now.params }
-    requires kept { IsPast (seen_by pass.old) past.old }
-    ensures own { IsMemoPassOf memo.now pass.new }
-    ensures share { share_of pass.new ≡ share_of pass.old }
-    ensures goes_on { IsPrefix (seen_by pass.old) (seen_by pass.new) }
-    ensures totals { IfOk result (AreTotals instance.now) }
-    ensures ends { IfErr result (Ends instance.now) }
-    ensures known { OnOk result (KnowsTree instance.now (seen_by pass.new)) }
-    ensures known_until { IfErr result (KnowsUntil instance.now (seen_by pass.new)) }
-    ensures kept { IsPast (seen_by pass.new) past.new }
-    ensures merges { steps.new ≤ steps.old + missing (seen_by pass.old) instance.now.sinks (shape_of instance.now.sinks) }
-{
-    let shape = plan(
-        rt, alloc, memo, pass, past, order, gate, caller, instance, steps,
-    )?;
-    totals_of(alloc, instance, &shape, past.sites())
-}
-
-/// The tree of the sinks as they are when it is this call's turn. Nothing of an earlier draw is kept but
+/// What is made of the sinks as they are when it is this call's turn. Nothing of an earlier draw is kept but
 /// the memo, and what is known of its nodes.
-pub(crate) fn draw_now<L: Ledger, R: Wait, G: Gate>(
+pub(crate) fn draw_now<L: Ledger, R: Wait, G: Gate, M: Drop, F: Finish<Made = M>>(
     rt: &R,
     alloc: Global,
     desk: &Desk,
@@ -243,8 +204,9 @@ pub(crate) fn draw_now<L: Ledger, R: Wait, G: Gate>(
     order: &mut Option<Order>,
     gate: &G,
     caller: u32,
+    finish: &F,
     steps: &mut Steps<L>,
-) -> Result<Drawn, TreeEnd>
+) -> Result<M, TreeEnd>
     requires own { AreHandsOf desk.now hands.old }
     requires kept { MayKnow (seen_by hands.old.memo) past.old }
     ensures own { AreHandsOf desk.now hands.new }
@@ -254,7 +216,8 @@ pub(crate) fn draw_now<L: Ledger, R: Wait, G: Gate>(
       entries_made = (known_by hands.new).entries_made;
       edits = (known_by hands.new).edits;
     } }
-    ensures drawn { IfOk result (IsDrawn (base_of desk.now) (known_by hands.new).edits) }
+    ensures makes { let edits = (known_by hands.new).edits in
+        IfOk result (F.makes finish.now (version_of (base_of desk.now) edits) (length edits)) }
     ensures ends { IfErr result (EndsDraw (base_of desk.now) (known_by hands.new).edits) }
     ensures remembered { OnOk result (KnowsTree (version_of (base_of desk.now) (known_by hands.new).edits) (known_by hands.new).entries) }
     ensures kept { MayKnow (seen_by hands.new.memo) past.new }
@@ -280,75 +243,13 @@ pub(crate) fn draw_now<L: Ledger, R: Wait, G: Gate>(
         gate,
         caller,
         &instance,
+        version,
+        finish,
         steps,
     ) {
-        Ok((tree, figures)) => {
+        Ok(made) => {
             *past = Some(now);
-            Ok(Drawn {
-                version,
-                tree,
-                figures,
-            })
-        }
-        Err(why) => {
-            *past = Some(now);
-            Err(end_at(version, why))
-        }
-    }
-}
-
-/// The skew and the wire of that tree, which isn't made.
-pub(crate) fn sum_up_now<L: Ledger, R: Wait, G: Gate>(
-    rt: &R,
-    alloc: Global,
-    desk: &Desk,
-    hands: &mut Hands,
-    past: &mut Option<Past>,
-    order: &mut Option<Order>,
-    gate: &G,
-    caller: u32,
-    steps: &mut Steps<L>,
-) -> Result<VersionTotals, TreeEnd>
-    requires own { AreHandsOf desk.now hands.old }
-    requires kept { MayKnow (seen_by hands.old.memo) past.old }
-    ensures own { AreHandsOf desk.now hands.new }
-    ensures goes_on { GoesOn (known_by hands.old) (known_by hands.new) }
-    ensures known { known_by hands.new ≡ record (known_by hands.old) {
-      entries = (known_by hands.new).entries;
-      entries_made = (known_by hands.new).entries_made;
-      edits = (known_by hands.new).edits;
-    } }
-    ensures summed { IfOk result (IsSummedUp (base_of desk.now) (known_by hands.new).edits) }
-    ensures ends { IfErr result (EndsDraw (base_of desk.now) (known_by hands.new).edits) }
-    ensures remembered { OnOk result (KnowsTree (version_of (base_of desk.now) (known_by hands.new).edits) (known_by hands.new).entries) }
-    ensures kept { MayKnow (seen_by hands.new.memo) past.new }
-    ensures remembered_until { IfErr result (KnowsAtEnd (version_of (base_of desk.now) (known_by hands.new).edits) (known_by hands.new).entries) }
-    ensures merges { let sinks = (version_of (base_of desk.now) (known_by hands.new).edits).sinks in
-        steps.new ≤ steps.old + missing (known_by hands.old).entries sinks (shape_of sinks) }
-{
-    let (version, instance) = instance_now(
-        rt,
-        alloc,
-        &desk.instance,
-        &desk.design,
-        &mut hands.design,
-    )?;
-    let mut now = past.take().unwrap_or(Past::nothing(alloc));
-    match sum_up(
-        rt,
-        alloc,
-        &desk.memo,
-        &mut hands.memo,
-        &mut now,
-        order,
-        gate,
-        caller,
-        &instance,
-        steps,
-    ) {
-        Ok(totals) => {
-            *past = Some(now);
-            Ok(VersionTotals { version, totals })
+            Ok(made)
         }
         Err(why) => {
             *past = Some(now);

@@ -12,6 +12,7 @@
 
 mod desk;
 mod draw;
+mod finish;
 pub mod laws;
 mod session;
 

@@ -1,7 +1,8 @@
 //! A caller's session at a desk.
 
 use crate::desk::{Desk, Hands};
-use crate::draw::{Drawn, TreeEnd, VersionTotals, draw_now, sum_up_now};
+use crate::draw::{Drawn, TreeEnd, VersionTotals, draw_now};
+use crate::finish::{TotalsAlone, WholeTree};
 use cts_design::{Edit, EditReply, Entry, send_edit};
 use cts_merge::Steps;
 use cts_topo::Order;
@@ -186,6 +187,7 @@ impl<'a> Session<'a> {
             order,
             gate,
             caller,
+            &WholeTree,
             steps,
         )
     }
@@ -217,7 +219,7 @@ impl<'a> Session<'a> {
         let desk = self.desk;
         let caller = self.caller;
         let (past, order) = (&mut self.past, &mut self.order);
-        sum_up_now(
+        draw_now(
             rt,
             alloc,
             desk,
@@ -226,6 +228,7 @@ impl<'a> Session<'a> {
             order,
             gate,
             caller,
+            &TotalsAlone,
             steps,
         )
     }

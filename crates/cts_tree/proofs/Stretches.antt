@@ -1,7 +1,8 @@
 -- Stretches of a tree's nodes, whose children are counted from the stretch's first number on.
-use Rattle.std.proofs.Common.{◌≡◌, ℕ, ◌-◌, refl, ap, ◌∙◌, arith}
+use Rattle.std.proofs.Common.{◌≡◌, ℕ, ◌+◌, ◌-◌, refl, ap, ◌∙◌, arith}
 use Rattle.std.specs.Prelude.{Some}
 use Rattle.std.proofs.Math.Path.{fun_ext}
+use Rattle.cts_postorder.proofs.Cut.{kids_further}
 use Rattle.cts_postorder.proofs.Stretches.{counted_from}
 use Rattle.cts_tree.specs.declared.nodes.NodeKind.{NodeKind}
 use Rattle.cts_tree.specs.declared.nodes.NodeKind.TheVariants.{Leaf, Pair}
@@ -26,3 +27,7 @@ counts_of first (Pair left right buffer) = refl
 
 pub counts_from : (first : ℕ) (node : TreeNode) → children_from first node ≡ counted_from first (tree_children node)
 counts_from first node = counts_of first node.kind
+
+-- and those of the node in a stretch that begins earlier, less the number of nodes between
+pub counts_further : (first more : ℕ) (node : TreeNode) → children_from (first + more) node ≡ counted_from more (children_from first node)
+counts_further = kids_further tree_children children_from counts_from

@@ -1,5 +1,5 @@
 -- A tree has one trunk with repeaters of one buffer at one step, or one end.
-use Rattle.std.proofs.Common.{◌≡◌, ◌≢◌, ℕ, ◌+◌, ◌<◌, ◌≤◌, Bool, List, length, Some, refl, sym, ap, subst, ◌∙◌, arith}
+use Rattle.std.proofs.Common.{◌≡◌, ℕ, ◌≤◌, Bool, List, length, Some, refl, sym, ap, subst, ◌∙◌, arith}
 use Rattle.std.specs.List.{range_with_len}
 use Rattle.std.proofs.lemmas.Int.{ints}
 use Rattle.std.proofs.lemmas.Option.{slice_get_within}
@@ -15,9 +15,8 @@ use Rattle.cts_instance.specs.declared.parts.Parts.{Parts}
 use Rattle.cts_elmore.proofs.Unique.{answer_one}
 use Rattle.cts_trunk.specs.declared.trunk.Repeater.{Repeater}
 use Rattle.cts_trunk.specs.declared.trunk.Trunk.{Trunk}
-use Rattle.cts_trunk.specs.declared.trunk.TrunkEnd.{TrunkEnd}
 use Rattle.cts_trunk.specs.declared.trunk.TrunkEnd.TheVariants.{Buffer as NoBuffer, Many, Beyond, NoMemory}
-use Rattle.cts_trunk.specs.Laid.{Ends, IsBeyondLimit, IsLaid, IsRepeater, IsTrunkAt, Named}
+use Rattle.cts_trunk.specs.Laid.{IsBeyondLimit, IsRepeater, IsTrunkAt, Named}
 use Rattle.cts_trunk.specs.Laws.{EndIsOne, LaidHasNoEnd, TrunkIsOne}
 use Rattle.cts_trunk.specs.Places.{stands}
 

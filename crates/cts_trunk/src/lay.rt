@@ -1,6 +1,6 @@
 //! Repeaters on the trunk of a tree, and what they make of the tree.
 
-ghost use Rattle.std.specs.Prelude.{◌≡◌, [], ◌+◌, ◌*◌, ◌-◌, ◌/◌, ◌^◌, ◌<◌, ◌≤◌, ◌↔◌, length, slice_index_or, All, IfErr, IfOk, IfSome, IsTrue};
+ghost use Rattle.std.specs.Prelude.{◌≡◌, [], ◌+◌, ◌*◌, ◌-◌, ◌/◌, ◌^◌, ◌<◌, ◌≤◌, ◌↔◌, length, slice_index_or, All, IfErr, IfOk, IfSome, IsErrOf, IsTrue};
 ghost use Rattle.cts_geom.specs.Points.{IsSpotInRange, point_of};
 ghost use Rattle.cts_units.specs.Delay.{slew_of};
 ghost use Rattle.cts_units.specs.Limits.{IsBuffer, max_delay, max_length, max_load};
@@ -12,6 +12,7 @@ ghost use Rattle.cts_elmore.specs.Fits.{FitsInstance};
 ghost use Rattle.cts_elmore.specs.Measurement.{HasFigures};
 ghost use Rattle.cts_elmore.specs.Sound.{IsLegalRoute, IsSound, upper_end};
 ghost use Rattle.cts_trunk.specs.declared.sums.Reach.{Reach};
+ghost use Rattle.cts_trunk.specs.declared.trunk.TrunkEnd.TheVariants.{Buffer as NoBuffer};
 ghost use Rattle.cts_trunk.specs.Assembled.{AreRepeaters, EndsWith, IsAssembled, IsRootBefore, IsTrunkWith};
 ghost use Rattle.cts_trunk.specs.Known.{IsRootKnown};
 ghost use Rattle.cts_trunk.specs.Laid.{Ends, HasTautTrunk, IsLaid};
@@ -313,6 +314,7 @@ pub fn lay_trunk(
     ensures laid { IfOk result (IsLaid instance.now tree.now step buffer) }
     ensures printable { IfOk result IsPrintableTrunk }
     ensures end { IfErr result (Ends instance.now tree.now step buffer) }
+    ensures no_buffer { length instance.now.params.library ≤ buffer → IsErrOf result NoBuffer }
 {
     if buffer as usize >= instance.params().library.items().len() {
         return Err(TrunkEnd::Buffer);

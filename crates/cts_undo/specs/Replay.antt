@@ -43,14 +43,15 @@ after_reply s entry (Accepted version) = after_change s entry
 after_reply s entry (Refused cause version) = s
 after_reply s entry NoMemory = s
 
--- An undo: there was something to undo, or there was not, or memory ran out. The version is how many changes are done then.
+-- An undo: there was something to undo, which was undone unless memory ran out, or there was not. The version is how many changes
+-- are done then.
 abbrev pub IsUndo : State → State → Moved → Type 0
 IsUndo old new (Done version) = (0 < length old.done) × (new ≡ after_undo old) × (version ≡ length new.done)
 IsUndo old new (Empty version) = (old.done ≡ []) × (new ≡ old) × (version ≡ length new.done)
-IsUndo old new no_memory = new ≡ old
+IsUndo old new no_memory = (0 < length old.done) × (new ≡ old)
 
 -- a redo
 abbrev pub IsRedo : State → State → Moved → Type 0
 IsRedo old new (Done version) = (0 < length old.undone) × (new ≡ after_redo old) × (version ≡ length new.done)
 IsRedo old new (Empty version) = (old.undone ≡ []) × (new ≡ old) × (version ≡ length new.done)
-IsRedo old new no_memory = new ≡ old
+IsRedo old new no_memory = (0 < length old.undone) × (new ≡ old)

@@ -7,15 +7,13 @@ use Rattle.cts_memo.specs.Numbers.{missing}
 use Rattle.cts_work.specs.Last.{IsPast}
 use Rattle.cts_session.specs.Desks.{base_of}
 use Rattle.cts_session.specs.Draws.{KnowsTree}
-use Rattle.cts_session.proofs.Draws.{ends_draw, is_drawn, known_at_end, past_or}
+use Rattle.cts_session.proofs.Draws.{ends_draw, known_at_end, made_of_version, past_or}
 use Rattle.cts_session.proofs.draw.draw_now.Goals as goal
 
-pub returns-in-Ok-clause-drawn : goal.returns-in-Ok-clause-drawn
-returns-in-Ok-clause-drawn g c =
-    is_drawn (base_of c.args.desk.now) c.instance_now.new.pass.seat.me.0.seen c.in_ok-version.version c.in_ok-version.instance
-    c.in-Ok.tree c.in-Ok.figures c.in_ok-version.ensures.version c.in_ok-version.ensures.instance c.in_ok-version.ensures.valid
-    c.in-Ok.ensures.tree c.in-Ok.ensures.figures c.in-Ok.ensures.sound c.in-Ok.ensures.one_each c.in-Ok.ensures.in_range
-    c.in-Ok.ensures.in_die
+pub returns-in-Ok-clause-makes : goal.returns-in-Ok-clause-makes
+returns-in-Ok-clause-makes g c =
+    made_of_version (g.F.Finish.makes c.args.finish.now) c.in_ok-version.version _ c.in_ok-version.instance _ c.in-Ok.made
+    c.in_ok-version.ensures.version c.in_ok-version.ensures.instance c.in-Ok.ensures.makes
 
 pub returns-in-Ok-clause-remembered : goal.returns-in-Ok-clause-remembered
 returns-in-Ok-clause-remembered g c =

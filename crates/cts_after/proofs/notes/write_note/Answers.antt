@@ -1,5 +1,0 @@
-use Rattle.cts_io.proofs.Chains.{written}
-use Rattle.cts_after.proofs.notes.write_note.Goals as goal
-
-pub returns : goal.returns
-returns g c = written c.new-out.ensures c.put_ending.ensures c.finish.ensures

@@ -1,3 +1,0 @@
-pub mod Halves
-pub mod Upward
-pub mod Downward

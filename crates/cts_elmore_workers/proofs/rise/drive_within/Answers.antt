@@ -1,5 +1,0 @@
-use Rattle.cts_elmore_workers.proofs.Upward.{driven}
-use Rattle.cts_elmore_workers.proofs.rise.drive_within.Goals as goal
-
-pub unreachable-requires : goal.unreachable-requires
-unreachable-requires c = driven c.args.instance.now c.args.nodes.now c.requires.post_order c.requires.within c.in-None.ensures

@@ -1,3 +1,0 @@
-pub mod Rooms
-pub use Rattle.cts_plain.specs.Synthesis
-pub use Rattle.cts_plain.specs.Ends

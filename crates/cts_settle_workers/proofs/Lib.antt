@@ -1,4 +1,0 @@
-pub mod Wires
-pub mod Halves
-pub mod Cut
-pub mod Joined

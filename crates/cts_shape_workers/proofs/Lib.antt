@@ -1,0 +1,5 @@
+pub mod Growing
+pub mod Sinks
+pub mod AllNodes
+pub mod Rises
+pub mod Branches

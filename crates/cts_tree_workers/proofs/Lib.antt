@@ -1,0 +1,4 @@
+pub mod Wires
+pub mod Balancing
+pub mod Gathering
+pub mod Downward

@@ -1,0 +1,12 @@
+pub mod Balancing
+pub mod Gathering
+pub mod Measuring
+pub mod Rooms
+pub use Rattle.cts_elmore.specs.Figures
+pub use Rattle.cts_elmore.specs.Fits
+pub use Rattle.cts_elmore.specs.Limits
+pub use Rattle.cts_elmore.specs.Loads
+pub use Rattle.cts_embed.specs.BalancedTree
+pub use Rattle.cts_embed.specs.Fitting
+pub use Rattle.cts_plain.specs.Synthesis
+pub use Rattle.cts_plain.specs.Ends

@@ -1,0 +1,48 @@
+//! Rooms in which workers write a tree.
+
+ghost use Rattle.std.specs.Prelude.{IfOk};
+ghost use Rattle.cts_tree_workers.specs.Rooms.{AreEmpty, AreFor};
+
+use crate::figures::figures_room;
+use cts_elmore::NodeFigure;
+use cts_embed::{Leaves, leaves_room};
+use cts_num::NoMemory;
+use cts_shape_workers::{room_for, sites_room};
+use cts_tree::TreeNode;
+use cts_up::Site;
+use std::alloc::Global;
+
+/// The rooms of a tree's lists: its sites, its nodes and their figures, and what its leaves have of their sinks.
+#[derive(Drop)]
+pub(crate) struct Rooms {
+    pub(crate) sites: Vec<Site>,
+    pub(crate) nodes: Vec<TreeNode>,
+    pub(crate) figures: Vec<NodeFigure>,
+    pub(crate) leaves: Leaves,
+}
+
+/// Rooms that are empty, reserved for so many nodes. They are reserved by the thread that asks for them first, whose heap has
+/// large pages, and filled by another one.
+pub(crate) fn reserve(alloc: Global, count: usize) -> Result<Rooms, NoMemory>
+    ensures { IfOk result AreEmpty }
+{
+    Ok(Rooms {
+        sites: Vec::with_capacity(alloc, count)?,
+        nodes: Vec::with_capacity(alloc, count)?,
+        figures: Vec::with_capacity(alloc, count)?,
+        leaves: leaves_room(alloc, count)?,
+    })
+}
+
+/// The same rooms, with a place for each of so many nodes in the lists of nodes.
+pub(crate) fn fill(rooms: Rooms, count: usize) -> Result<Rooms, NoMemory>
+    requires { AreEmpty rooms }
+    ensures { IfOk result (AreFor count) }
+{
+    Ok(Rooms {
+        sites: sites_room(rooms.sites, count)?,
+        nodes: room_for(rooms.nodes, count)?,
+        figures: figures_room(rooms.figures, count)?,
+        leaves: rooms.leaves,
+    })
+}

@@ -1,2 +1,0 @@
-pub mod AllNodes
-pub mod Halves
