@@ -25,7 +25,7 @@ esac
 program=$top/crates/$main/out/$main stamp=$top/crates/$main/out/built
 # The kit names itself in a file beside its bin; without a kit the program that is there will do.
 kit=$(readlink -f "$(command -v rt)") kit=${kit%/bin/rt}/KIT-ID
-[ -x "$program" ] && [ -e "$stamp" ] && { [ ! -r "$kit" ] || grep -qxF "kit $(cat "$kit")" "$stamp"; } && [ -z "$(find "$top/crates.txt" "$top/HANDLES" "$top/crates" \( -name out -o -name must-fail \) -prune -o -type f -newer "$stamp" -print -quit)" ] ||
+[ -x "$program" ] && [ -e "$stamp" ] && { [ ! -r "$kit" ] || grep -qxF "kit $(cat "$kit")" "$stamp"; } && [ -z "$(find "$top/crates.txt" "$top/HANDLES" "$top/crates" \( -name out -o -name must-fail \) -prune -o -type f ! -name README.md -newer "$stamp" -print -quit)" ] ||
     "$top/tools/build" "$main" || exit 125
 # The lists of a run are long, so the C library may ask for them in large pages: the system then has fewer to make.
 GLIBC_TUNABLES=${GLIBC_TUNABLES-glibc.malloc.hugetlb=1}

@@ -1,4 +1,4 @@
-"""Instances, scripts and what `cts edit` may answer to them, told from docs/FORMATS.md and docs/GUARANTEES.md alone.
+"""Scripts of callers and what `cts edit` may answer to them, told from docs/FORMATS.md and docs/GUARANTEES.md alone.
 
 It shares nothing with the product. The tree of a list of sinks is asked of a function that is handed in, which gives the status
 and the text of a synthesis made anew.
@@ -7,6 +7,8 @@ and the text of a synthesis made anew.
 import collections
 import dataclasses
 import re
+
+from instances import Sink, decimal, is_free
 
 N = r"(0|[1-9][0-9]*)"
 CAUSES = "known|unknown|outside|in block|full|last|long"
@@ -29,45 +31,6 @@ def must(holds, what):
         raise Wrong(what)
 
 
-def number(units, places):
-    """The canonical text of a number in units of which ten to the power of the places are one."""
-    whole, rest = divmod(units, 10**places)
-    return f"{whole}.{rest:0{places}}" if places else str(whole)
-
-
-@dataclasses.dataclass(frozen=True)
-class Sink:
-    """Coordinates in nm, the capacitance in zF, the offset in 10^-27 s."""
-
-    id: int
-    x: int
-    y: int
-    cap: int
-    offset: int = 0
-
-
-@dataclasses.dataclass(frozen=True)
-class Instance:
-    """The lines before the sinks, the die and the blocks in nm, and the sinks."""
-
-    version: int
-    head: str
-    die: tuple
-    blocks: tuple
-    sinks: tuple
-
-    def text(self, sinks=None):
-        """Its text, with other sinks where some are given."""
-        sinks = self.sinks if sinks is None else sinks
-        lines = [f"sinks {len(sinks)}"]
-        for sink in sinks:
-            line = f"sink {sink.id} {number(sink.x, 3)} {number(sink.y, 3)} {number(sink.cap, 6)}"
-            lines.append(f"{line} {number(sink.offset, 15)}" if self.version == 2 else line)
-        lines.append(f"blocks {len(self.blocks)}")
-        lines += [f"block {kind} {' '.join(number(it, 3) for it in corners)}" for kind, *corners in self.blocks]
-        return self.head + "\n".join([*lines, "end", ""])
-
-
 @dataclasses.dataclass(frozen=True)
 class Step:
     """A step of a script, with its line: `add`, `remove`, `move`, `cap` or `tree`, and numbers as in a sink."""
@@ -79,7 +42,7 @@ class Step:
 
     def text(self):
         """The step without its caller, as an edit text writes it."""
-        return " ".join([self.verb, *map(number, self.numbers, PLACES[self.verb])])
+        return " ".join([self.verb, *map(decimal, self.numbers, PLACES[self.verb])])
 
 
 def cause(instance, sinks, step, length):
@@ -92,7 +55,7 @@ def cause(instance, sinks, step, length):
         x, y = step.numbers[1:3]
         if not (x1 <= x <= x2 and y1 <= y <= y2):
             return "outside"
-        if any(kind == "all" and a < x < c and b < y < d for kind, a, b, c, d in instance.blocks):
+        if not is_free(instance.blocks, x, y):
             return "in block"
     if step.verb == "add" and len(sinks) >= MOST_SINKS:
         return "full"
@@ -109,7 +72,7 @@ def applied(sinks, step):
     if step.verb == "remove":
         return tuple(it for it in sinks if it.id != name)
     change = {"x": rest[0], "y": rest[1]} if step.verb == "move" else {"cap": rest[0]}
-    return tuple(dataclasses.replace(it, **change) if it.id == name else it for it in sinks)
+    return tuple(it._replace(**change) if it.id == name else it for it in sinks)
 
 
 def drawn(status, text):

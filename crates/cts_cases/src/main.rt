@@ -11,7 +11,7 @@
 //! - `~8+ TEXT` puts TEXT after line 8.
 //!
 //! So the lines `~ one-sink` and `~8 sink 1 3 4 5 0` are that base with another line 8. A text whose bytes matter, as
-//! one with CR LF, is written out. The word `cts-draw` before all others stands for the program of that name.
+//! one with CR LF, is written out. The words `cts-draw` and `cts-after` before all others stand for the programs of these names.
 //!
 //! A case whose line begins with `%*` puts its text to hostile use (`src/hostile.rt`): each front of it, reads and writes
 //! of a few bytes, and each read and each write failing once. It prints how many runs of each kind end as the whole
@@ -19,7 +19,8 @@
 //!
 //! Last it writes some long numbers, reads an instance with as many sinks and blocks as there may be and scripts with as
 //! many steps and one more, checks trees as deep as a list, compares what one worker and many write, hands the nearest-pair
-//! topology as many sinks as it takes and one more, and holds workers and callers at a gate until they meet.
+//! topology as many sinks as it takes and one more, holds workers and callers at a gate until they meet, and takes words from
+//! arguments in memory.
 #![tactic(auto)]
 
 mod alike;
@@ -33,6 +34,7 @@ mod near;
 mod runs;
 mod show;
 mod text;
+mod words;
 
 use std::io::{self, Read};
 use std::sync::Wait;
@@ -66,5 +68,6 @@ fn run_last<R: AllocGlobal + Threads + Wait + Sync + Print>(rt: &R) -> io::Resul
     deep::check(rt)?;
     alike::check(rt)?;
     near::check(rt)?;
-    meetings::check(rt)
+    meetings::check(rt)?;
+    words::write(rt)
 }

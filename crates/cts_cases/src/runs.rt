@@ -1,10 +1,11 @@
 //! One run over streams in memory.
 
+use cts_after::tell_after;
 use cts_draw::draw;
 use cts_io::{MemSink, MemSource};
 use cts_num::NoMemory;
-use cts_top::{Outcome, Status, run, run_for_text};
-use cts_work::Gate;
+use cts_top::{Outcome, Status, run};
+use cts_work::{Gate, OpenGate};
 use std::alloc::Global;
 use std::io::{self, ErrorKind};
 use std::sync::Wait;
@@ -119,30 +120,23 @@ impl Open {
     }
 }
 
-/// Runs the program on some words, or, where the first of them is `cts-draw`, the program of that name on the others.
-fn end<R: AllocGlobal + Threads + Wait + Sync>(rt: &R, words: &[String], to: &mut Open) -> Status {
-    let (input, output, notes) = (&mut to.input, &mut to.output, &mut to.notes);
-    match words {
-        [program, words @ ..] if program.as_str() == "cts-draw" => {
-            draw(rt.alloc(), !words.is_empty(), input, output, notes)
-        }
-        _ => run_for_text(rt, rt.alloc(), words, input, output, notes),
-    }
-}
-
-/// The same, with callers of `edit` at a gate.
-fn end_under<R: AllocGlobal + Threads + Wait + Sync, G: Gate>(
+/// Runs the program on some words at a gate, or, where the first of them is `cts-draw` or `cts-after`, the program of that
+/// name on the others.
+fn end<R: AllocGlobal + Threads + Wait + Sync, G: Gate>(
     rt: &R,
     gate: &G,
     words: &[String],
     to: &mut Open,
 ) -> Status {
+    let (input, output, notes) = (&mut to.input, &mut to.output, &mut to.notes);
     match words {
-        [form, ..] if form.as_str() == "edit" => {
-            let (input, output, notes) = (&mut to.input, &mut to.output, &mut to.notes);
-            run(rt, rt.alloc(), words, input, output, notes, gate).status
+        [program, words @ ..] if program.as_str() == "cts-draw" => {
+            draw(rt.alloc(), !words.is_empty(), input, output, notes)
         }
-        _ => end(rt, words, to),
+        [program, words @ ..] if program.as_str() == "cts-after" => {
+            tell_after(rt.alloc(), !words.is_empty(), input, output, notes)
+        }
+        _ => run(rt, rt.alloc(), words, input, output, notes, gate).status,
     }
 }
 
@@ -155,7 +149,10 @@ pub(crate) fn over<R: AllocGlobal + Threads + Wait + Sync, G: Gate>(
     streams: Streams,
 ) -> io::Result<Ran> {
     let mut open = Open::over(rt.alloc(), text, streams)?;
-    let status = end_under(rt, gate, words, &mut open);
+    let status = match words {
+        [form, ..] if form.as_str() == "edit" => end(rt, gate, words, &mut open),
+        _ => end(rt, &OpenGate, words, &mut open),
+    };
     Ok(open.ended(status))
 }
 
@@ -168,7 +165,7 @@ pub(crate) fn run_open<R: AllocGlobal + Threads + Wait + Sync>(
 ) -> io::Result<Ran> {
     let words = words_of(rt.alloc(), words)?;
     let mut open = Open::over(rt.alloc(), text, streams)?;
-    let status = end(rt, &words, &mut open);
+    let status = end(rt, &OpenGate, &words, &mut open);
     Ok(open.ended(status))
 }
 

@@ -1,5 +1,5 @@
 -- What it does to a table's entries to publish what was made of a key.
-use Rattle.std.proofs.Common.{◌≡◌, ◌≢◌, ℕ, ◌+◌, ◌<◌, ◌≤◌, ◌⊎◌, inl, inr, cond, List, [], ◌∷◌, ◌++◌, suc, length, take, get_or, slice_get, Option, Some, None, MatchOption, IfNone, IfSome, OnSome, Result, Ok, Err, OnOk, OnErr, refl, sym, ap, ◌∙◌, subst, arith, length-append, lt-ltb, le-ltb}
+use Rattle.std.proofs.Common.{◌≡◌, ◌≢◌, ℕ, ◌+◌, ◌<◌, ◌≤◌, ◌⊎◌, inl, inr, cond, List, [], ◌∷◌, ◌++◌, suc, length, take, get_or, slice_get, Option, Some, None, MatchOption, Result, Ok, Err, OnOk, OnErr, refl, sym, ap, ◌∙◌, subst, arith, length-append, lt-ltb, le-ltb}
 use Rattle.std.proofs.lemmas.List.{map-append}
 use Rattle.std.specs.List.{position_or_len}
 use Rattle.std.specs.Map.{keys_of, lookup}
@@ -17,12 +17,11 @@ use Rattle.cts_merge.proofs.Merges.{leaf_one, merged_one}
 use Rattle.cts_memo.specs.declared.key.Key.{Key}
 use Rattle.cts_memo.specs.declared.key.Key.TheVariants.{Leaf, Pair}
 use Rattle.cts_memo.specs.declared.entry.MemoEntry.{MemoEntry}
-use Rattle.cts_memo.specs.declared.entry.PutEnd.{PutEnd}
 use Rattle.cts_memo.specs.declared.entry.PutEnd.TheVariants.{At}
 use Rattle.cts_memo.specs.contracts.key.KeyPartialEq.TheImpl.{ghosts}
 use Rattle.cts_memo.specs.Keys.{entry, entries_of}
 use Rattle.cts_memo.specs.Sound.{IsMadeOf, IsSound, sink_at, max_entries}
-use Rattle.cts_memo.specs.Replies.{IsAbsent, IsPut, after_put, fill_end}
+use Rattle.cts_memo.specs.Replies.{IsAbsent, IsPut, after_put}
 use Rattle.cts_memo.specs.TableLaws.{made_stays, untold}
 use Rattle.cts_memo.proofs.Maps.{looked_none, looked_some, put_back, put_new, new_place}
 
@@ -141,42 +140,6 @@ module _ (params : Params) (es : List (Key × Finished)) (key : Key) (f : Finish
         ap entries_of (is ∙ new.0) ∙ pushed
         ∙ sym (ap (λ b. cond b (entries_of es) (entries_of es ++ entry key f ∷ [])) (le-ltb place (length (entries_of es)) (omega (arith, new.2))))
   ]
-
-  -- a table's rules are kept, and a publication that ended so leads there
-  pub record Puts (es' : List (Key × Finished)) (end : PutEnd) : Type 0 where
-    pub sound : ∥ IsSound params (entries_of es') ∥₁
-    pub short : length (entries_of es') ≤ max_entries
-    pub put : IsPut (entries_of es) key end
-    pub after : entries_of es' ≡ after_put (entries_of es) key f end
-
-  fills_by : (r : Option Finished) → lookup (ghosts.eq key) es ≡ r → (es' : List (Key × Finished)) → length (entries_of es) ≤ max_entries
-      → IfSome r (λ _. es' ≡ es) → IfNone r (es' ≡ inserted) → IfNone r (length es < max_entries) → Puts es' (At place)
-  fills_by None e es' short found new fewer =
-      let room : length (entries_of es) < max_entries = omega (arith, fewer, length-entries es) in
-      let keeps = insert_keeps {T = ℕ} {E = ℕ} (Ok 0) es' new tt room in
-      record { sound = keeps.0; short = keeps.1; put = insert_end room; after = insert_told es' new }
-  fills_by (Some g) e es' short found new fewer =
-      let is = there g e in
-      record {
-        sound = subst (λ l. ∥ IsSound params (entries_of l) ∥₁) (sym found) told;
-        short = omega (arith, short, ap (λ l. length (entries_of l)) found);
-        put = inl (f, is.1);
-        after = insert_told es' (found ∙ sym is.0);
-      }
-
-  -- so does a look-up that inserts only what is absent, while there are fewer entries than there can be
-  pub fills : (n : Option ℕ) (es' : List (Key × Finished)) → length (entries_of es) ≤ max_entries → IfSome n (λ i. i ≡ place)
-      → IfSome (lookup (ghosts.eq key) es) (λ _. es' ≡ es) → OnSome n (IfNone (lookup (ghosts.eq key) es) (es' ≡ inserted))
-      → OnSome n (IfNone (lookup (ghosts.eq key) es) (length es < max_entries)) → IfNone n (lookup (ghosts.eq key) es ≡ None)
-      → IfNone n (length es ≡ max_entries) → IfNone n (es' ≡ es) → Puts es' (fill_end n)
-  fills None es' short at found new fewer absent full same = record {
-    sound = subst (λ l. ∥ IsSound params (entries_of l) ∥₁) (sym same) told;
-    short = omega (arith, short, ap (λ l. length (entries_of l)) same);
-    put = (looked_none key es absent, omega (arith, full, length-entries es));
-    after = ap entries_of same;
-  }
-  fills (Some i) es' short at found new fewer absent full same =
-      subst (λ p. Puts es' (At p)) (sym at) (fills_by (lookup (ghosts.eq key) es) refl es' short found new fewer)
 
 -- a publication of a key that is there changes nothing
 pub found_told : (seen : List MemoEntry) (key : Key) (f : Finished) (n : ℕ) (e : MemoEntry) → slice_get seen n ≡ Some e

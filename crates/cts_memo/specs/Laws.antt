@@ -13,9 +13,7 @@ use Rattle.cts_topo.specs.Topology.{shape_of}
 use Rattle.cts_up.specs.Plan.{IsFinished}
 use Rattle.cts_memo.specs.declared.entry.MemoEntry.{MemoEntry}
 use Rattle.cts_memo.specs.contracts.memo.Memo as memo
-use Rattle.cts_memo.specs.declared.question.Question.{Question}
 use Rattle.cts_memo.specs.Sound.{EntryAt, IsSound}
-use Rattle.cts_memo.specs.Questions.{AreAnswers}
 use Rattle.cts_memo.specs.Numbers.{number_of, missing, AreKnown}
 
 -- a number in a list is the number in every list that begins with it
@@ -63,12 +61,6 @@ OneCapMissesSixteen =
     (seen : List MemoEntry) (sinks : List Sink) (s : ℕ) (sink : Sink) (cap : ℕ) → AreSinks sinks → slice_get sinks s ≡ Some sink
     → AreKnown seen sinks (shape_of sinks)
     → (shape_of (with_cap sinks s sink cap) ≡ shape_of sinks) × (missing seen (with_cap sinks s sink cap) (shape_of sinks) ≤ 16)
-
--- questions that are asked together have one list of answers
-abbrev pub AnswersAreOne : Type 0
-AnswersAreOne =
-    (params : Params) (seen : List MemoEntry) (asked a b : List Question) → IsSound params seen → AreAnswers seen asked a
-    → AreAnswers seen asked b → a ≡ b
 
 -- threads may share a memo
 abbrev pub MemoIsShared : Type 0

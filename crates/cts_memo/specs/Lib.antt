@@ -2,7 +2,6 @@ pub mod Keys
 pub mod Sound
 pub mod Replies
 pub mod Secrets
-pub mod Questions
 pub mod Calls
 pub mod TableLaws
 pub mod Tables

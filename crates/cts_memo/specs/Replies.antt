@@ -1,5 +1,5 @@
 -- What answers a look-up in a list of entries, how a publication may end, and the list after it.
-use Rattle.std.specs.Prelude.{◌≡◌, ◌≢◌, ℕ, ◌<◌, ◌⊎◌, nat_lt, cond, List, [], ◌∷◌, ◌++◌, length, slice_get, Option, Some, None, All}
+use Rattle.std.specs.Prelude.{◌≡◌, ◌≢◌, ℕ, ◌<◌, ◌⊎◌, nat_lt, cond, List, [], ◌∷◌, ◌++◌, length, slice_get, Some, All}
 use Rattle.cts_merge.specs.declared.side.Finished.{Finished}
 use Rattle.cts_memo.specs.declared.key.Key.{Key}
 use Rattle.cts_memo.specs.declared.entry.MemoEntry.{MemoEntry}
@@ -35,11 +35,6 @@ abbrev pub after_put : List MemoEntry → Key → Finished → PutEnd → List M
 after_put seen key f (At n) = cond (nat_lt n (length seen)) seen (seen ++ entry key f ∷ [])
 after_put seen key f Full = seen
 after_put seen key f NoMemory = seen
-
--- the end of a publication that has room, by the number that it gives
-abbrev pub fill_end : Option ℕ → PutEnd
-fill_end (Some n) = At n
-fill_end None = Full
 
 -- what a publication tells of the list after it: the entry of its number is the key with what was made of it
 abbrev pub IsPublished : List MemoEntry → Key → Finished → PutEnd → Type 0

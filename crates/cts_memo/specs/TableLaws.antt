@@ -18,9 +18,9 @@ use Rattle.cts_memo.specs.declared.key.Key.{Key}
 use Rattle.cts_memo.specs.declared.key.Key.TheVariants.{Leaf, Pair}
 use Rattle.cts_memo.specs.declared.entry.MemoEntry.{MemoEntry}
 use Rattle.cts_memo.specs.declared.entry.MemoCall.{MemoCall}
-use Rattle.cts_memo.specs.declared.entry.MemoCall.TheVariants.{Ask, AskAll, Put, Read}
+use Rattle.cts_memo.specs.declared.entry.MemoCall.TheVariants.{Ask, Put, Read}
 use Rattle.cts_memo.specs.declared.entry.MemoReply.{MemoReply}
-use Rattle.cts_memo.specs.declared.entry.MemoReply.TheVariants.{Asked, Answered, Published, Listed}
+use Rattle.cts_memo.specs.declared.entry.MemoReply.TheVariants.{Asked, Published, Listed}
 use Rattle.cts_memo.specs.declared.entry.PutEnd.{PutEnd}
 use Rattle.cts_memo.specs.declared.entry.PutEnd.TheVariants.{At, Full, NoMemory}
 use Rattle.cts_memo.specs.Keys.{entry}
@@ -43,9 +43,7 @@ appends_put seen key f NoMemory = inl refl
 
 pub appends : (seen : List MemoEntry) (call : MemoCall) (reply : MemoReply) → Allows seen call reply → Appends seen (list_after seen call reply)
 appends seen (Ask key) reply allowed = inl refl
-appends seen (AskAll asked) reply allowed = inl refl
 appends seen (Put key f) (Asked answer) allowed = inl refl
-appends seen (Put key f) (Answered answered) allowed = inl refl
 appends seen (Put key f) (Published end) allowed = appends_put seen key f end
 appends seen (Put key f) (Listed reading) allowed = inl refl
 appends seen (Read first most room) reply allowed = inl refl
@@ -75,7 +73,6 @@ made_stays params seen longer (Pair left right) f more made =
 
 pub fits_stays : (params : Params) (seen longer : List MemoEntry) (call : MemoCall) → IsPrefix seen longer → Fits params seen call → Fits params longer call
 fits_stays params seen longer (Ask key) more fits = tt
-fits_stays params seen longer (AskAll asked) more fits = tt
 fits_stays params seen longer (Put key f) more fits = made_stays params seen longer key f more fits
 fits_stays params seen longer (Read first most room) more fits = tt
 

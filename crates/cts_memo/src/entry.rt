@@ -1,7 +1,6 @@
 //! Entries of a memo's table, its calls and its replies.
 
 use crate::key::Key;
-use crate::question::Question;
 use cts_merge::Finished;
 use cts_num::NoMemory;
 
@@ -17,8 +16,6 @@ pub struct MemoEntry {
 pub enum MemoCall {
     /// Looks a key up.
     Ask(Key),
-    /// Looks up all that the questions ask for.
-    AskAll(Vec<Question>),
     /// Publishes what was made of a key.
     Put(Key, Finished),
     /// Reads so many entries from a number on, or as many as there are, into a list whose room was had
@@ -35,8 +32,6 @@ pub enum MemoCall {
 pub enum MemoReply {
     /// To a look-up.
     Asked(Answer),
-    /// To many of them: the questions, each with its answer.
-    Answered(Vec<Question>),
     /// To a publication.
     Published(PutEnd),
     /// To a reading of entries: they stand in the order of their numbers.

@@ -1,7 +1,6 @@
 //! What the words of the contracts mean, as laws: each is the contract of a function that does nothing.
 
 ghost use Rattle.cts_memo.specs.Laws.{
-  AnswersAreOne,
   MemoIsShared,
   NothingIsMissing,
   NumberedIsFinished,
@@ -40,11 +39,6 @@ pub fn one_change_misses_depth()
 /// are missing.
 pub fn one_cap_misses_sixteen()
     ensures { OneCapMissesSixteen }
-{}
-
-/// Questions that are asked together have one list of answers.
-pub fn answers_are_one()
-    ensures { AnswersAreOne }
 {}
 
 /// Threads may share a memo. A caller of `join` whose closures hold one calls this before.

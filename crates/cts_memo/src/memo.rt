@@ -9,7 +9,6 @@ ghost use Rattle.cts_turn.specs.Passes.{made_by, seen_by, share_of};
 
 use crate::entry::{Answer, MemoCall, MemoEntry, MemoReply, PutEnd};
 use crate::key::Key;
-use crate::question::Question;
 use crate::secret::Secret;
 use crate::table::Table;
 use cts_merge::Finished;
@@ -43,7 +42,6 @@ pub struct MemoOut {
 impl Memo {
     ghost use Rattle.std.specs.Prelude.{drop, slice_get, take};
     ghost use Rattle.cts_memo.specs.declared.entry.Answer.{Answer};
-    ghost use Rattle.cts_memo.specs.Questions.{AreAnswers};
     ghost use Rattle.cts_memo.specs.Replies.{IsAbsent, IsFound, IsPublished};
     ghost use Rattle.cts_memo.specs.Sound.{IsMadeOf, IsSound, NamesEntries, max_entries};
     ghost use Rattle.cts_memo.specs.Passes.{IsPassOf, IsPublication, params_of};
@@ -64,8 +62,7 @@ impl Memo {
         ensures pass { IfOk result (λ m. (seen_by m.1 ≡ []) × (made_by m.1 ≡ 0) × (share_of m.1 ≡ 65536)) }
     {
         let kept = params.try_clone(alloc)?;
-        let mut table = Table::new(alloc, params, secret);
-        table.reserve(entries)?;
+        let table = Table::with_room(alloc, params, secret, entries)?;
         let (turn, pass) = Turn::start(alloc, table)?;
         Ok((Memo { turn, params: kept }, pass))
     }
@@ -141,34 +138,6 @@ impl Memo {
     {
         match self.turn.call(rt, pass, MemoCall::Ask(key)) {
             MemoReply::Asked(answer) => answer,
-            MemoReply::Answered(_) => unreachable!(),
-            MemoReply::Published(_) => unreachable!(),
-            MemoReply::Listed(_) => unreachable!(),
-        }
-    }
-
-    /// Looks up all that the questions ask for, once it is this call's turn: one call, however many they
-    /// are, since look-ups append nothing.
-    ///
-    /// The questions come back in their order, each with its key and its answer. A pair may have parts that
-    /// are asked for earlier in the list. Where no question stands earlier at a part's place, or its answer
-    /// is `Absent`, the pair has no key and is `Absent` too.
-    pub fn ask_all<R: Wait>(
-        &self,
-        rt: &R,
-        pass: &mut MemoPass,
-        questions: Vec<Question>,
-    ) -> Vec<Question>
-        requires own { IsPassOf self.now pass.old }
-        ensures own { IsPassOf self.now pass.new }
-        ensures share { share_of pass.new ≡ share_of pass.old }
-        ensures made { made_by pass.new ≡ made_by pass.old }
-        ensures goes_on { IsPrefix (seen_by pass.old) (seen_by pass.new) }
-        ensures answers { AreAnswers (seen_by pass.new) questions.items result.items }
-    {
-        match self.turn.call(rt, pass, MemoCall::AskAll(questions)) {
-            MemoReply::Answered(answered) => answered,
-            MemoReply::Asked(_) => unreachable!(),
             MemoReply::Published(_) => unreachable!(),
             MemoReply::Listed(_) => unreachable!(),
         }
@@ -194,7 +163,6 @@ impl Memo {
         match self.turn.call(rt, pass, MemoCall::Put(key, finished)) {
             MemoReply::Published(end) => end,
             MemoReply::Asked(_) => unreachable!(),
-            MemoReply::Answered(_) => unreachable!(),
             MemoReply::Listed(_) => unreachable!(),
         }
     }
@@ -221,7 +189,6 @@ impl Memo {
         match self.turn.call(rt, pass, call) {
             MemoReply::Listed(entries) => entries,
             MemoReply::Asked(_) => unreachable!(),
-            MemoReply::Answered(_) => unreachable!(),
             MemoReply::Published(_) => unreachable!(),
         }
     }

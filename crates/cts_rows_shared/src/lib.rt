@@ -25,7 +25,6 @@ mod leaves;
 #[cfg(test)]
 mod memos;
 #[cfg(test)]
-mod questions;
 #[cfg(test)]
 mod rebuilds;
 #[cfg(test)]

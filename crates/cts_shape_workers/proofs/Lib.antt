@@ -1,5 +1,4 @@
 pub mod Growing
 pub mod Sinks
 pub mod AllNodes
-pub mod Rises
 pub mod Branches

@@ -1,9 +1,6 @@
 pub mod Growing
-pub mod Rises
 pub mod Placing
 pub use Rattle.cts_topo.specs.Shape
 pub use Rattle.cts_topo.specs.Sinks
 pub use Rattle.cts_topo.specs.Topology
 pub use Rattle.cts_up.specs.Sites
-pub use Rattle.cts_up.specs.Ends
-pub use Rattle.cts_up.specs.Stretches

@@ -1,5 +1,6 @@
 -- What the ending of a run means for its status and its note.
-use Rattle.std.proofs.Common.{◌≡◌, ℕ, ◌≤◌, ◌⊎◌, inl, inr, List, [], length, Option, None, Some, IfSome, Result, Ok, Err, IfOk, IfErr, IsErrOf, refl, sym, subst, ap, ◌∙◌, arith}
+use Rattle.std.proofs.Common.{◌≡◌, ℕ, ◌≤◌, ◌⊎◌, inl, inr, List, [], length, take, Option, None, Some, IfSome, Result, Ok, Err, IfOk, IfErr, IsErrOf, refl, sym, subst, ap, ◌∙◌, arith}
+use Rattle.std.proofs.Math.Seq.{take-length}
 use Rattle.std.specs.Io.KnownBytes.{Appends}
 use Rattle.cts_io.specs.Faults.{Rose}
 use Rattle.cts_io.specs.Text.{Writes}
@@ -357,3 +358,12 @@ pub whole_at : {S : Type 0} {held : S → Option (List ℕ)} {faults : S → ℕ
     → Writes held faults old new text result → (Rose (faults old) (faults new) → ⊥) → Appends (held old) (held new) text
 whole_at (Ok _) w n = w.ok
 whole_at (Err e) w n = absurd (n w.write_fault)
+
+-- and a front of it in any case
+all_of : (old new : Option (List ℕ)) (text : List ℕ) → Appends old new text → (count : ℕ) × Appends old new (take count text)
+all_of old new text a = (length text, subst (Appends old new) (sym (take-length text)) a)
+
+pub front_at : {S : Type 0} {held : S → Option (List ℕ)} {faults : S → ℕ} {old new : S} (text : List ℕ) (result : Result Unit WriteEnd)
+    → Writes held faults old new text result → (count : ℕ) × Appends (held old) (held new) (take count text)
+front_at text (Ok _) w = all_of _ _ text w.ok
+front_at text (Err e) w = (w.cut.count, w.cut.taken)

@@ -9,6 +9,7 @@ pub mod Told
 pub mod Writing
 pub mod NearTold
 pub mod Serving
+pub mod FormKinds
 pub mod Forms
 pub mod Editing
 pub mod Edited

@@ -13,7 +13,6 @@ use Rattle.cts_memo.specs.Numbers.{AreKnown}
 use Rattle.cts_memo.specs.Sound.{IsSound, max_entries}
 use Rattle.cts_memo.specs.Tables.{base_of, told_by}
 use Rattle.cts_plain.specs.declared.end.NoTree.{NoTree}
-use Rattle.cts_plain.specs.declared.end.NoTree.TheVariants as end
 use Rattle.cts_plain.specs.Synthesis.{IsSynthesis, Synthesis, made, beyond, cut}
 use Rattle.cts_script.specs.declared.script.ScriptStep.{ScriptStep}
 use Rattle.cts_script.specs.Generator.{made_parts}

@@ -7,6 +7,7 @@ use Rattle.cts_top.specs.declared.stop.Stop.{Stop}
 use Rattle.cts_top.specs.declared.stop.Stop.TheVariants as stop
 use Rattle.cts_notes.specs.declared.status.Status.TheVariants as status
 use Rattle.cts_top.specs.declared.words.Form.{Form}
+use Rattle.cts_top.specs.Kinds.{HasKind}
 use Rattle.cts_top.specs.Log.{Log}
 use Rattle.cts_top.specs.Notes.{note_of, stop_note}
 use Rattle.cts_top.specs.Outcome.{Serves, status_of}
@@ -17,7 +18,7 @@ use Rattle.cts_top.specs.Streams.{IsUntouched, Stream, told_after, told_before}
 use Rattle.cts_top.specs.Words.{IsAlone}
 use Rattle.cts_top.specs.Written.{IsAnswered}
 use Rattle.cts_top.proofs.Forms.{alone_or_not}
-use Rattle.cts_top.proofs.Endings.{answered_at, complete_at, note_at, read_stop, refused_at, refuses_at, whole_at, words_stop, write_stop}
+use Rattle.cts_top.proofs.Endings.{answered_at, complete_at, front_at, note_at, read_stop, refused_at, refuses_at, whole_at, words_stop, write_stop}
 
 words_status : (ending : Result Answer Stop) → IsErrOf ending stop.Words → status_of ending ≡ status.Words
 words_status (Ok kind) e = absurd cc
@@ -43,6 +44,7 @@ module _ {S K : Type 0} (Asks : Form → Type 0) (log : Log) (source : Stream S)
         answered_at (λ kind. HasRead (reads form) source × OfInput (reads form) (told_before source)
         (λ bytes. IsAnswered (IsRight log form bytes) kind (told_before sink) (told_after sink)))
         ending kind s (a.serves form is).done;
+    kinds = λ form is kind s. answered_at (HasKind form) ending kind s (a.serves form is).kinds;
     refused = λ form is s. refused_at (reads form) ending (told_before source) (a.serves form is).explained s;
     read_fault = λ form is s. (a.serves form is).read_fault (read_stop ending s);
     write_fault = λ s. a.write_fault (write_stop ending s);
@@ -59,7 +61,7 @@ module _ {S K : Type 0} (Asks : Form → Type 0) (log : Log) (source : Stream S)
         let serves = a.serves form is in
         refuses_at log form _ _ _ ending (told_before source) (told_before sink) (told_after sink) serves.done
         (λ e. a.served.0 e form is) (λ e. calm (serves.read_fault e).0 (serves.read_fault e).1) serves.write_fault;
-    note = λ calm. (note_of ending, a.note, whole_at written w calm);
+    note = (note_of ending, a.note, whole_at written w, front_at (note_of ending) written w);
   }
 
   -- words that ask for one form

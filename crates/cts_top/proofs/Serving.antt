@@ -4,6 +4,7 @@ use Rattle.cts_instance.specs.declared.parts.Parts.{Parts}
 use Rattle.cts_near.specs.Ends.{max_near_sinks}
 use Rattle.cts_read.specs.Grammar.{Refusal}
 use Rattle.cts_report.specs.Report.{report_text}
+use Rattle.cts_script.specs.Generator.{made_parts}
 use Rattle.cts_script.specs.declared.script.ScriptStep.{ScriptStep}
 use Rattle.cts_script.specs.declared.replay.ReplayStep.{ReplayStep}
 use Rattle.cts_top.specs.declared.stop.Answer.{Answer}
@@ -13,6 +14,7 @@ use Rattle.cts_top.specs.declared.words.Form.{Form}
 use Rattle.cts_top.specs.declared.words.Form.TheVariants.{Synth, Check, Edit, Make, Job, Near, Replay}
 use Rattle.cts_notes.specs.Front.{SpellsFront, front_of}
 use Rattle.cts_top.specs.Input.{Spells, SpellsScripts, input_of, scripted_of}
+use Rattle.cts_top.specs.Kinds.{HasKind}
 use Rattle.cts_top.specs.Log.{Log, no_log}
 use Rattle.cts_top.specs.Near.{TellsNear}
 use Rattle.cts_top.specs.Verdict.{TellsVerdict}
@@ -21,9 +23,10 @@ use Rattle.cts_top.specs.Reading.{DoesNotRead, Explains, ExplainsBy, ExplainsFew
 use Rattle.cts_top.specs.Replay.{SpellsReplay, TellsReplay, replayed_of}
 use Rattle.cts_top.specs.Right.{IsRight, TellsCallers}
 use Rattle.cts_top.specs.Streams.{Failed, IsReadWhole, IsUntouched, KeepsCount, Stream, told_after, told_before}
-use Rattle.cts_top.specs.Text.{TellsSynthesis}
+use Rattle.cts_top.specs.Text.{TellsSynthesis, summary_in}
 use Rattle.cts_top.specs.Written.{Answers, IsAnswered, IsAnsweredInPart, Rule}
 use Rattle.cts_top.proofs.Endings.{of_all, on_input}
+use Rattle.cts_top.proofs.FormKinds.{kind_of_edits, kind_of_made, kind_of_near, kind_of_replay, kind_of_tree, kind_of_verdict}
 
 -- what follows, bytes by bytes, from what holds of those that were left
 pub on_left : (left : Option (List ℕ)) (P Q : List ℕ → Type 0) → ((b : List ℕ) → P b → Q b) → IfSome left P → IfSome left Q
@@ -99,15 +102,17 @@ module _ {S K : Type 0} (log : Log) (form : Form) (source : Stream S) where
   -- a run on a form that has its input, by what it then wrote and why that is right
   pub serves : (sink : Stream K) (Right : Rule) → HasRead (reads form) source → LeavesOthers (reads form) source
       → OfInput (reads form) (told_before source) (λ bytes. (kind : Answer) (text : List ℕ) → Right kind text → IsRight log form bytes kind text)
+      → ((kind : Answer) (text : List ℕ) → Right kind text → HasKind form kind)
       → KeepsCount source → (result : Result Answer Stop) → Answers Right sink.tells sink.faults sink.before sink.after result
       → Serves log form source sink result
-  serves sink Right has others right counted (Ok kind) a = record {
+  serves sink Right has others right kinds counted (Ok kind) a = record {
     done = (
       has,
       on_input (reads form) (told_before source) (λ bytes. (kind : Answer) (text : List ℕ) → Right kind text → IsRight log form bytes kind text)
           (λ bytes. IsAnswered (IsRight log form bytes) kind (told_before sink) (told_after sink))
           (λ bytes is. (a.done.0, is kind a.done.0 a.done.1, a.done.2)) right,
     );
+    kinds = kinds kind a.done.0 a.done.1;
     write_fault = λ e. cc;
     read_fault = λ e. cc;
     many = λ e. cc;
@@ -117,10 +122,11 @@ module _ {S K : Type 0} (log : Log) (form : Form) (source : Stream S) where
     source_counted = counted;
     sink_counted = a.counted;
   }
-  serves sink Right has others right counted (Err end) a =
+  serves sink Right has others right kinds counted (Err end) a =
       let none : DoesNotRead end = does_not_read end _ a.kept in
       record {
         done = tt;
+        kinds = tt;
         write_fault = λ e. let p : IsAnsweredInPart Right (told_before sink) (told_after sink) = a.in_part e in (
           has,
           a.rose e,
@@ -145,6 +151,7 @@ module _ {S K : Type 0} (log : Log) (form : Form) (source : Stream S) where
       → KeepsCount source → IsUntouched sink → Serves log form source sink (Err end)
   stops sink T end is_read others explained many rose not_written counted same = record {
     done = tt;
+    kinds = tt;
     write_fault = λ e. absurd (not_stopped T end stop.WriteFault not_written e);
     read_fault = λ e. let stopped : end ≡ stop.ReadFault = cc in (is_read, rose (ap Err stopped));
     many = λ e. let stopped : end ≡ stop.Many = cc in many (ap Err stopped);
@@ -162,7 +169,8 @@ module _ {S K : Type 0} (source : Stream S) (sink : Stream K) (result : Result A
       → Serves no_log (Synth workers) source sink result
   serves_synth workers i at_end spells counted =
       serves no_log (Synth workers) source sink (TellsSynthesis report_text i) at_end tt
-      (on_left (told_before source) (λ b. Spells b i) _ (λ b s kind text told. (i, s, told)) spells) counted result
+      (on_left (told_before source) (λ b. Spells b i) _ (λ b s kind text told. (i, s, told)) spells)
+      (kind_of_tree (Synth workers) tt report_text i) counted result
 
   -- a run that has read an instance of few enough sinks
   pub serves_near : (i : Parts) → IsReadWhole source → IfSome (told_before source) (λ b. Spells b i) → length i.sinks ≤ max_near_sinks
@@ -171,7 +179,7 @@ module _ {S K : Type 0} (source : Stream S) (sink : Stream K) (result : Result A
   serves_near i at_end spells fits counted =
       serves no_log Near source sink (TellsNear i) at_end tt
       (on_left (told_before source) (λ b. Spells b i) _ (λ b s kind text told. (i, record { spells = s; few = fits }, told)) spells)
-      counted result
+      (kind_of_near i) counted result
 
   -- a run that has read an instance and a report
   pub serves_check : (i : Parts) (report : List ℕ) → IsReadWhole source → IfSome (told_before source) (λ b. SpellsFront b i report)
@@ -179,7 +187,8 @@ module _ {S K : Type 0} (source : Stream S) (sink : Stream K) (result : Result A
       → Serves no_log Check source sink result
   serves_check i report at_end spells counted =
       serves no_log Check source sink (TellsVerdict i report) at_end tt
-      (on_left (told_before source) (λ b. SpellsFront b i report) _ (λ b s kind text told. (i, report, s, told)) spells) counted result
+      (on_left (told_before source) (λ b. SpellsFront b i report) _ (λ b s kind text told. (i, report, s, told)) spells)
+      (kind_of_verdict i report) counted result
 
   -- a run that has read an instance and scripts
   pub serves_edit : (log : Log) (i : Parts) (scripts : List (List ScriptStep)) → IsReadWhole source
@@ -188,7 +197,8 @@ module _ {S K : Type 0} (source : Stream S) (sink : Stream K) (result : Result A
       → Serves log Edit source sink result
   serves_edit log i scripts at_end spells counted =
       serves log Edit source sink (TellsCallers i scripts log) at_end tt
-      (on_left (told_before source) (λ b. SpellsScripts b i scripts) _ (λ b s kind text told. (i, scripts, s, told)) spells) counted result
+      (on_left (told_before source) (λ b. SpellsScripts b i scripts) _ (λ b s kind text told. (i, scripts, s, told)) spells)
+      (kind_of_edits i scripts log) counted result
 
   -- a run that has read an instance and the steps of a replay
   pub serves_replay : (i : Parts) (asked : List ReplayStep) → IsReadWhole source → IfSome (told_before source) (λ b. SpellsReplay b i asked)
@@ -196,14 +206,15 @@ module _ {S K : Type 0} (source : Stream S) (sink : Stream K) (result : Result A
       → Serves no_log Replay source sink result
   serves_replay i asked at_end spells counted =
       serves no_log Replay source sink (TellsReplay i asked) at_end tt
-      (on_left (told_before source) (λ b. SpellsReplay b i asked) _ (λ b s kind text told. (i, asked, s, told)) spells) counted result
+      (on_left (told_before source) (λ b. SpellsReplay b i asked) _ (λ b s kind text told. (i, asked, s, told)) spells)
+      (kind_of_replay i asked) counted result
 
   -- a run that reads nothing
   pub serves_make : (seed sinks : ℕ) → IsUntouched source
       → Answers (IsRight no_log (Make seed sinks) []) sink.tells sink.faults sink.before sink.after result
       → Serves no_log (Make seed sinks) source sink result
   serves_make seed sinks same =
-      serves no_log (Make seed sinks) source sink (IsRight no_log (Make seed sinks) []) same same (λ kind text is. is)
+      serves no_log (Make seed sinks) source sink (IsRight no_log (Make seed sinks) []) same same (λ kind text is. is) (kind_of_made seed sinks)
       (subst (λ s. source.faults source.before ≤ source.faults s) (sym same) (omega arith)) result
 
   pub serves_job : (seed sinks workers : ℕ) → IsUntouched source
@@ -211,4 +222,5 @@ module _ {S K : Type 0} (source : Stream S) (sink : Stream K) (result : Result A
       → Serves no_log (Job seed sinks workers) source sink result
   serves_job seed sinks workers same =
       serves no_log (Job seed sinks workers) source sink (IsRight no_log (Job seed sinks workers) []) same same (λ kind text is. is)
+      (kind_of_tree (Job seed sinks workers) tt summary_in (made_parts seed sinks))
       (subst (λ s. source.faults source.before ≤ source.faults s) (sym same) (omega arith)) result

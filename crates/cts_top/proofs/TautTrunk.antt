@@ -1,7 +1,6 @@
 -- The wire to the root of a synthesised tree is as long as its route, since no balance lengthens it.
-use Rattle.std.proofs.Common.{◌≡◌, ◌*◌, ℤ, List, map, length, get_or, Some, sym, ap, subst, ◌∙◌, arith}
+use Rattle.std.proofs.Common.{◌≡◌, ◌*◌, List, length, get_or, Some, sym, ap, subst, ◌∙◌, arith}
 use Rattle.std.specs.Prelude.{[], IfSome}
-use Rattle.std.specs.List.{AllZip}
 use Rattle.std.proofs.lemmas.Int.{ints}
 use Rattle.cts_geom.specs.declared.points.Half.{Half}
 use Rattle.cts_geom.specs.declared.points.Spot.{Spot}
@@ -9,8 +8,8 @@ use Rattle.cts_geom.specs.Points.{point_of}
 use Rattle.cts_geom.proofs.PointLemmas.{half_same}
 use Rattle.cts_block.specs.declared.blocks.Block.{Block}
 use Rattle.cts_postorder.specs.BinaryTree.{BinaryTree, label}
-use Rattle.cts_postorder.specs.Occurrence.{Occurrence, occurrence, occurrences_of}
-use Rattle.cts_postorder.specs.PostOrder.{IsPostOrder, root_of}
+use Rattle.cts_postorder.specs.Occurrence.{Occurrence, occurrence}
+use Rattle.cts_postorder.specs.PostOrder.{root_of}
 use Rattle.cts_postorder.proofs.Alike.{AlikeLists, alike_label, alike_lists}
 use Rattle.cts_tree.specs.declared.nodes.TreeNode.{TreeNode}
 use Rattle.cts_tree.specs.declared.route.Route.{Route}

@@ -1,5 +1,5 @@
 -- The text for the trunk of a tree with repeaters, from what laying it says of its end.
-use Rattle.std.proofs.Common.{◌≡◌, ◌≢◌, ◌≤◌, ℕ, List, ◌++◌, Option, IfSome, Result, Ok, Err, IsErrOf, refl, sym, subst, ap, ◌∙◌}
+use Rattle.std.proofs.Common.{◌≡◌, ℕ, List, ◌++◌, Option, IfSome, Result, Ok, Err, sym, subst, ap, ◌∙◌}
 use Rattle.cts_instance.specs.declared.parts.Parts.{Parts}
 use Rattle.cts_instance.specs.Validity.{IsValid}
 use Rattle.cts_tree.specs.declared.nodes.TreeNode.{TreeNode}
@@ -31,6 +31,7 @@ use Rattle.cts_top.specs.Text.{IsTextOf, TellsSynthesis, answer_of}
 use Rattle.cts_top.specs.Trunk.{IsExactly, IsNoTrunkLine, IsTrunkText, TellsTrunk}
 use Rattle.cts_top.specs.Written.{Answers, IsAnsweredInPart, Rule}
 use Rattle.cts_top.proofs.Serving.{on_left, serves}
+use Rattle.cts_top.proofs.FormKinds.{kind_of_trunk}
 use Rattle.cts_top.proofs.Told.{tells_tree}
 
 -- an answer by one rule is one by another that asks no more
@@ -123,4 +124,5 @@ pub serves_trunk : {S K : Type 0} (source : Stream S) (sink : Stream K) (result 
     → Serves no_log (TrunkForm step buffer) source sink result
 serves_trunk source sink result step buffer i at_end spells counted =
     serves no_log (TrunkForm step buffer) source sink (TellsTrunk i step buffer) at_end tt
-    (on_left (told_before source) (λ b. Spells b i) _ (λ b s kind text told. (i, s, told)) spells) counted result
+    (on_left (told_before source) (λ b. Spells b i) _ (λ b s kind text told. (i, s, told)) spells)
+    (kind_of_trunk i step buffer) counted result

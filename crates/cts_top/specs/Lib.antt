@@ -1,4 +1,6 @@
+pub mod Ends
 pub mod Input
+pub mod Kinds
 pub mod Log
 pub mod Memos
 pub mod Near

@@ -1,16 +1,20 @@
 -- What the memo of a run holds, and when a run keeps it.
 use Rattle.std.specs.Prelude.{◌≡◌, ◌⊎◌, ◌≤◌, ℕ, List, length, Option, IfSome, IsSome, Result, Ok, Err}
+use Rattle.std.specs.Borrow.{Bor}
 use Rattle.cts_instance.specs.declared.parts.Parts.{Parts}
 use Rattle.cts_topo.specs.declared.shape.ShapeNode.{ShapeNode}
+use Rattle.cts_topo.specs.Shape.{IsShapeOver}
 use Rattle.cts_topo.specs.Topology.{shape_of}
+use Rattle.cts_up.specs.Plan.{IsPlan}
 use Rattle.cts_tree.specs.declared.nodes.TreeNode.{TreeNode}
 use Rattle.cts_elmore.specs.declared.figures.Figures.{Figures}
+use Rattle.cts_memo.specs.declared.entry.MemoEntry.{MemoEntry}
 use Rattle.cts_memo.specs.declared.table.Table.{Table}
 use Rattle.cts_memo.specs.Numbers.{AreKnown}
 use Rattle.cts_memo.specs.Sound.{IsSound, max_entries}
-use Rattle.cts_memo.specs.Tables.{base_of, room_of, told_by}
-use Rattle.cts_work.specs.declared.filling.Numbers.{Numbers}
-use Rattle.cts_work.specs.Filling.{HasRoom}
+use Rattle.cts_memo.specs.Tables.{base_of, told_by}
+use Rattle.cts_work.specs.declared.plan.Plan.{Plan}
+use Rattle.cts_work.specs.Plans.{nodes_of}
 use Rattle.cts_plain.specs.declared.end.NoTree.{NoTree}
 use Rattle.cts_plain.specs.declared.end.NoTree.TheVariants as end
 use Rattle.cts_plain.specs.Synthesis.{IsSynthesis, made}
@@ -24,6 +28,7 @@ use Rattle.cts_top.specs.declared.stop.Stop.{Stop}
 use Rattle.cts_top.specs.declared.stop.Stop.TheVariants as stop
 use Rattle.cts_top.specs.declared.words.Form.{Form}
 use Rattle.cts_top.specs.declared.words.Form.TheVariants.{Synth, Check, Edit, Make, Job, Trunk, Near, Replay}
+use Rattle.cts_top.specs.declared.workers.Planned.{Planned}
 use Rattle.cts_top.specs.Input.{Spells, SpellsScripts}
 use Rattle.cts_top.specs.Log.{Log, no_log}
 use Rattle.cts_top.specs.Reading.{OfInput, reads}
@@ -37,17 +42,18 @@ pub record IsMemoOf (i : Parts) (table : Table) : Type 0 where
   pub known : (tree : List TreeNode) → IsSynthesis i (made tree)
       → (length (told_by table) ≡ max_entries) ⊎ AreKnown (told_by table) i.sinks (shape_of i.sinks)
 
--- a table for the entries of an instance, with room for all nodes of a shape, and room for their numbers
-pub record IsReadyFor (i : Parts) (shape : List ShapeNode) (ready : Table × Numbers) : Type 0 where
-  pub base : base_of ready.0 ≡ i.params
-  pub room : length shape ≤ room_of ready.0
-  pub numbers : HasRoom ready.1 (length shape)
+-- a list of entries has a number for every node of a shape over an instance's sinks, or as many entries as it can have
+abbrev pub HoldsPlan : Parts → List ShapeNode → List MemoEntry → Type 0
+HoldsPlan i shape seen = (length seen ≡ max_entries) ⊎ AreKnown seen i.sinks shape
 
--- a sound table of an instance that has a number for every node of a shape, or as many entries as it can have
-pub record IsFilled (i : Parts) (shape : List ShapeNode) (table : Table) : Type 0 where
-  pub base : base_of table ≡ i.params
-  pub sound : IsSound (base_of table) (told_by table)
-  pub known : (length (told_by table) ≡ max_entries) ⊎ AreKnown (told_by table) i.sinks shape
+abbrev pub planned_of : Bor Parts → Bor (List ShapeNode) → Bor Plan → Planned
+planned_of instance shape plan = record { instance = instance; shape = shape; plan = plan }
+
+-- the shape is that of the instance's sinks, and the plan is the shape's
+pub record IsPlanned (p : Planned) : Type 0 where
+  pub definition : p.shape.now ≡ shape_of p.instance.now.sinks
+  pub shape : IsShapeOver (length p.instance.now.sinks) p.shape.now
+  pub plan : IsPlan p.instance.now.params p.instance.now.sinks p.shape.now (nodes_of p.plan.now)
 
 -- at these statuses a run tells of a synthesis: a tree, or that there is none, whole or in part
 abbrev pub TellsOfTree : Status → Type 0

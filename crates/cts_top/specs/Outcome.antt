@@ -12,6 +12,7 @@ use Rattle.cts_top.specs.declared.stop.Stop.{Stop}
 use Rattle.cts_top.specs.declared.stop.Stop.TheVariants as stop
 use Rattle.cts_top.specs.declared.words.Form.{Form}
 use Rattle.cts_top.specs.declared.words.Form.TheVariants.{Near}
+use Rattle.cts_top.specs.Kinds.{HasKind}
 use Rattle.cts_top.specs.Log.{Log}
 use Rattle.cts_top.specs.Notes.{usage_note}
 use Rattle.cts_top.specs.Reading.{Explains, HasRead, IsRefusalNote, LeavesOthers, OfInput, ReadsInput, reads}
@@ -43,10 +44,12 @@ status_of (Err stop.WriteFault) = status.WriteFault
 status_of (Err stop.NoMemory) = status.NoMemory
 
 -- How a run on an input and an output ends, for what the words ask. An answer is written whole, once the input was read to
--- its end; where nothing was written whole, the input explains why, and the output is as it was but for a write fault.
+-- its end, and is of a kind that the form may have, also where the input tells nothing; where nothing was written whole, the input
+-- explains why, and the output is as it was but for a write fault.
 pub record Serves {S K : Type 0} (log : Log) (form : Form) (source : Stream S) (sink : Stream K) (result : Result Answer Stop) : Type 0 where
   pub done : IfOk result (λ kind. HasRead (reads form) source
       × OfInput (reads form) (told_before source) (λ bytes. IsAnswered (IsRight log form bytes) kind (told_before sink) (told_after sink)))
+  pub kinds : IfOk result (HasKind form)
   pub write_fault : IsErrOf result stop.WriteFault → HasRead (reads form) source × Failed sink
       × OfInput (reads form) (told_before source) (λ bytes. IsAnsweredInPart (IsRight log form bytes) (told_before sink) (told_after sink))
   pub read_fault : IsErrOf result stop.ReadFault → ReadsInput (reads form) × Failed source

@@ -6,12 +6,13 @@ use Rattle.cts_top.specs.declared.stop.Stop.TheVariants as stop
 use Rattle.cts_notes.specs.declared.status.Status.{Status}
 use Rattle.cts_notes.specs.declared.status.Status.TheVariants.{Words, Refused, ReadFault, WriteFault, NoMemory}
 use Rattle.cts_top.specs.declared.words.Form.{Form}
+use Rattle.cts_top.specs.Kinds.{HasKind}
 use Rattle.cts_top.specs.Log.{Log}
 use Rattle.cts_top.specs.Notes.{note_of}
 use Rattle.cts_top.specs.Outcome.{IsNote, Serves, status_of}
 use Rattle.cts_top.specs.Reading.{HasRead, LeavesOthers, OfInput, ReadsInput, RefusesInput, reads}
 use Rattle.cts_top.specs.Right.{IsRight, IsRightKind}
-use Rattle.cts_top.specs.Streams.{Failed, Grew, IsUntouched, KeepsCount, Stream, told_after, told_before}
+use Rattle.cts_top.specs.Streams.{Failed, Grew, GrewBy, IsUntouched, KeepsCount, Stream, told_after, told_before}
 use Rattle.cts_top.specs.Written.{IsAnswered, IsAnsweredInPart}
 
 -- How words are answered, where `Asks` says which of the forms that are served they ask for, and the log is that of the
@@ -41,6 +42,8 @@ pub record Runs {S K N : Type 0} (Asks : Form → Type 0) (log : Log) (source : 
   pub answered : (form : Form) → Asks form → (kind : Answer) → status ≡ status_of (Ok kind)
       → HasRead (reads form) source
       × OfInput (reads form) (told_before source) (λ bytes. IsAnswered (IsRight log form bytes) kind (told_before sink) (told_after sink))
+  -- Each kind of answer comes on the forms that may have it alone, whatever the input tells.
+  pub kinds : (form : Form) → Asks form → (kind : Answer) → status ≡ status_of (Ok kind) → HasKind form kind
   pub refused : (form : Form) → Asks form → status ≡ Refused → OfInput (reads form) (told_before source) (RefusesInput (reads form))
   pub read_fault : (form : Form) → Asks form → status ≡ ReadFault → ReadsInput (reads form) × Failed source
   pub write_fault : status ≡ WriteFault → Failed sink
@@ -58,5 +61,5 @@ pub record Runs {S K N : Type 0} (Asks : Form → Type 0) (log : Log) (source : 
   -- .. and an input that can't be read is refused.
   pub refuses : (form : Form) → Asks form → (ReadsInput (reads form) → ¬ Failed source)
       → OfInput (reads form) (told_before source) (λ bytes. RefusesInput (reads form) bytes → (status ≡ Refused) ⊎ (status ≡ NoMemory))
-  -- The notes get one line or nothing, by the status.
-  pub note : ¬ Failed notes → (text : List ℕ) × IsNote Asks (told_before source) status text × Grew notes text
+  -- The notes get one line or nothing, by the status: whole where they do not fail, and a front of it where they do.
+  pub note : (text : List ℕ) × IsNote Asks (told_before source) status text × (¬ Failed notes → Grew notes text) × GrewBy notes text

@@ -1,5 +1,5 @@
 -- What a run does to a stream: to its input, its output or its notes.
-use Rattle.std.specs.Prelude.{◌≡◌, ◌≤◌, ℕ, List, Option}
+use Rattle.std.specs.Prelude.{◌≡◌, ◌≤◌, ℕ, List, Option, take}
 use Rattle.std.specs.Io.KnownBytes.{Appends, IsAtEnd}
 use Rattle.cts_io.specs.Faults.{Rose}
 
@@ -29,6 +29,10 @@ IsReadWhole stream = IsAtEnd (told_after stream)
 -- these bytes were added to it, and no others
 abbrev pub Grew : {T : Type 0} → Stream T → List ℕ → Type 0
 Grew stream bytes = Appends (told_before stream) (told_after stream) bytes
+
+-- a front of these bytes was added to it, and nothing else
+abbrev pub GrewBy : {T : Type 0} → Stream T → List ℕ → Type 0
+GrewBy stream bytes = (count : ℕ) × Appends (told_before stream) (told_after stream) (take count bytes)
 
 -- it failed
 abbrev pub Failed : {T : Type 0} → Stream T → Type 0

@@ -1,6 +1,6 @@
 //! The top calls: words, an input and an output to a status.
 
-ghost use Rattle.std.specs.Prelude.{◌≡◌, ◌≤◌, ◌↔◌, None, IsSome, codes};
+ghost use Rattle.std.specs.Prelude.{◌≡◌, ◌≤◌, ◌↔◌, ℕ, None, IsSome, codes, take};
 ghost use Rattle.std.specs.Io.KnownBytes.{Appends};
 ghost use Rattle.cts_io.specs.Faults.{Rose};
 ghost use Rattle.cts_top.specs.Log.{log_of, no_log};
@@ -11,7 +11,7 @@ ghost use Rattle.cts_top.specs.Words.{IsForm, IsFormAlone};
 
 use crate::notes::write_note;
 use crate::outcome::{Kept, Outcome};
-use crate::serve::{serve_alone, serve_by_threads};
+use crate::serve::{serve, serve_alone};
 use crate::stop::{Answer, Stop, status_of};
 use crate::words::{Form, form_of};
 use cts_io::{ByteSink, ByteSource};
@@ -57,7 +57,7 @@ fn answer<R: Threads + Wait + Sync, S: ByteSource, K: ByteSink, G: Gate>(
     ensures log { HasLog (IsForm words.now) (status_of result.0) (log_of result.1.history result.1.replies) }
 {
     match form_of(words) {
-        Some(form) => serve_by_threads(rt, alloc, gate, form, source, sink),
+        Some(form) => serve(rt, alloc, gate, form, source, sink),
         None => (Err(Stop::Words), Kept::without_log(alloc, None)),
     }
 }
@@ -77,14 +77,14 @@ fn answer<R: Threads + Wait + Sync, S: ByteSource, K: ByteSink, G: Gate>(
 ///   instance's tree; for `trunk` the trunk of the tree of the instance that the input spells, with repeaters of
 ///   the library's buffer J at the multiples of STEP, and then the report of that tree; for `near` the report of
 ///   the instance's tree over its nearest-pair topology.
-/// - `No`: exactly where what follows the instance is not that; the line that says at which line it is no
-///   text of a report, or which rule it breaks first at which node, was written, and nothing else.
-/// - `NoTree`: the instance, for `edit` and `replay` with the sinks after the history, has no tree, since a node, or
-///   for `near` a step, is beyond the limits or no route reaches a node; the line that says so was written, for
-///   `edit` and `replay` after the history, and nothing else.
-/// - `NoTrunk`: exactly where the tree has no such trunk, since the library has no buffer J, or more than
-///   65,536 repeaters would stand there, or a delay would be beyond the limits; the line that says which was
-///   written, and nothing else.
+/// - `No`, for `check` alone: exactly where what follows the instance is not that; the line that says at which line
+///   it is no text of a report, or which rule it breaks first at which node, was written, and nothing else.
+/// - `NoTree`, for all forms but `check` and `make`: the instance, for `edit` and `replay` with the sinks after the
+///   history, has no tree, since a node, or for `near` a step, is beyond the limits or no route reaches a node; the
+///   line that says so was written, for `edit` and `replay` after the history, and nothing else.
+/// - `NoTrunk`, for `trunk` alone: exactly where the tree has no such trunk, since the library has no buffer J, or
+///   more than 65,536 repeaters would stand there, or a delay would be beyond the limits; the line that says which
+///   was written, and nothing else.
 /// - `Words`: exactly where the words are none of these forms; source and sink are as they were.
 /// - `Refused`: exactly where an input is read that spells no instance, or for `check` begins with none, or
 ///   for `edit` spells none with scripts after it, or for `replay` none with steps after it, or for `near` spells
@@ -93,8 +93,8 @@ fn answer<R: Threads + Wait + Sync, S: ByteSource, K: ByteSink, G: Gate>(
 ///   After a write fault the sink holds its old bytes and a front of the text.
 /// - `NoMemory`: after the words and before the first write; the sink is as it was.
 ///
-/// `make` and `job` leave the source as it is. The notes get at most one line. Where they fail, nothing
-/// else changes.
+/// `make` and `job` leave the source as it is. The notes get at most one line. Where they fail they get a front
+/// of it, and nothing else changes.
 ///
 /// What several workers make is published in a memo, from which the callers of `edit` draw their trees. The
 /// outcome has its table at the statuses `Done`, `NoTree` and `WriteFault`, and for `edit` the history and
@@ -144,13 +144,13 @@ pub fn run<R: Threads + Wait + Sync, S: ByteSource, K: ByteSink, N: ByteSink, G:
 ///   changes; for `make` the canonical text of the instance that is made from the seed; for `job` the summary
 ///   of that instance's tree; for `trunk` the trunk of the tree with repeaters, and then its report; for `near`
 ///   the report of the instance's tree over its nearest-pair topology.
-/// - `No`: exactly where what follows the instance is not that; the line that says at which line it is no
-///   text of a report, or which rule it breaks first at which node, was written, and nothing else.
-/// - `NoTree`: the instance, for `replay` with the sinks after these changes, has no tree, since a node, or for
-///   `near` a step, is beyond the limits or no route reaches a node; the line that says so was written, for
-///   `replay` after the changes and replies, and nothing else.
-/// - `NoTrunk`: exactly where the tree has no such trunk; the line that says why was written, and nothing
-///   else.
+/// - `No`, for `check` alone: exactly where what follows the instance is not that; the line that says at which line
+///   it is no text of a report, or which rule it breaks first at which node, was written, and nothing else.
+/// - `NoTree`, for all forms but `check` and `make`: the instance, for `replay` with the sinks after these changes,
+///   has no tree, since a node, or for `near` a step, is beyond the limits or no route reaches a node; the line that
+///   says so was written, for `replay` after the changes and replies, and nothing else.
+/// - `NoTrunk`, for `trunk` alone: exactly where the tree has no such trunk; the line that says why was written, and
+///   nothing else.
 /// - `Words`: exactly where the words are none of these forms; source and sink are as they were.
 /// - `Refused`: exactly where an input is read that spells no instance, or for `check` begins with none, or for `replay`
 ///   spells none with steps after it, or for `near` spells one of more than 2,048 sinks, or is longer than 64 MiB; the
@@ -159,8 +159,8 @@ pub fn run<R: Threads + Wait + Sync, S: ByteSource, K: ByteSink, N: ByteSink, G:
 ///   After a write fault the sink holds its old bytes and a front of the text.
 /// - `NoMemory`: after the words and before the first write; the sink is as it was.
 ///
-/// `make` and `job` leave the source as it is. The notes get at most one line. Where they fail, nothing
-/// else changes.
+/// `make` and `job` leave the source as it is. The notes get at most one line. Where they fail they get a front
+/// of it, and nothing else changes.
 pub fn run_alone<R: Threads + Sync, S: ByteSource, K: ByteSink, N: ByteSink>(
     rt: &R,
     alloc: Global,
@@ -190,6 +190,7 @@ pub fn end_without_memory<N: ByteSink>(alloc: Global, notes: &mut N) -> Outcome
     ensures counted { N.faults notes.old ≤ N.faults notes.new }
     ensures note { (Rose (N.faults notes.old) (N.faults notes.new) → ⊥)
         → Appends (N.held notes.old) (N.held notes.new) (codes "no memory\n") }
+    ensures front { (count : ℕ) × Appends (N.held notes.old) (N.held notes.new) (take count (codes "no memory\n")) }
 {
     let ending = Err(Stop::NoMemory);
     // A note that can't be written changes nothing.

@@ -214,7 +214,7 @@ fn serve_job<K: ByteSink>(
 }
 
 /// Does what a form asks for, by as many workers or callers as it asks for, and gives what these leave.
-pub fn serve_by_threads<R: Threads + Wait + Sync, S: ByteSource, K: ByteSink, G: Gate>(
+pub fn serve<R: Threads + Wait + Sync, S: ByteSource, K: ByteSink, G: Gate>(
     rt: &R,
     alloc: Global,
     gate: &G,
@@ -245,14 +245,6 @@ pub fn serve_by_threads<R: Threads + Wait + Sync, S: ByteSource, K: ByteSink, G:
             (answer, Kept::without_log(alloc, memo))
         }
         Form::Edit => serve_edit(rt, alloc, gate, source, sink),
-        Form::Near => {
-            let answer = serve_near(alloc, source, sink);
-            (answer, Kept::without_log(alloc, None))
-        }
-        Form::Replay => {
-            let answer = serve_replay(alloc, source, sink);
-            (answer, Kept::without_log(alloc, None))
-        }
         form => {
             let answer = serve_alone(rt, alloc, form, source, sink);
             (answer, Kept::without_log(alloc, None))
@@ -261,7 +253,7 @@ pub fn serve_by_threads<R: Threads + Wait + Sync, S: ByteSource, K: ByteSink, G:
 }
 
 /// Reads an instance, and writes the report of its tree, which so many workers make.
-fn synth_by_workers<R: Threads + Sync, S: ByteSource, K: ByteSink, G: Gate>(
+fn synth_by_workers<R: Threads + Wait + Sync, S: ByteSource, K: ByteSink, G: Gate>(
     rt: &R,
     alloc: Global,
     gate: &G,
@@ -287,7 +279,7 @@ fn synth_by_workers<R: Threads + Sync, S: ByteSource, K: ByteSink, G: Gate>(
 }
 
 /// Writes the summary of the tree of the instance that is made from a seed, which so many workers make.
-fn job_by_workers<R: Threads + Sync, K: ByteSink, G: Gate>(
+fn job_by_workers<R: Threads + Wait + Sync, K: ByteSink, G: Gate>(
     rt: &R,
     alloc: Global,
     gate: &G,
@@ -305,7 +297,10 @@ fn job_by_workers<R: Threads + Sync, K: ByteSink, G: Gate>(
     ensures kept { IsSome result.1 ↔ TellsOfTree (status_of result.0) }
     ensures memo { IfSome result.1 (IsMemoOf (made_parts seed sinks)) }
 {
-    match make_instance(alloc, seed, sinks) {
+    let first = open_heap(alloc, TREE_ROOM);
+    let made = make_instance(alloc, seed, sinks);
+    drop(first);
+    match made {
         Ok(instance) => {
             answer_by_workers(rt, alloc, gate, sink, Telling::Summary, &instance, workers)
         }

@@ -1,14 +1,14 @@
-//! The tree of an instance by several workers beside each other: the lengths of its wires, its figures, and the whole synthesis.
+//! The tree of an instance by several workers in parallel: the lengths of its wires, its figures, and the whole tree over a plan.
 //!
-//! A layer above calls [`synthesise_by`], which gives what `cts_plain::synthesise` gives, for every number of workers. Nodes that
-//! are placed already go to [`settle_by`], which gives what `cts_plain::settle` gives, or to [`balance_by`], which sets the wires
-//! alone, as `cts_embed::balance_with` does; a tree goes to [`measure_by`], whose clauses are those of `cts_elmore::measure_with`.
-//! By the laws of these crates there is only one answer to each. Figures go into a list that [`figures_room`] fills beforehand.
+//! A layer above calls [`shape_by`] for the shape with [`Rooms`] for its tree, makes the shape's plan as it likes, and gives its
+//! sites to [`tree_by`]; for every number of workers that is what `cts_plain` makes of the plan. Nodes that are placed already go
+//! to [`settle_by`], which gives what `cts_plain::settle` gives, or to [`balance_by`], which sets the wires alone, as
+//! `cts_embed::balance_with` does; a tree goes to [`measure_by`], whose clauses are those of `cts_elmore::measure_with`. By the
+//! laws of these crates there is only one answer to each.
 //!
 //! Wires and figures from below are passes by halves of `cts_beside`: the two parts of a tree ask nothing of each other until
 //! their root is reached. Downward, where a part takes from its root what it begins with, two threads pass over the two parts.
-//! The workers share the instance and rooms in which each writes its own part, and nothing else. So no worker asks a memo, and
-//! none is filled; a layer above that wants one takes the plan of `cts_work`.
+//! The workers share the instance and rooms in which each writes its own part, and nothing else.
 #![tactic(auto)]
 
 mod balance;
@@ -22,5 +22,6 @@ mod synthesis;
 
 pub use balance::balance_by;
 pub use figures::{figures_room, measure_by};
+pub use rooms::Rooms;
 pub use settle::settle_by;
-pub use synthesis::synthesise_by;
+pub use synthesis::{shape_by, tree_by};

@@ -13,6 +13,4 @@ pub mod Completing
 pub mod Sent
 pub mod Numbered
 pub mod Picked
-pub mod Told
 pub mod Plans
-pub mod Filled

@@ -1,10 +1,8 @@
 -- Nodes that were made without the memo, one after another.
-use Rattle.std.proofs.Common.{◌≡◌, ℕ, ◌+◌, ◌-◌, ◌<◌, ◌≤◌, inl, inr, List, [], ◌∷◌, ◌++◌, length, get_or, Option, Some, Result, Ok, Err, IfOk, sym, ap, subst, arith, length-append}
+use Rattle.std.proofs.Common.{◌≡◌, ℕ, ◌+◌, ◌-◌, ◌<◌, ◌≤◌, inl, inr, List, [], ◌∷◌, ◌++◌, length, get_or, Result, Ok, Err, IfOk, sym, ap, subst, arith, length-append}
 use Rattle.std.proofs.lemmas.Bool.{cases_lt}
 use Rattle.std.proofs.lemmas.List.{get_or_at, get_or_append_left, get_or_default}
 use Rattle.std.proofs.Math.Seq.{get_or-append_right}
-use Rattle.std.proofs.lemmas.Option.{slice_get-get_or}
-use Rattle.std.specs.Option.{MatchOption}
 use Rattle.cts_units.specs.declared.params.Sink.{Sink}
 use Rattle.cts_postorder.specs.BinaryTree.{tip, fork}
 use Rattle.cts_postorder.specs.PostOrder.{trees_of}
@@ -17,9 +15,7 @@ use Rattle.cts_merge.specs.Merge.{IsBeyond, IsLeaf, IsMerged}
 use Rattle.cts_merge.specs.Side.{IsMergeable}
 use Rattle.cts_up.specs.declared.end.UpEnd.{UpEnd}
 use Rattle.cts_up.specs.declared.end.UpEnd.TheVariants.{Beyond, NoMemory}
-use Rattle.cts_up.specs.Plan.{IsBeyondPair, IsFinished, IsPlan, sink_of}
-use Rattle.cts_up.specs.Sinks.{IsSinkInRange}
-use Rattle.cts_up.proofs.Leaves.{LeafOf, leaf_of, sink_has}
+use Rattle.cts_up.specs.Plan.{IsBeyondPair, IsFinished, IsPlan}
 use Rattle.cts_up.proofs.Sides.{sides_merge}
 use Rattle.cts_up.proofs.Unique.{finished_not_beyond, finished_one}
 use Rattle.cts_memo.specs.Keys.{IsNarrow}

@@ -1,5 +1,5 @@
 -- The numbers of nodes that are brought into a memo, one after another.
-use Rattle.std.proofs.Common.{◌≡◌, ◌≢◌, ℕ, ◌<◌, ◌≤◌, ◌⊎◌, inl, inr, List, [], ◌∷◌, ◌++◌, length, get_or, slice_get, Option, Some, None, IsSome, is_some, refl, sym, ap, ◌∙◌, subst, arith, length-append}
+use Rattle.std.proofs.Common.{◌≡◌, ◌≢◌, ℕ, true, ◌<◌, ◌≤◌, ◌⊎◌, inl, inr, List, [], ◌∷◌, ◌++◌, length, get_or, slice_get, Option, Some, None, IsSome, is_some, refl, sym, ap, ◌∙◌, subst, arith, length-append}
 use mathlib.Core.Logic.{dite}
 use mathlib.Core.List.{IsPrefix}
 use native.Mathlib.Decide.{ℕ_discrete}
@@ -23,8 +23,11 @@ use Rattle.cts_up.proofs.Unique.{finished_one}
 use Rattle.cts_memo.specs.declared.key.Key.{Key}
 use Rattle.cts_memo.specs.declared.key.Key.TheVariants as keys
 use Rattle.cts_memo.specs.declared.entry.MemoEntry.{MemoEntry}
+use Rattle.cts_memo.specs.declared.entry.Answer.{Answer}
+use Rattle.cts_memo.specs.declared.entry.Answer.TheVariants.{Have, Absent}
 use Rattle.cts_memo.specs.Keys.{entry, leaf_key, pair_key}
 use Rattle.cts_memo.specs.Numbers.{AreKnown, number_of, pair_number, position_of}
+use Rattle.cts_memo.specs.Replies.{IsFound}
 use Rattle.cts_memo.specs.Sound.{EntryAt, IsMadeOf, IsSound, NamesEntries, max_entries, sink_at}
 use Rattle.cts_memo.specs.TableLaws.{made_stays}
 use Rattle.cts_memo.proofs.Positions.{absent_position, stands_position}
@@ -32,7 +35,12 @@ use Rattle.cts_memo.proofs.Publications.{made_of_all, made_one}
 use Rattle.cts_memo.proofs.Numbering.{is_entry, key_parts, number_stays, numbered_finished, pair_is, some_entry}
 use Rattle.cts_work.specs.declared.publishing.Brought.{Brought}
 use Rattle.cts_work.specs.Built.{IsKept, tree_at}
-use Rattle.cts_work.specs.Numbered.{AreNumbered, HasNumber}
+use Rattle.cts_work.specs.Numbered.{AreNumbered, HasNumber, HoldsFor}
+
+-- what is found of a key holds for it
+pub found_holds : (seen : List MemoEntry) (key : Key) (answer : Answer) → IsFound seen key answer → HoldsFor seen key answer
+found_holds seen key (Have n f) found = found
+found_holds seen key Absent found = tt
 
 -- what was found of a key is what was made of it
 pub found_kept : (params : Params) (seen longer : List MemoEntry) (key : Key) (f g : Finished) (n : ℕ) → IsSound params longer → IsPrefix seen longer
@@ -206,6 +214,6 @@ module _ (sinks : List Sink) (nodes : List ShapeNode) where
         dite (ℕ_discrete (length seen) max_entries)
         (λ full. inl full)
         (λ room. inr (λ k d h.
-        let b : Brought = record { number = None; piece = 0 } in
+        let b : Brought = record { number = None; piece = 0; is_new = true } in
         subst (λ t. IsSome (number_of seen sinks t)) (get_or_default (trees_of children nodes) k (tip (Leaf 0)) d h)
         (has_some (tree_at nodes k) (get_or bs k b).number room (are.each k b (omega (arith, length-trees_of children nodes, long, h))))))

@@ -1,8 +1,7 @@
--- What workers leave may go to another thread, and room for numbers.
+-- What workers leave may go to another thread.
 use denote.Param.Send.{IsSend, sendable}
 use Rattle.std.proofs.Crossing.{crosses}
 use Rattle.cts_deal.proofs.Sent.{seat_send}
-use Rattle.cts_work.specs.contracts.filling.Numbers as numbers
 use Rattle.cts_work.specs.contracts.workers.Done as done
 use Rattle.cts_work.specs.contracts.workers.Shift as shift
 
@@ -11,6 +10,3 @@ done_send = search (crosses, sendable) depth 60 fits 20000
 
 pub shift_send : IsSend shift.the_row
 shift_send = search (crosses, done_send, seat_send, sendable) depth 60 fits 20000
-
-pub numbers_send : IsSend numbers.the_row
-numbers_send = search (crosses, sendable) depth 60 fits 20000

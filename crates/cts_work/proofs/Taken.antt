@@ -1,10 +1,10 @@
 -- What the next tree has of the last one.
-use Rattle.std.proofs.Common.{◌≡◌, ℕ, zero, suc, ◌+◌, ◌-◌, ◌<◌, ◌≤◌, ◌⊎◌, Bool, true, List, [], ◌∷◌, ◌++◌, map, take, length, get_or, slice_get, Option, Some, None, IsSome, is_some, IfSome, All, inl, inr, refl, sym, ap, ◌∙◌, subst, arith, length-append, length-take}
+use Rattle.std.proofs.Common.{◌≡◌, ℕ, ◌+◌, ◌-◌, ◌<◌, ◌≤◌, ◌⊎◌, List, [], ◌∷◌, ◌++◌, take, length, get_or, slice_get, Option, Some, None, IsSome, IfSome, All, inl, inr, refl, sym, ap, ◌∙◌, subst, arith, length-append, length-take}
 use mathlib.Core.List.{IsPrefix}
 use Rattle.std.specs.Option.{option_map}
 use Rattle.std.proofs.lemmas.Bool.{cases_lt}
 use Rattle.std.proofs.lemmas.List.{get_or_append_left, get_or_at, map-append, take_more}
-use Rattle.std.proofs.lemmas.Option.{slice_get-get_or, slice_get-map, slice_get_cases, slice_get_past, slice_get_within, get_or_from_slice_get}
+use Rattle.std.proofs.lemmas.Option.{slice_get-get_or, slice_get-map, slice_get_cases, slice_get_within, get_or_from_slice_get}
 use Rattle.cts_units.specs.declared.params.Sink.{Sink}
 use Rattle.cts_topo.specs.declared.shape.ShapeNode.{ShapeNode}
 use Rattle.cts_topo.specs.declared.shape.ShapeNode.TheVariants.{Leaf, Pair}
@@ -18,7 +18,7 @@ use Rattle.cts_work.specs.declared.again.Placed.{Placed}
 use Rattle.cts_work.specs.declared.last.LastTree.{LastTree}
 use Rattle.cts_work.specs.declared.work.Work.{Work}
 use Rattle.cts_work.specs.Known.{HasKeyAt, IsAtPlace, picked, sites_of}
-use Rattle.cts_work.specs.Last.{AreFound, AreKeyed, AreSameLeaves, IsAgain, IsKeyAt, IsKeyOf, IsPairOver, IsSameLeaf, IsSameNode, IsTakenOver, MayStandIn, StandsIn}
+use Rattle.cts_work.specs.Last.{AreFound, AreKeyed, AreSameLeaves, IsAgain, IsKeyAt, IsKeyOf, IsPairOver, IsSameLeaf, IsTakenOver, MayStandIn, StandsIn}
 use Rattle.cts_memo.specs.declared.entry.MemoEntry.{MemoEntry}
 use Rattle.cts_memo.specs.Passes.{params_of}
 use Rattle.cts_memo.specs.Sound.{IsSound, max_entries}
@@ -28,7 +28,7 @@ use Rattle.cts_work.specs.Work.{AreBuilt, IsBuiltAt, IsReady, missing_at, missin
 use Rattle.cts_work.proofs.Builts.{known_leaf, known_pair}
 use Rattle.cts_work.proofs.Nodes.{leaf_built, pair_at_number, tip_at}
 use Rattle.cts_work.proofs.Parts.{built_all_stay, earlier_at, merges_next, part_at}
-use Rattle.cts_work.proofs.Picked.{length-picked, node_stays, picked-at, picked_further, picked_stays, places_stay}
+use Rattle.cts_work.proofs.Picked.{length-picked, picked-at, picked_further, picked_stays, places_stay}
 
 -- what stands there
 some_of : {X : Type 0} (o : Option X) → IsSome o → (x : X) × (o ≡ Some x)

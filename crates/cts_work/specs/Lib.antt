@@ -5,6 +5,4 @@ pub mod Work
 pub mod Pieces
 pub mod Done
 pub mod Numbered
-pub mod Told
 pub mod Plans
-pub mod Filling

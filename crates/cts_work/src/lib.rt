@@ -4,16 +4,13 @@
 //! or by many workers with [`build_all`]. Both answer as the upward pass of `cts_up` does, whatever the memo holds and whoever
 //! shares it, and leave every subtree in the memo, or the memo full. What [`build_all`] does comes in two halves too: workers
 //! make the [`Plan`] with [`plan_all`], in parts that stay where they were made, and whoever has time brings it into the memo
-//! with [`publish_plan`], beside the passes that want its [`Plan::sites`] alone; or with [`fill_table`] into a table that nobody
-//! shares, without turns, and without memory once it has its room ([`Numbers`] and the table's own). A caller that builds one
-//! tree after another takes the sites of its plan with [`rebuild_with`], which asks the memo only for nodes that are neither known of its trees
+//! with [`publish_plan`], beside the passes that want its [`Plan::sites`] alone. A caller that builds one tree after another takes the sites of its plan with [`rebuild_with`], which asks the memo only for nodes that are neither known of its trees
 //! nor among what was published since. A [`Gate`] is called before each piece of the work, and between a look-up and what is
 //! published for it; no answer depends on it.
 #![tactic(auto)]
 
 mod again;
 mod all;
-mod filling;
 mod gate;
 mod hearing;
 mod hints;
@@ -33,7 +30,6 @@ mod work;
 mod workers;
 
 pub use all::build_all;
-pub use filling::{Numbers, fill_table};
 pub use gate::{Gate, OpenGate};
 pub use past::Past;
 pub use plan::Plan;

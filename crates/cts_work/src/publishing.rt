@@ -1,6 +1,6 @@
 //! A plan is brought into the memo.
 
-ghost use Rattle.std.specs.Prelude.{◌≡◌, ◌+◌, ◌-◌, ◌<◌, ◌≤◌, ◌⊎◌, List, length, IfOk, IfSome, OnOk};
+ghost use Rattle.std.specs.Prelude.{◌≡◌, ◌+◌, ◌<◌, ◌≤◌, ◌⊎◌, length, IfOk, OnOk};
 ghost use mathlib.Core.List.{IsPrefix};
 ghost use Rattle.cts_merge.specs.Merge.{IsLeaf};
 ghost use Rattle.cts_topo.specs.Shape.{IsShapeOver};
@@ -15,14 +15,14 @@ ghost use Rattle.cts_memo.specs.Sound.{IsMadeOf, NamesEntries, max_entries};
 ghost use Rattle.cts_work.specs.Built.{GoesOn, IsKept, IsPairAt, tree_at};
 ghost use Rattle.cts_work.specs.Numbered.{AreNumbered, HasNumber};
 ghost use Rattle.cts_work.specs.Plans.{nodes_of};
-ghost use Rattle.cts_work.specs.Told.{HoldsFor, MayTell, TellsTrue};
+ghost use Rattle.cts_work.specs.Numbered.{HoldsFor};
 ghost use Rattle.cts_work.specs.Work.{AreMade, IsMadeAt, IsReady};
 
 use crate::gate::Gate;
 use crate::node::{PairNumbers, keep};
 use crate::plan::Plan;
 use crate::work::Work;
-use cts_memo::{Answer, Key, Memo, MemoPass, Part, Query, Question};
+use cts_memo::{Answer, Key, Memo, MemoPass};
 use cts_merge::Finished;
 use cts_num::NoMemory;
 use cts_topo::{Shape, ShapeNode};
@@ -30,9 +30,14 @@ use cts_units::Sink;
 use std::alloc::Global;
 use std::sync::Wait;
 
-/// So many nodes are asked for in one call of the memo: few enough that their questions fit a near cache and that
-/// no other caller waits long, and so many that the calls cost next to nothing.
-const STRETCH: usize = 1024;
+/// Who brings a plan into the memo: by which runtime it waits for its turns, past which gate it publishes, and whether the
+/// memo had no entries when it began.
+#[derive(Drop)]
+pub(crate) struct Publisher<'a, R, G> {
+    pub(crate) rt: &'a R,
+    pub(crate) gate: &'a G,
+    pub(crate) is_first: bool,
+}
 
 /// A node that was brought into the memo.
 #[derive(Clone, Copy)]
@@ -41,136 +46,129 @@ pub(crate) struct Brought {
     pub(crate) number: Option<u32>,
     /// The number of its piece, or of its leftmost piece where it stands above the pieces.
     pub(crate) piece: u32,
+    /// Whether the memo lacked it, so that it was published, or had no room.
+    pub(crate) is_new: bool,
 }
 
-/// What was told of a key: the answer to its question, which is `Absent` where the question came to no key
-/// since a part had no entry. `None` where there is no question, or its key was another one.
+/// What the memo answers for a key. Where it had no entries every key was absent, and so was a pair above a part that was
+/// absent, since its entry would name the part's: then the memo isn't asked.
 #[inline(always)]
-fn answer_told(told: Option<&Question>, key: Key) -> Option<Answer>
-    ensures { (seen : List MemoEntry) → IfSome told.entry (λ q. TellsTrue seen q.now) → IfSome result (HoldsFor seen key) }
-{
-    let question = told?;
-    match question.key {
-        Some(own) => {
-            if own != key {
-                return None;
-            }
-            Some(question.answer)
-        }
-        None => Some(Answer::Absent),
-    }
-}
-
-/// What the memo answers for a key: what was told, or else what it tells when it is asked.
-#[inline(always)]
-fn answer_for<R: Wait>(
-    rt: &R,
-    memo: &Memo,
-    pass: &mut MemoPass,
-    key: Key,
-    told: Option<&Question>,
-) -> Answer
+fn answer_for<R: Wait>(rt: &R, memo: &Memo, pass: &mut MemoPass, key: Key, is_new: bool) -> Answer
     requires own { IsPassOf memo.now pass.old }
     requires key { NamesEntries (seen_by pass.old) key }
-    requires told { IfSome told (λ q. TellsTrue (seen_by pass.old) q.now) }
     ensures pass { GoesOn memo.now pass.old pass.new }
     ensures holds { HoldsFor (seen_by pass.new) key result }
 {
-    match answer_told(told, key) {
-        Some(answer) => answer,
-        None => memo.ask(rt, pass, key),
+    if is_new {
+        return Answer::Absent;
     }
+    memo.ask(rt, pass, key)
 }
 
 /// The number of what was made of a key: that of its entry, or, where it is absent, published past the
 /// gate. `None` where the memo is full.
 #[inline(always)]
 fn bring<R: Wait, G: Gate>(
-    rt: &R,
-    gate: &G,
+    publisher: &Publisher<'_, R, G>,
     piece: u32,
     memo: &Memo,
     pass: &mut MemoPass,
     key: Key,
-    told: Option<&Question>,
+    is_new: bool,
     finished: &Finished,
-) -> Result<Option<u32>, NoMemory>
+) -> Result<Brought, NoMemory>
     requires own { IsPassOf memo.now pass.old }
     requires key { NamesEntries (seen_by pass.old) key }
-    requires told { IfSome told (λ q. TellsTrue (seen_by pass.old) q.now) }
     requires finished { IsMadeOf (params_of memo.now) (seen_by pass.old) key finished.now }
     ensures pass { GoesOn memo.now pass.old pass.new }
-    ensures kept { IfOk result (IsKept (seen_by pass.new) key finished.now) }
+    ensures kept { IfOk result (λ b. IsKept (seen_by pass.new) key finished.now b.number) }
 {
-    match answer_for(rt, memo, pass, key, told) {
-        Answer::Have { number, .. } => Ok(Some(number)),
+    match answer_for(publisher.rt, memo, pass, key, is_new) {
+        Answer::Have { number, .. } => Ok(Brought {
+            number: Some(number),
+            piece,
+            is_new: false,
+        }),
         Answer::Absent => {
-            gate.between(piece);
-            keep(rt, memo, pass, key, *finished)
+            publisher.gate.between(piece);
+            let number = keep(publisher.rt, memo, pass, key, *finished)?;
+            Ok(Brought {
+                number,
+                piece,
+                is_new: true,
+            })
         }
     }
 }
 
-/// The number of the leaf of a sink. Its key is read off what it is made of, since the sinks of a plan's leaves stand
-/// far apart in their list.
+/// The leaf of a sink. Its key is read off what it is made of, since the sinks of a plan's leaves stand far apart in
+/// their list.
 fn bring_leaf<R: Wait, G: Gate>(
-    rt: &R,
-    gate: &G,
+    publisher: &Publisher<'_, R, G>,
     piece: u32,
     memo: &Memo,
     pass: &mut MemoPass,
     sink: &Sink,
-    told: Option<&Question>,
     finished: &Finished,
-) -> Result<Option<u32>, NoMemory>
+) -> Result<Brought, NoMemory>
     requires own { IsPassOf memo.now pass.old }
-    requires told { IfSome told (λ q. TellsTrue (seen_by pass.old) q.now) }
     requires narrow { IsNarrow finished.now.side }
     requires leaf { IsLeaf sink.now finished.now }
     ensures pass { GoesOn memo.now pass.old pass.new }
-    ensures kept { IfOk result (IsKept (seen_by pass.new) (leaf_key sink.now) finished.now) }
+    ensures kept { IfOk result (λ b. IsKept (seen_by pass.new) (leaf_key sink.now) finished.now b.number) }
 {
     let key = Key::of_leaf(finished);
-    bring(rt, gate, piece, memo, pass, key, told, finished)
+    bring(
+        publisher,
+        piece,
+        memo,
+        pass,
+        key,
+        publisher.is_first,
+        finished,
+    )
 }
 
-/// The number of a pair whose two parts have these numbers.
+/// A pair whose two parts were brought in before.
 fn bring_pair<R: Wait, G: Gate>(
-    rt: &R,
-    gate: &G,
+    publisher: &Publisher<'_, R, G>,
     work: &Work<'_>,
     pass: &mut MemoPass,
     at: PairNumbers,
     left: Brought,
     right: Brought,
-    told: Option<&Question>,
     finished: &Finished,
-) -> Result<Option<u32>, NoMemory>
+) -> Result<Brought, NoMemory>
     requires own { IsPassOf work.now.memo.now pass.old }
     requires here { IsPairAt work.now.nodes.now at.node at.left at.right }
     requires left { HasNumber (seen_by pass.old) work.now.sinks.now (tree_at work.now.nodes.now at.left) left.number }
     requires right { HasNumber (seen_by pass.old) work.now.sinks.now (tree_at work.now.nodes.now at.right) right.number }
-    requires told { IfSome told (λ q. TellsTrue (seen_by pass.old) q.now) }
     requires made { IsMadeAt work.now at.node finished.now }
     ensures pass { GoesOn work.now.memo.now pass.old pass.new }
-    ensures number { IfOk result (HasNumber (seen_by pass.new) work.now.sinks.now (tree_at work.now.nodes.now at.node)) }
+    ensures number { IfOk result (λ b. HasNumber (seen_by pass.new) work.now.sinks.now (tree_at work.now.nodes.now at.node) b.number) }
 {
+    let piece = left.piece;
     match Key::of_pair(left.number, right.number) {
-        Some(key) => bring(rt, gate, left.piece, work.memo, pass, key, told, finished),
-        None => Ok(None),
+        Some(key) => {
+            let is_new = left.is_new || right.is_new;
+            bring(publisher, piece, work.memo, pass, key, is_new, finished)
+        }
+        None => Ok(Brought {
+            number: None,
+            piece,
+            is_new: true,
+        }),
     }
 }
 
 /// The node of a number, brought into the memo after all before it. A leaf lies in the piece of this number.
 fn bring_node<R: Wait, G: Gate>(
-    rt: &R,
-    gate: &G,
+    publisher: &Publisher<'_, R, G>,
     work: &Work<'_>,
     pass: &mut MemoPass,
     node: u32,
     piece: u32,
     before: &[Brought],
-    told: Option<&Question>,
     finished: &Finished,
 ) -> Result<Brought, NoMemory>
     requires own { IsPassOf work.now.memo.now pass.old }
@@ -178,7 +176,6 @@ fn bring_node<R: Wait, G: Gate>(
     requires node { node < length work.now.nodes.now }
     requires long { length before.now ≡ node }
     requires before { AreNumbered (seen_by pass.old) work.now.sinks.now work.now.nodes.now before.now }
-    requires told { IfSome told (λ q. TellsTrue (seen_by pass.old) q.now) }
     requires made { IsMadeAt work.now node finished.now }
     ensures pass { GoesOn work.now.memo.now pass.old pass.new }
     ensures number { IfOk result (λ b. HasNumber (seen_by pass.new) work.now.sinks.now (tree_at work.now.nodes.now node) b.number) }
@@ -186,152 +183,54 @@ fn bring_node<R: Wait, G: Gate>(
     match work.nodes[node as usize] {
         ShapeNode::Leaf { sink } => {
             let sink = &work.sinks[sink as usize];
-            let number = bring_leaf(rt, gate, piece, work.memo, pass, sink, told, finished)?;
-            Ok(Brought { number, piece })
+            bring_leaf(publisher, piece, work.memo, pass, sink, finished)
         }
         ShapeNode::Pair { left, right } => {
             let (a, b) = (before[left as usize], before[right as usize]);
             let at = PairNumbers { node, left, right };
-            let number = bring_pair(rt, gate, work, pass, at, a, b, told, finished)?;
-            Ok(Brought {
-                number,
-                piece: a.piece,
-            })
+            bring_pair(publisher, work, pass, at, a, b, finished)
         }
     }
 }
 
-/// How a part is named in a question: by its number where it was brought before, else by its place in the
-/// stretch. A part that the memo had no room for has neither, and is named by a place that isn't there.
-fn part_named(before: &[Brought], part: u32) -> Part {
-    match before.get(part as usize) {
-        Some(brought) => match brought.number {
-            Some(number) => Part::Number(number),
-            None => Part::Place(u32::MAX),
-        },
-        None => Part::Place(part - before.len() as u32),
-    }
-}
-
-/// The question for a node of the stretch that begins after these, by what it is made of.
-fn question_for(work: &Work<'_>, finished: &Finished, before: &[Brought], node: usize) -> Question
-    requires ready { IsReady work.now }
-    requires node { node < length work.now.nodes.now }
-    requires made { IsMadeAt work.now node finished.now }
-{
-    Question::new(match work.nodes[node] {
-        ShapeNode::Leaf { .. } => Query::of_key(Key::of_leaf(finished)),
-        ShapeNode::Pair { left, right } => Query::Pair {
-            left: part_named(before, left),
-            right: part_named(before, right),
-        },
-    })
-}
-
-/// Asks for the next nodes of a part, so many as a stretch has, in one call of the memo. The list that is handed in
-/// is used again.
-fn ask_stretch<R: Wait>(
-    rt: &R,
-    work: &Work<'_>,
-    part: &[Finished],
-    from: usize,
-    pass: &mut MemoPass,
-    before: &[Brought],
-    mut questions: Vec<Question>,
-) -> Result<Vec<Question>, NoMemory>
-    requires own { IsPassOf work.now.memo.now pass.old }
-    requires ready { IsReady work.now }
-    requires from { from ≤ length part.now }
-    requires within { length before.now + (length part.now - from) ≤ length work.now.nodes.now }
-    requires first { from ≤ length before.now }
-    requires made { AreMade work.now (length before.now - from) part.now }
-    ensures pass { GoesOn work.now.memo.now pass.old pass.new }
-    ensures told { IfOk result (λ told. MayTell (seen_by pass.new) told.items) }
-{
-    questions.clear();
-    let first = before.len() - from;
-    let to = part.len().min(from.saturating_add(STRETCH));
-    for place in from..to {
-        let next = question_for(work, &part[place], before, first + place);
-        questions.push(next)?;
-    }
-    Ok(work.memo.ask_all(rt, pass, questions))
-}
-
-/// What is told of the stretch in which a node of a part stands: it is asked for at the first node of the stretch.
-#[inline(always)]
-fn stretch_told<R: Wait>(
-    rt: &R,
-    work: &Work<'_>,
-    part: &[Finished],
-    place: usize,
-    pass: &mut MemoPass,
-    before: &[Brought],
-    told: Vec<Question>,
-) -> Result<Vec<Question>, NoMemory>
-    requires own { IsPassOf work.now.memo.now pass.old }
-    requires ready { IsReady work.now }
-    requires place { place ≤ length part.now }
-    requires within { length before.now + (length part.now - place) ≤ length work.now.nodes.now }
-    requires first { place ≤ length before.now }
-    requires made { AreMade work.now (length before.now - place) part.now }
-    requires told { MayTell (seen_by pass.old) told.items }
-    ensures pass { GoesOn work.now.memo.now pass.old pass.new }
-    ensures told { IfOk result (λ told. MayTell (seen_by pass.new) told.items) }
-{
-    if place % STRETCH == 0 {
-        ask_stretch(rt, work, part, place, pass, before, told)
-    } else {
-        Ok(told)
-    }
-}
-
-/// The nodes of a part of a plan, brought into the memo one after another. The list of what is told is used again.
+/// The nodes of a part of a plan, brought into the memo one after another.
 fn bring_part<R: Wait, G: Gate>(
-    rt: &R,
-    gate: &G,
+    publisher: &Publisher<'_, R, G>,
     work: &Work<'_>,
     pass: &mut MemoPass,
     piece: u32,
     part: &[Finished],
     before: &mut Vec<Brought>,
-    mut told: Vec<Question>,
-) -> Result<Vec<Question>, NoMemory>
+) -> Result<(), NoMemory>
     requires own { IsPassOf work.now.memo.now pass.old }
     requires ready { IsReady work.now }
     requires within { length before.old.items + length part.now ≤ length work.now.nodes.now }
     requires made { AreMade work.now (length before.old.items) part.now }
     requires before { AreNumbered (seen_by pass.old) work.now.sinks.now work.now.nodes.now before.old.items }
-    requires told { MayTell (seen_by pass.old) told.items }
     ensures pass { GoesOn work.now.memo.now pass.old pass.new }
     ensures long { OnOk result (length before.new.items ≡ length before.old.items + length part.now) }
     ensures before { OnOk result (AreNumbered (seen_by pass.new) work.now.sinks.now work.now.nodes.now before.new.items) }
-    ensures told { IfOk result (λ told. MayTell (seen_by pass.new) told.items) }
 {
     let first = before.len();
     for place in 0..part.len() {
-        told = stretch_told(rt, work, part, place, pass, before.as_slice(), told)?;
         let next = bring_node(
-            rt,
-            gate,
+            publisher,
             work,
             pass,
             (first + place) as u32,
             piece,
             before.as_slice(),
-            told.get(place % STRETCH),
             &part[place],
         )?;
         before.push(next)?;
     }
-    Ok(told)
+    Ok(())
 }
 
 /// The nodes of a plan, brought into the memo one after another.
 fn bring_nodes<R: Wait, G: Gate>(
-    rt: &R,
+    publisher: &Publisher<'_, R, G>,
     alloc: Global,
-    gate: &G,
     work: &Work<'_>,
     pass: &mut MemoPass,
     plan: &Plan,
@@ -344,30 +243,20 @@ fn bring_nodes<R: Wait, G: Gate>(
     ensures known { OnOk result ((length (seen_by pass.new) ≡ max_entries) ⊎ AreKnown (seen_by pass.new) work.now.sinks.now work.now.nodes.now) }
 {
     let mut before = Vec::with_capacity(alloc, work.nodes.len())?;
-    let mut told = Vec::with_capacity(alloc, work.nodes.len().min(STRETCH))?;
     for number in 0..plan.parts.len() {
         let part = &plan.parts[number];
-        told = bring_part(
-            rt,
-            gate,
-            work,
-            pass,
-            part.piece,
-            &part.nodes,
-            &mut before,
-            told,
-        )?;
+        bring_part(publisher, work, pass, part.piece, &part.nodes, &mut before)?;
     }
     Ok(())
 }
 
 /// Brings a plan of a shape over sinks into the memo with whose parameters it was made.
 ///
-/// The caller alone goes through the nodes in their order, in stretches of 1,024 nodes of a piece: those of a stretch are
-/// all asked for in one call of the memo, and then each takes its number where the memo has it; where it is
-/// absent, the gate's `between` is called with the number of its piece, outside every turn, and the node is
-/// published. A pair above the pieces has the number of its leftmost one. Nothing is looked up or published above a node
-/// that the memo had no room for. `NoMemory` comes where an allocation fails, or the table could not grow; what was
+/// The caller alone goes through the nodes in their order. Each is looked up, and takes its number where the memo has it;
+/// where it is absent, the gate's `between` is called with the number of its piece, outside every turn, and the node is
+/// published. A pair above the pieces has the number of its leftmost one. A look-up whose answer is known is left out: in a
+/// memo without entries every node is absent, and a pair one of whose parts was absent is absent too, as its entry would name
+/// the part's. Nothing is looked up or published above a node that the memo had no room for. `NoMemory` comes where an allocation fails, or the table could not grow; what was
 /// published stays in the memo.
 pub fn publish_plan<R: Wait, G: Gate>(
     rt: &R,
@@ -390,5 +279,7 @@ pub fn publish_plan<R: Wait, G: Gate>(
 {
     let nodes = shape.nodes();
     let work = Work { memo, sinks, nodes };
-    bring_nodes(rt, alloc, gate, &work, pass, plan)
+    let is_first = memo.read(rt, alloc, pass, 0, 1)?.is_empty();
+    let publisher = Publisher { rt, gate, is_first };
+    bring_nodes(&publisher, alloc, &work, pass, plan)
 }

@@ -1,13 +1,15 @@
-use Rattle.std.proofs.Common.{length, arith}
-use Rattle.cts_topo.proofs.Counts.{length-shape}
-use Rattle.cts_embed.proofs.Stands.{sinks_in_range}
-use Rattle.cts_top.proofs.Remembering.{kept_answered, kept_memo}
+use Rattle.cts_top.specs.Synthesised.{medians}
+use Rattle.cts_top.specs.Text.{told_by}
+use Rattle.cts_top.proofs.Remembering.{kept_answered}
 use Rattle.cts_top.proofs.by_workers.answer_planned.Goals as goal
 
-pub make_room-requires-clause-few : goal.make_room-requires-clause-few
-make_room-requires-clause-few g c =
-    omega (
-      arith,
-      length-shape (length c.args.instance.now.sinks) c.args.shape.now c.requires.shape,
-      (sinks_in_range c.args.instance.now c.instance_is_valid.ensures).few,
-    )
+pub answer_synthesis_by-answer-requires-clause-printable : goal.answer_synthesis_by-answer-requires-clause-printable
+answer_synthesis_by-answer-requires-clause-printable g c = λ κs ls. c.finish_and_publish-synthesis.ensures.synthesised.printable
+
+pub returns-in-Ok-clause-answers : goal.returns-in-Ok-clause-answers
+returns-in-Ok-clause-answers g c = c.answer_synthesis_by-answer.ensures.answers medians c.finish_and_publish-synthesis.ensures.synthesised
+
+pub returns-in-Ok-clause-kept : goal.returns-in-Ok-clause-kept
+returns-in-Ok-clause-kept g c =
+    kept_answered (told_by c.args.telling) c.args.planned.instance.now _ _ _ _ c.answer_synthesis_by-answer.result c.kept-memo.result
+    (c.answer_synthesis_by-answer.ensures.answers medians c.finish_and_publish-synthesis.ensures.synthesised) c.kept-memo.ensures.kept

@@ -6,14 +6,14 @@ use Rattle.cts_top.proofs.Remembering.{has_log}
 use Rattle.cts_top.proofs.Running.{answers_form, answers_none}
 use Rattle.cts_top.proofs.calls.answer.Goals as goal
 
-pub serve_by_threads-requires-clause-within : goal.serve_by_threads-requires-clause-within
-serve_by_threads-requires-clause-within g c = λ κs ls. asked_within _ c.in-Some.form ((c.form_of.ensures c.in-Some.form).0 c.in-Some.is)
+pub serve-requires-clause-within : goal.serve-requires-clause-within
+serve-requires-clause-within g c = λ κs ls. asked_within _ c.in-Some.form ((c.form_of.ensures c.in-Some.form).0 c.in-Some.is)
 
 pub returns-in-Some-clause-answers : goal.returns-in-Some-clause-answers
 returns-in-Some-clause-answers g c =
-    answers_form (IsForm c.args.words.now) _ _ _ c.in-Some.form c.serve_by_threads.result.0
+    answers_form (IsForm c.args.words.now) _ _ _ c.in-Some.form c.serve.result.0
     (subst (λ r. (form : Form) → (r ≡ Some form) ↔ IsForm c.args.words.now form) c.in-Some.is c.form_of.ensures)
-    c.serve_by_threads.ensures.serves c.serve_by_threads.ensures.words
+    c.serve.ensures.serves c.serve.ensures.words
 
 pub returns-in-None-clause-answers : goal.returns-in-None-clause-answers
 returns-in-None-clause-answers g c =
@@ -22,4 +22,4 @@ returns-in-None-clause-answers g c =
 
 pub returns-in-Some-clause-log : goal.returns-in-Some-clause-log
 returns-in-Some-clause-log g c =
-    has_log (IsForm c.args.words.now) c.in-Some.form _ _ ((c.form_of.ensures c.in-Some.form).0 c.in-Some.is) c.serve_by_threads.ensures.log
+    has_log (IsForm c.args.words.now) c.in-Some.form _ _ ((c.form_of.ensures c.in-Some.form).0 c.in-Some.is) c.serve.ensures.log

@@ -1,7 +1,7 @@
-use Rattle.std.proofs.Common.{◌≡◌, IsSome, ℕ, ◌+◌, ◌-◌, ◌<◌, ◌∷◌, ◌++◌, [], length, slice_get, Some, true, refl, sym, ap, subst, ◌∙◌, arith, length-append}
+use Rattle.std.proofs.Common.{IsSome, ◌+◌, ◌<◌, ◌∷◌, [], length, slice_get, sym, ap, subst, ◌∙◌, arith, length-append}
 use Rattle.std.proofs.lemmas.Option.{slice_get_within}
 use Rattle.cts_turn.specs.Passes.{seen_by}
-use Rattle.cts_work.specs.Work.{AreBuilt, missing_from}
+use Rattle.cts_work.specs.Work.{AreBuilt}
 use Rattle.cts_work.specs.Known.{IsAtPlace, StandAt, picked, sites_of}
 use Rattle.cts_work.specs.Last.{AreFound, AreKeyed, IsKeyAt}
 use Rattle.cts_work.proofs.Picked.{length-picked}

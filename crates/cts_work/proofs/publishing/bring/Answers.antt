@@ -23,6 +23,10 @@ returns-in-Have-clause-kept g c =
 pub returns-in-Have-clause-pass : goal.returns-in-Have-clause-pass
 returns-in-Have-clause-pass g c = c.answer_for.ensures.pass
 
-pub returns-in-Absent-clause-pass : goal.returns-in-Absent-clause-pass
-returns-in-Absent-clause-pass g c =
+pub returns-in_ok-number-in-Absent-clause-pass : goal.returns-in_ok-number-in-Absent-clause-pass
+returns-in_ok-number-in-Absent-clause-pass g c =
+    goes_further c.args.memo.now c.args.pass.now c.answer_for.new.pass c.keep.new.pass c.answer_for.ensures.pass c.keep.ensures.pass
+
+pub returns-in_err-number-in-Absent-clause-pass : goal.returns-in_err-number-in-Absent-clause-pass
+returns-in_err-number-in-Absent-clause-pass g c =
     goes_further c.args.memo.now c.args.pass.now c.answer_for.new.pass c.keep.new.pass c.answer_for.ensures.pass c.keep.ensures.pass

@@ -16,5 +16,5 @@ bring-requires-clause-finished g c = λ κs within.
 
 pub returns-clause-kept : goal.returns-clause-kept
 returns-clause-kept g c =
-    IfOk-weaker c.bring.result _ _ (λ n kept. subst (λ k. IsKept (seen_by c.bring.new.pass) k c.args.finished.now n) (c.of_leaf-key.ensures c.args.sink.now c.requires.leaf) kept)
+    IfOk-weaker c.bring.result _ _ (λ b kept. subst (λ k. IsKept (seen_by c.bring.new.pass) k c.args.finished.now b.number) (c.of_leaf-key.ensures c.args.sink.now c.requires.leaf) kept)
     c.bring.ensures.kept

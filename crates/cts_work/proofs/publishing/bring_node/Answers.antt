@@ -1,4 +1,5 @@
 use Rattle.std.proofs.Common.{length, sym, subst, arith}
+use Rattle.std.proofs.lemmas.Result.{IfOk-weaker}
 use Rattle.cts_turn.specs.Passes.{seen_by}
 use Rattle.cts_memo.specs.Passes.{params_of}
 use Rattle.cts_topo.proofs.Counts.{leaf_within}
@@ -64,12 +65,14 @@ bring_pair-requires-clause-right g c = λ κs within.
     (starts_first c.args.work.now.nodes.now (length c.args.work.now.sinks.now) c.requires.ready.shape c.args.node c.requires.node) in
     c.requires.before.each c.in-Pair.right _ (omega (arith, c.requires.long, w.3))
 
-pub returns-in_ok-number-in-Leaf-clause-number : goal.returns-in_ok-number-in-Leaf-clause-number
-returns-in_ok-number-in-Leaf-clause-number g c =
+pub returns-in-Leaf-clause-number : goal.returns-in-Leaf-clause-number
+returns-in-Leaf-clause-number g c =
     let sinks = c.args.work.now.sinks.now in
     let pass = c.bring_leaf.ensures.pass in
     let within = leaf_within (length sinks) c.args.work.now.nodes.now c.requires.ready.shape c.args.node _ c.in-Leaf.sink c.requires.node (c.in-Leaf.is) in
-    subst (λ t. HasNumber (seen_by c.bring_leaf.new.pass) sinks t c.in_ok-number-in-Leaf.number)
+    IfOk-weaker c.bring_leaf.result _ _
+    (λ b kept. subst (λ t. HasNumber (seen_by c.bring_leaf.new.pass) sinks t b.number)
     (sym (tip_at c.args.work.now.nodes.now c.args.node c.requires.node _ c.in-Leaf.sink c.in-Leaf.is))
     (leaf_number (params_of c.args.work.now.memo.now) (seen_by c.bring_leaf.new.pass) sinks c.in-Leaf.sink _ c.args.finished.now
-    c.in_ok-number-in-Leaf.number within (sound_for c.args.work.now.memo.now c.bring_leaf.new.pass pass.own) c.in_ok-number-in-Leaf.ensures.kept)
+    b.number within (sound_for c.args.work.now.memo.now c.bring_leaf.new.pass pass.own) kept))
+    c.bring_leaf.ensures.kept

@@ -8,7 +8,6 @@ use Rattle.cts_work.specs.Work.{AreMade}
 use Rattle.cts_work.proofs.Plans.{length-joined-upto, part_made, part_within}
 use Rattle.cts_work.proofs.Nodes.{goes_further, stands_still}
 use Rattle.cts_work.proofs.Numbered.{none_numbered, numbered_known}
-use Rattle.cts_work.proofs.Told.{none_told}
 use Rattle.cts_work.proofs.publishing.bring_nodes.Goals as goal
 
 pub loop-number-init : goal.loop-number-init
@@ -17,7 +16,6 @@ loop-number-init g c =
       pass = stands_still c.args.work.now.memo.now c.args.pass.now c.requires.own;
       long = omega (arith, ap length c.in_ok-before.ensures.items);
       before = none_numbered c.args.work.now.sinks.now c.args.work.now.nodes.now (seen_by c.args.pass.now) c.in_ok-before.before.items c.in_ok-before.ensures.items;
-      told = none_told (seen_by c.args.pass.now) c.in_ok-told.told.items c.in_ok-told.ensures.items;
     }
 
 pub bring_part-requires-clause-within : goal.bring_part-requires-clause-within
@@ -66,27 +64,22 @@ loop-number-preserved g c =
     let k = c.loop-number.number in
     let e : PlanPart = c.index-part.result.now in
     let h : k < length parts = omega (arith, c.loop-number-test.true, c.len-number-end.ensures) in
-    let more = c.in_ok-told-2.ensures in
     record {
       pass = goes_further c.args.work.now.memo.now c.args.pass.now c.loop-number.pass c.bring_part.new.pass c.loop-number.invariant.pass c.bring_part.ensures.pass;
       long = omega (
         arith,
-        more.long,
+        c.in_ok-bring_part.ensures.long,
         c.loop-number.invariant.long,
         ap length c.deref.ensures.value,
         ap (λ (p : PlanPart). length p.nodes.items) c.index-part.ensures,
         length-joined-upto parts k e h,
       );
-      before = more.before;
-      told = more.told;
+      before = c.in_ok-bring_part.ensures.before;
     }
 
 pub returns-in_err-before-clause-pass : goal.returns-in_err-before-clause-pass
 returns-in_err-before-clause-pass g c = stands_still c.args.work.now.memo.now c.args.pass.now c.requires.own
 
-pub returns-in_err-told-clause-pass : goal.returns-in_err-told-clause-pass
-returns-in_err-told-clause-pass g c = stands_still c.args.work.now.memo.now c.args.pass.now c.requires.own
-
-pub returns-in_err-told-2-clause-pass : goal.returns-in_err-told-2-clause-pass
-returns-in_err-told-2-clause-pass g c =
+pub returns-in_err-bring_part-clause-pass : goal.returns-in_err-bring_part-clause-pass
+returns-in_err-bring_part-clause-pass g c =
     goes_further c.args.work.now.memo.now c.args.pass.now c.loop-number.pass c.bring_part.new.pass c.loop-number.invariant.pass c.bring_part.ensures.pass

@@ -3,7 +3,6 @@ use Rattle.cts_turn.specs.Passes.{seen_by}
 use Rattle.cts_work.specs.Built.{GoesOn}
 use Rattle.cts_work.specs.Numbered.{AreNumbered}
 use Rattle.cts_work.specs.Plans.{joined}
-use Rattle.cts_work.specs.Told.{MayTell}
 use Rattle.cts_work.proofs.publishing.bring_nodes.Given as goal
 
 abbrev pub invariant-loop-number : goal.invariant-loop-number
@@ -12,5 +11,4 @@ invariant-loop-number g l =
       pass : GoesOn l.work.memo.now l.fn.pass l.pass;
       long : length l.before.items ≡ length (joined (take l.number l.plan.parts.items));
       before : AreNumbered (seen_by l.pass) l.work.sinks.now l.work.nodes.now l.before.items;
-      told : MayTell (seen_by l.pass) l.told.items;
     }

@@ -22,16 +22,16 @@ bring-requires-clause-finished g c = λ κs within.
     c.args.finished.now
     (subst (λ t. IsFinished (params_of c.args.work.now.memo.now) c.args.work.now.sinks.now t c.args.finished.now) c.requires.here c.requires.made)
 
-pub returns-in-Some-clause-number : goal.returns-in-Some-clause-number
-returns-in-Some-clause-number g c =
+pub returns-after-left-clause-number : goal.returns-after-left-clause-number
+returns-after-left-clause-number g c =
     let sinks = c.args.work.now.sinks.now in
     let pass = c.bring.ensures.pass in
     let a = number_kept (seen_by c.args.pass.now) (seen_by c.bring.new.pass) sinks _ c.args.left.number pass.goes_on pass.own.short c.requires.left in
     let b = number_kept (seen_by c.args.pass.now) (seen_by c.bring.new.pass) sinks _ c.args.right.number pass.goes_on pass.own.short c.requires.right in
     IfOk-weaker c.bring.result _ _
-    (λ n kept. subst (λ t. HasNumber (seen_by c.bring.new.pass) sinks t n) (sym c.requires.here)
+    (λ m kept. subst (λ t. HasNumber (seen_by c.bring.new.pass) sinks t m.number) (sym c.requires.here)
     (pair_number_kept (params_of c.args.work.now.memo.now) (seen_by c.bring.new.pass) sinks _ _ (Pair c.args.at.left c.args.at.right)
-    c.args.left.number c.args.right.number a b c.in-Some.key (sym c.in-Some.ensures) c.args.finished.now n
+    c.args.left.number c.args.right.number a b c.in-Some.key (sym c.in-Some.ensures) c.args.finished.now m.number
     (sound_for c.args.work.now.memo.now c.bring.new.pass pass.own) kept))
     c.bring.ensures.kept
 

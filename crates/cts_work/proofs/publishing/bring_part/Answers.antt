@@ -1,12 +1,10 @@
-use Rattle.std.proofs.Common.{◌≡◌, ◌+◌, ◌-◌, ◌∷◌, [], length, get_or, sym, ap, subst, arith, length-append}
+use Rattle.std.proofs.Common.{◌≡◌, ◌+◌, ◌∷◌, [], length, get_or, sym, ap, subst, arith, length-append}
 use Rattle.cts_topo.proofs.Counts.{length-shape}
 use Rattle.cts_turn.specs.Passes.{seen_by}
 use Rattle.cts_work.specs.Numbered.{AreNumbered}
-use Rattle.cts_work.specs.Told.{MayTell}
-use Rattle.cts_work.specs.Work.{AreMade, IsMadeAt}
+use Rattle.cts_work.specs.Work.{IsMadeAt}
 use Rattle.cts_work.proofs.Nodes.{goes_further, stands_still}
-use Rattle.cts_work.proofs.Numbered.{numbered_longer, numbered_push}
-use Rattle.cts_work.proofs.Told.{told_at, told_longer}
+use Rattle.cts_work.proofs.Numbered.{numbered_push}
 use Rattle.cts_work.proofs.publishing.bring_part.Goals as goal
 
 pub loop-place-init : goal.loop-place-init
@@ -16,7 +14,6 @@ loop-place-init g c =
       pass = stands_still c.args.work.now.memo.now c.args.pass.now c.requires.own;
       long = omega arith;
       before = c.requires.before;
-      told = c.requires.told;
     }
 
 pub overflow_cast-first : goal.overflow_cast-first
@@ -30,71 +27,20 @@ overflow_cast-first g c =
       c.requires.ready.sinks.few,
     )
 
-pub bring_node-requires-clause-before : goal.bring_node-requires-clause-before
-bring_node-requires-clause-before g c κs within =
-    let asked = c.stretch_told.ensures.pass in
-    subst (AreNumbered (seen_by c.stretch_told.new.pass) c.args.work.now.sinks.now c.args.work.now.nodes.now) (sym c.as_slice-in-loop-place.ensures.value)
-    (numbered_longer c.args.work.now.sinks.now c.args.work.now.nodes.now (seen_by c.loop-place.pass) (seen_by c.stretch_told.new.pass)
-    c.loop-place.before.items asked.goes_on asked.own.short c.loop-place.invariant.before)
-
-pub loop-place-preserved : goal.loop-place-preserved
-loop-place-preserved g c =
-    let memo = c.args.work.now.memo.now in
-    let sinks = c.args.work.now.sinks.now in
-    let nodes = c.args.work.now.nodes.now in
-    let asked = c.stretch_told.ensures.pass in
-    let step = c.bring_node.ensures.pass in
-    let items = c.in_ok-push.ensures.items in
-    record {
-      upto = omega (arith, c.loop-place-test.true);
-      pass = goes_further memo c.args.pass.now c.stretch_told.new.pass c.bring_node.new.pass
-          (goes_further memo c.args.pass.now c.loop-place.pass c.stretch_told.new.pass c.loop-place.invariant.pass asked) step;
-      long = omega (arith, ap length items, length-append c.loop-place.before.items (c.in_ok-next.next ∷ []), c.loop-place.invariant.long);
-      before = subst (AreNumbered (seen_by c.bring_node.new.pass) sinks nodes) (sym items)
-          (numbered_push sinks nodes (seen_by c.stretch_told.new.pass) (seen_by c.bring_node.new.pass) (c.len-first.result + c.loop-place.place)
-          c.loop-place.before.items c.in_ok-next.next step.goes_on step.own.short
-          (numbered_longer sinks nodes (seen_by c.loop-place.pass) (seen_by c.stretch_told.new.pass)
-          c.loop-place.before.items asked.goes_on asked.own.short c.loop-place.invariant.before)
-          (omega (arith, c.loop-place.invariant.long, c.len-first.ensures)) c.in_ok-next.ensures.number);
-      told = told_longer (seen_by c.stretch_told.new.pass) (seen_by c.bring_node.new.pass) step.goes_on c.in_ok-told.told.items c.in_ok-told.ensures.told;
-    }
-
-pub stretch_told-requires-clause-own : goal.stretch_told-requires-clause-own
-stretch_told-requires-clause-own g c = c.loop-place.invariant.pass.own
-
-pub stretch_told-requires-clause-place : goal.stretch_told-requires-clause-place
-stretch_told-requires-clause-place g c = omega (arith, c.loop-place.invariant.upto)
-
-pub stretch_told-requires-clause-within : goal.stretch_told-requires-clause-within
-stretch_told-requires-clause-within g c =
-    omega (arith, c.loop-place.invariant.long, ap length c.as_slice.ensures.value, c.loop-place-test.true, c.requires.within)
-
-pub stretch_told-requires-clause-first : goal.stretch_told-requires-clause-first
-stretch_told-requires-clause-first g c = omega (arith, c.loop-place.invariant.long, ap length c.as_slice.ensures.value)
-
-pub stretch_told-requires-clause-made : goal.stretch_told-requires-clause-made
-stretch_told-requires-clause-made g c =
-    let same : length c.args.before.now.items ≡ length c.as_slice.result.now - c.loop-place.place =
-    omega (arith, c.loop-place.invariant.long, ap length c.as_slice.ensures.value) in
-    subst (λ n. AreMade c.args.work.now n c.args.part.now) same c.requires.made
-
-pub stretch_told-requires-clause-told : goal.stretch_told-requires-clause-told
-stretch_told-requires-clause-told g c = c.loop-place.invariant.told
-
 pub bring_node-requires-clause-own : goal.bring_node-requires-clause-own
-bring_node-requires-clause-own g c κs within = c.stretch_told.ensures.pass.own
+bring_node-requires-clause-own g c κs within = c.loop-place.invariant.pass.own
 
 pub bring_node-requires-clause-node : goal.bring_node-requires-clause-node
 bring_node-requires-clause-node g c κs within = omega (arith, c.loop-place-test.true, c.requires.within, c.len-first.ensures)
 
 pub bring_node-requires-clause-long : goal.bring_node-requires-clause-long
 bring_node-requires-clause-long g c κs within =
-    omega (arith, c.loop-place.invariant.long, ap length c.as_slice-in-loop-place.ensures.value, c.len-first.ensures)
+    omega (arith, c.loop-place.invariant.long, ap length c.as_slice.ensures.value, c.len-first.ensures)
 
-pub bring_node-requires-clause-told : goal.bring_node-requires-clause-told
-bring_node-requires-clause-told g c κs within =
-    told_at (seen_by c.stretch_told.new.pass) c.deref.result.now _ c.get.result (c.get.ensures.lookup.3)
-    (subst (MayTell (seen_by c.stretch_told.new.pass)) (sym c.deref.ensures.value) c.in_ok-told.ensures.told)
+pub bring_node-requires-clause-before : goal.bring_node-requires-clause-before
+bring_node-requires-clause-before g c κs within =
+    subst (AreNumbered (seen_by c.loop-place.pass) c.args.work.now.sinks.now c.args.work.now.nodes.now) (sym c.as_slice.ensures.value)
+    c.loop-place.invariant.before
 
 pub bring_node-requires-clause-made : goal.bring_node-requires-clause-made
 bring_node-requires-clause-made g c κs within =
@@ -105,6 +51,23 @@ bring_node-requires-clause-made g c κs within =
     (subst (λ n. IsMadeAt c.args.work.now (n + place) (get_or c.args.part.now place made)) first
     (c.requires.made.each place made c.loop-place-test.true))
 
+pub loop-place-preserved : goal.loop-place-preserved
+loop-place-preserved g c =
+    let memo = c.args.work.now.memo.now in
+    let sinks = c.args.work.now.sinks.now in
+    let nodes = c.args.work.now.nodes.now in
+    let step = c.bring_node.ensures.pass in
+    let items = c.in_ok-push.ensures.items in
+    record {
+      upto = omega (arith, c.loop-place-test.true);
+      pass = goes_further memo c.args.pass.now c.loop-place.pass c.bring_node.new.pass c.loop-place.invariant.pass step;
+      long = omega (arith, ap length items, length-append c.loop-place.before.items (c.in_ok-next.next ∷ []), c.loop-place.invariant.long);
+      before = subst (AreNumbered (seen_by c.bring_node.new.pass) sinks nodes) (sym items)
+          (numbered_push sinks nodes (seen_by c.loop-place.pass) (seen_by c.bring_node.new.pass) (c.len-first.result + c.loop-place.place)
+          c.loop-place.before.items c.in_ok-next.next step.goes_on step.own.short c.loop-place.invariant.before
+          (omega (arith, c.loop-place.invariant.long, c.len-first.ensures)) c.in_ok-next.ensures.number);
+    }
+
 pub returns-clause-pass : goal.returns-clause-pass
 returns-clause-pass g c = c.loop-place.invariant.pass
 
@@ -114,23 +77,10 @@ returns-clause-long g c = omega (arith, c.loop-place.invariant.long, c.loop-plac
 pub returns-clause-before : goal.returns-clause-before
 returns-clause-before g c = c.loop-place.invariant.before
 
-pub returns-clause-told : goal.returns-clause-told
-returns-clause-told g c = c.loop-place.invariant.told
-
-pub returns-in_err-told-clause-pass : goal.returns-in_err-told-clause-pass
-returns-in_err-told-clause-pass g c =
-    goes_further c.args.work.now.memo.now c.args.pass.now c.loop-place.pass c.stretch_told.new.pass c.loop-place.invariant.pass c.stretch_told.ensures.pass
-
 pub returns-in_err-next-clause-pass : goal.returns-in_err-next-clause-pass
 returns-in_err-next-clause-pass g c =
-    let memo = c.args.work.now.memo.now in
-    goes_further memo c.args.pass.now c.stretch_told.new.pass c.bring_node.new.pass
-    (goes_further memo c.args.pass.now c.loop-place.pass c.stretch_told.new.pass c.loop-place.invariant.pass c.stretch_told.ensures.pass)
-    c.bring_node.ensures.pass
+    goes_further c.args.work.now.memo.now c.args.pass.now c.loop-place.pass c.bring_node.new.pass c.loop-place.invariant.pass c.bring_node.ensures.pass
 
 pub returns-in_err-push-clause-pass : goal.returns-in_err-push-clause-pass
 returns-in_err-push-clause-pass g c =
-    let memo = c.args.work.now.memo.now in
-    goes_further memo c.args.pass.now c.stretch_told.new.pass c.bring_node.new.pass
-    (goes_further memo c.args.pass.now c.loop-place.pass c.stretch_told.new.pass c.loop-place.invariant.pass c.stretch_told.ensures.pass)
-    c.bring_node.ensures.pass
+    goes_further c.args.work.now.memo.now c.args.pass.now c.loop-place.pass c.bring_node.new.pass c.loop-place.invariant.pass c.bring_node.ensures.pass

@@ -2,7 +2,6 @@ use Rattle.std.proofs.Common.{◌≡◌, ◌+◌, ◌≤◌, length}
 use Rattle.cts_turn.specs.Passes.{seen_by}
 use Rattle.cts_work.specs.Built.{GoesOn}
 use Rattle.cts_work.specs.Numbered.{AreNumbered}
-use Rattle.cts_work.specs.Told.{MayTell}
 use Rattle.cts_work.proofs.publishing.bring_part.Given as goal
 
 abbrev pub invariant-loop-place : goal.invariant-loop-place
@@ -12,5 +11,4 @@ invariant-loop-place g l =
       pass : GoesOn l.work.memo.now l.fn.pass l.pass;
       long : length l.before.items ≡ length l.fn.before.items + l.place;
       before : AreNumbered (seen_by l.pass) l.work.sinks.now l.work.nodes.now l.before.items;
-      told : MayTell (seen_by l.pass) l.told.items;
     }

@@ -8,7 +8,6 @@ use Rattle.cts_work.specs.Work.{IsReady, missing_from}
 use Rattle.cts_memo.specs.declared.entry.MemoEntry.{MemoEntry}
 use Rattle.cts_work.specs.Last.{AreKeyed, AreSameLeaves}
 use Rattle.cts_work.specs.Known.{picked}
-use Rattle.cts_work.proofs.Nodes.{stands_still}
 use Rattle.cts_work.proofs.Picked.{length-picked}
 use Rattle.cts_work.proofs.Parts.{whole_part, ends_in_all, merges_in_all, plan_made, all_known}
 use Rattle.cts_work.proofs.upward.build_over.Goals as goal

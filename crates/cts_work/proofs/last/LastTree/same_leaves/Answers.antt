@@ -1,7 +1,5 @@
-use Rattle.std.proofs.Common.{◌+◌, take, refl, sym, subst, arith}
-use Rattle.std.proofs.lemmas.List.{take_all}
-use Rattle.cts_work.specs.Last.{AreSameLeaves}
-use Rattle.cts_work.proofs.Taken.{leaves_push, no_leaves}
+use Rattle.std.proofs.Common.{take, refl}
+use Rattle.cts_work.proofs.Taken.{no_leaves}
 use Rattle.cts_work.proofs.last.LastTree.same_leaves.Goals as goal
 
 pub loop-sink-init : goal.loop-sink-init
